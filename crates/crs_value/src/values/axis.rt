@@ -20,6 +20,7 @@ use std::marker::Model;
 
 /// An axis, `AXIS[name, direction, (meridian), (order), (unit), id..]`.
 /// ISO 19162:2019, "Axis".
+#[derive(Drop)]
 pub struct Axis<'a> {
     /// The name and abbreviation, unsplit.
     pub name: &'a [u8],
@@ -53,21 +54,9 @@ impl<'a> Model for Axis<'a> {
     ghost invariant = { λ a. IsAxis (view a) };
 }
 
-impl Drop for Axis<'_> {
-    fn drop(self) {
-        let Axis {
-            name: _,
-            direction: _,
-            meridian: _,
-            order: _,
-            unit: _,
-            identifiers: _,
-        } = self;
-    }
-}
-
 /// The meridian of an axis at a pole, `MERIDIAN[longitude, unit]`.
 /// ISO 19162:2019, "Axis direction".
+#[derive(Drop)]
 pub struct AxisMeridian<'a> {
     /// The longitude, in the unit.
     pub longitude: Decimal,
@@ -84,15 +73,6 @@ impl<'a> Model for AxisMeridian<'a> {
     ghost view = { λ m. record { longitude = m.longitude; unit = m.unit } };
 
     ghost invariant = { λ m. IsAxisMeridian (view m) };
-}
-
-impl Drop for AxisMeridian<'_> {
-    fn drop(self) {
-        let AxisMeridian {
-            longitude: _,
-            unit: _,
-        } = self;
-    }
 }
 
 impl<'a> Node<'a> for AxisMeridian<'a> {

@@ -27,8 +27,7 @@ pub enum Horizontal<'a> {
 impl Drop for Horizontal<'_> {
     fn drop(self) {
         match self {
-            Horizontal::Geodetic(_) => {}
-            Horizontal::Projected(_) => {}
+            Horizontal::Geodetic(_) | Horizontal::Projected(_) => {}
         }
     }
 }

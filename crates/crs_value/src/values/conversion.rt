@@ -20,6 +20,7 @@ use std::marker::Model;
 
 /// A conversion, `CONVERSION[name, method, parameter.., id..]`: how projected coordinates come from
 /// those of the base CRS. ISO 19162:2019, "Map projection conversion".
+#[derive(Drop)]
 pub struct Conversion<'a> {
     /// The name.
     pub name: &'a [u8],
@@ -42,19 +43,9 @@ impl<'a> Model for Conversion<'a> {
     ghost invariant = { λ c. IsConversion (view c) };
 }
 
-impl Drop for Conversion<'_> {
-    fn drop(self) {
-        let Conversion {
-            name: _,
-            method: _,
-            parameters: _,
-            identifiers: _,
-        } = self;
-    }
-}
-
 /// The method of a conversion, `METHOD[name, id..]`.
 /// ISO 19162:2019, "Map projection method".
+#[derive(Drop)]
 pub struct Method<'a> {
     /// The name.
     pub name: &'a [u8],
@@ -73,17 +64,9 @@ impl<'a> Model for Method<'a> {
     ghost invariant = { λ m. IsNamed (view m) };
 }
 
-impl Drop for Method<'_> {
-    fn drop(self) {
-        let Method {
-            name: _,
-            identifiers: _,
-        } = self;
-    }
-}
-
 /// A parameter of a conversion, `PARAMETER[name, value, (unit), id..]`.
 /// ISO 19162:2019, "Map projection parameter".
+#[derive(Drop)]
 pub struct Parameter<'a> {
     /// The name.
     pub name: &'a [u8],
@@ -104,17 +87,6 @@ impl<'a> Model for Parameter<'a> {
     ghost view = { λ p. record { name = p.name.now; value = p.value; unit = p.unit; identifiers = p.identifiers } };
 
     ghost invariant = { λ p. IsParameter (view p) };
-}
-
-impl Drop for Parameter<'_> {
-    fn drop(self) {
-        let Parameter {
-            name: _,
-            value: _,
-            unit: _,
-            identifiers: _,
-        } = self;
-    }
 }
 
 const PARAMETER_UNITS: [Class; 4] = [

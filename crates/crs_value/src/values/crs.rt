@@ -23,10 +23,7 @@ pub enum Crs<'a> {
 impl Drop for Crs<'_> {
     fn drop(self) {
         match self {
-            Crs::Geodetic(_) => {}
-            Crs::Projected(_) => {}
-            Crs::Vertical(_) => {}
-            Crs::Compound(_) => {}
+            Crs::Geodetic(_) | Crs::Projected(_) | Crs::Vertical(_) | Crs::Compound(_) => {}
         }
     }
 }

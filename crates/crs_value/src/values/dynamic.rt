@@ -12,6 +12,7 @@ use std::alloc::{AllocError, Global};
 use std::marker::Model;
 
 /// What a dynamic frame says, `DYNAMIC[epoch, (model)]`. ISO 19162:2019, "Dynamic coordinate reference systems".
+#[derive(Drop)]
 pub struct Dynamic<'a> {
     /// The frame's epoch, in years: when the coordinates of its points hold.
     pub epoch: Decimal,
@@ -30,13 +31,8 @@ impl<'a> Model for Dynamic<'a> {
     ghost invariant = { λ d. IsDynamic (view d) };
 }
 
-impl Drop for Dynamic<'_> {
-    fn drop(self) {
-        let Dynamic { epoch: _, model: _ } = self;
-    }
-}
-
 /// A deformation model, `MODEL[name, id..]`, or a velocity grid. ISO 19162:2019, "Deformation model".
+#[derive(Drop)]
 pub struct DeformationModel<'a> {
     /// The name.
     pub name: &'a [u8],
@@ -53,15 +49,6 @@ impl<'a> Model for DeformationModel<'a> {
     ghost view = { λ m. record { name = m.name.now; identifiers = m.identifiers } };
 
     ghost invariant = { λ m. IsNamed (view m) };
-}
-
-impl Drop for DeformationModel<'_> {
-    fn drop(self) {
-        let DeformationModel {
-            name: _,
-            identifiers: _,
-        } = self;
-    }
 }
 
 impl<'a> Node<'a> for Dynamic<'a> {

@@ -12,6 +12,7 @@ use std::marker::Model;
 
 /// An ellipsoid, `ELLIPSOID[name, semi-major axis, inverse flattening, (unit), id..]`.
 /// ISO 19162:2019, "Ellipsoid".
+#[derive(Drop)]
 pub struct Ellipsoid<'a> {
     /// The name.
     pub name: &'a [u8],
@@ -40,18 +41,6 @@ impl<'a> Model for Ellipsoid<'a> {
     } };
 
     ghost invariant = { λ e. IsEllipsoid (view e) };
-}
-
-impl Drop for Ellipsoid<'_> {
-    fn drop(self) {
-        let Ellipsoid {
-            name: _,
-            semi_major_axis: _,
-            inverse_flattening: _,
-            unit: _,
-            identifiers: _,
-        } = self;
-    }
 }
 
 impl<'a> Node<'a> for Ellipsoid<'a> {

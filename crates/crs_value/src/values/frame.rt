@@ -28,8 +28,7 @@ pub enum Frame<'a> {
 impl Drop for Frame<'_> {
     fn drop(self) {
         match self {
-            Frame::Datum(_) => {}
-            Frame::Ensemble(_) => {}
+            Frame::Datum(_) | Frame::Ensemble(_) => {}
         }
     }
 }
@@ -57,6 +56,7 @@ impl<'a> Frame<'a> {
 
 /// A geodetic reference frame, `DATUM[name, ellipsoid, (anchor), (anchor epoch), id..]`, or a vertical one, which has
 /// no ellipsoid. ISO 19162:2019, "Datum"; the anchor's epoch: profile.
+#[derive(Drop)]
 pub struct Datum<'a> {
     /// The name.
     pub name: &'a [u8],
@@ -88,18 +88,6 @@ impl<'a> Model for Datum<'a> {
     ghost invariant = { λ d. IsDatum (view d) };
 }
 
-impl Drop for Datum<'_> {
-    fn drop(self) {
-        let Datum {
-            name: _,
-            ellipsoid: _,
-            anchor: _,
-            anchor_epoch: _,
-            identifiers: _,
-        } = self;
-    }
-}
-
 impl Datum<'_> {
     // A reference frame that says nothing. It takes no memory.
     fn nameless(alloc: Global) -> Datum<'static> {
@@ -115,6 +103,7 @@ impl Datum<'_> {
 
 /// A datum ensemble, `ENSEMBLE[name, member.., ellipsoid, accuracy, id..]`; one of vertical frames has
 /// no ellipsoid. ISO 19162:2019, "Datum ensemble".
+#[derive(Drop)]
 pub struct Ensemble<'a> {
     /// The name.
     pub name: &'a [u8],
@@ -145,18 +134,6 @@ impl<'a> Model for Ensemble<'a> {
     ghost invariant = { λ e. IsEnsemble (view e) };
 }
 
-impl Drop for Ensemble<'_> {
-    fn drop(self) {
-        let Ensemble {
-            name: _,
-            members: _,
-            ellipsoid: _,
-            accuracy: _,
-            identifiers: _,
-        } = self;
-    }
-}
-
 impl<'a> Ensemble<'a> {
     /// The reference frame of the ensemble's name, its ellipsoid and its identifiers. Profile.
     pub fn into_frame(self) -> Datum<'a>
@@ -180,6 +157,7 @@ impl<'a> Ensemble<'a> {
 }
 
 /// A member of a datum ensemble, `MEMBER[name, id..]`. ISO 19162:2019, "Datum ensemble".
+#[derive(Drop)]
 pub struct Member<'a> {
     /// The name.
     pub name: &'a [u8],
@@ -196,15 +174,6 @@ impl<'a> Model for Member<'a> {
     ghost view = { λ m. record { name = m.name.now; identifiers = m.identifiers } };
 
     ghost invariant = { λ m. IsNamed (view m) };
-}
-
-impl Drop for Member<'_> {
-    fn drop(self) {
-        let Member {
-            name: _,
-            identifiers: _,
-        } = self;
-    }
 }
 
 impl<'a> Node<'a> for Datum<'a> {

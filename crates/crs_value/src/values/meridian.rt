@@ -12,6 +12,7 @@ use std::marker::Model;
 
 /// A prime meridian, `PRIMEM[name, longitude, (unit), id..]`.
 /// ISO 19162:2019, "Prime meridian".
+#[derive(Drop)]
 pub struct Meridian<'a> {
     /// The name.
     pub name: &'a [u8],
@@ -32,17 +33,6 @@ impl<'a> Model for Meridian<'a> {
     ghost view = { λ m. record { name = m.name.now; longitude = m.longitude; unit = m.unit; identifiers = m.identifiers } };
 
     ghost invariant = { λ m. IsMeridian (view m) };
-}
-
-impl Drop for Meridian<'_> {
-    fn drop(self) {
-        let Meridian {
-            name: _,
-            longitude: _,
-            unit: _,
-            identifiers: _,
-        } = self;
-    }
 }
 
 impl<'a> Node<'a> for Meridian<'a> {

@@ -14,6 +14,7 @@ use std::marker::Model;
 
 /// A unit, `LENGTHUNIT[name, factor, id..]` or with another keyword of a unit.
 /// ISO 19162:2019, "Units".
+#[derive(Drop)]
 pub struct Unit<'a> {
     /// The kind, as the keyword says it.
     pub kind: UnitKind,
@@ -34,17 +35,6 @@ impl<'a> Model for Unit<'a> {
     ghost view = { λ u. record { kind = u.kind; name = u.name.now; factor = u.factor; identifiers = u.identifiers } };
 
     ghost invariant = { λ u. IsUnit (view u) };
-}
-
-impl Drop for Unit<'_> {
-    fn drop(self) {
-        let Unit {
-            kind: _,
-            name: _,
-            factor: _,
-            identifiers: _,
-        } = self;
-    }
 }
 
 fn kind(node: &Cursor<'_, '_>) -> UnitKind

@@ -25,6 +25,7 @@ use std::marker::Model;
 
 /// A usage, `USAGE[(scope), (area), (box), (extent)]`, with one part at least; or the parts of one that are bare at a
 /// CRS's end, as in the 2015 edition. ISO 19162:2019, "Scope and extent".
+#[derive(Drop)]
 pub struct Usage<'a> {
     /// What the CRS is for.
     pub scope: Option<&'a [u8]>,
@@ -53,17 +54,6 @@ impl<'a> Model for Usage<'a> {
     ghost invariant = { λ u. IsUsage (view u) };
 }
 
-impl Drop for Usage<'_> {
-    fn drop(self) {
-        let Usage {
-            scope: _,
-            area: _,
-            bbox: _,
-            extent: _,
-        } = self;
-    }
-}
-
 /// A box, `BBOX[south, west, north, east]`, in degrees. ISO 19162:2019, "Geographic bounding box".
 #[derive(Drop)]
 pub struct BoundingBox {
@@ -90,6 +80,7 @@ impl Model for BoundingBox {
 
 /// An extent in height, `VERTICALEXTENT[minimum, maximum, (unit)]`.
 /// ISO 19162:2019, "Vertical extent".
+#[derive(Drop)]
 pub struct Extent<'a> {
     /// The lowest height, in the unit, in metres where none is written.
     pub minimum: Decimal,
@@ -110,18 +101,9 @@ impl<'a> Model for Extent<'a> {
     ghost invariant = { λ e. IsExtent (view e) };
 }
 
-impl Drop for Extent<'_> {
-    fn drop(self) {
-        let Extent {
-            minimum: _,
-            maximum: _,
-            unit: _,
-        } = self;
-    }
-}
-
 /// A CRS's end: usages, the bare parts of one, identifiers and a remark, in any order.
 /// ISO 19162:2019, "Scope, extent, identifier and remark"; the order is the profile's.
+#[derive(Drop)]
 pub struct Tail<'a> {
     /// The usages, as written.
     pub usages: List<Usage<'a>>,
@@ -143,17 +125,6 @@ impl<'a> Model for Tail<'a> {
     ghost view = { λ t. record { usages = t.usages; bare_parts = t.bare_parts; identifiers = t.identifiers; remark = option_copied t.remark } };
 
     ghost invariant = { λ t. IsTail (view t) };
-}
-
-impl Drop for Tail<'_> {
-    fn drop(self) {
-        let Tail {
-            usages: _,
-            bare_parts: _,
-            identifiers: _,
-            remark: _,
-        } = self;
-    }
 }
 
 impl<'a> Node<'a> for BoundingBox {

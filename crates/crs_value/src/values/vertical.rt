@@ -67,6 +67,7 @@ impl Drop for Vertical<'_> {
 }
 
 /// A geoid model, `GEOIDMODEL[name, id..]`. ISO 19162:2019, "Vertical CRS".
+#[derive(Drop)]
 pub struct GeoidModel<'a> {
     /// The name.
     pub name: &'a [u8],
@@ -83,15 +84,6 @@ impl<'a> Model for GeoidModel<'a> {
     ghost view = { λ g. record { name = g.name.now; identifiers = g.identifiers } };
 
     ghost invariant = { λ g. IsNamed (view g) };
-}
-
-impl Drop for GeoidModel<'_> {
-    fn drop(self) {
-        let GeoidModel {
-            name: _,
-            identifiers: _,
-        } = self;
-    }
 }
 
 impl<'a> Node<'a> for Vertical<'a> {
