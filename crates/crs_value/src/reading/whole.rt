@@ -37,14 +37,12 @@ fn geodetic<'a>(alloc: Global, node: &Cursor<'_, 'a>) -> Result<Crs<'a>, Fault>
 
 #[inline(never)]
 fn projected<'a>(alloc: Global, node: &Cursor<'_, 'a>) -> Result<Crs<'a>, Fault>
-    requires sound { IsSound Class.ProjectedCrs (item node.now) }
-    ensures { MatchResult result (λ value. ReadsCrs Class.ProjectedCrs (item node.now) value)
+    requires sound { IsSound node.now.class (item node.now) }
+    requires class { node.now.class ≡ Class.ProjectedCrs }
+    ensures { MatchResult result (λ value. ReadsCrs node.now.class (item node.now) value)
         (IsFaultOf node.now.items.now) }
 {
-    let items = node.items;
-    let id = node.id;
-    let class = Class::ProjectedCrs;
-    match Projected::read(alloc, &Cursor { items, id, class }) {
+    match Projected::read(alloc, node) {
         Ok(value) => Ok(Crs::Projected(value)),
         Err(error) => Err(Fault::Memory(error)),
     }
@@ -52,14 +50,12 @@ fn projected<'a>(alloc: Global, node: &Cursor<'_, 'a>) -> Result<Crs<'a>, Fault>
 
 #[inline(never)]
 fn vertical<'a>(alloc: Global, node: &Cursor<'_, 'a>) -> Result<Crs<'a>, Fault>
-    requires sound { IsSound Class.VerticalCrs (item node.now) }
-    ensures { MatchResult result (λ value. ReadsCrs Class.VerticalCrs (item node.now) value)
+    requires sound { IsSound node.now.class (item node.now) }
+    requires class { node.now.class ≡ Class.VerticalCrs }
+    ensures { MatchResult result (λ value. ReadsCrs node.now.class (item node.now) value)
         (IsFaultOf node.now.items.now) }
 {
-    let items = node.items;
-    let id = node.id;
-    let class = Class::VerticalCrs;
-    match Vertical::read(alloc, &Cursor { items, id, class }) {
+    match Vertical::read(alloc, node) {
         Ok(value) => Ok(Crs::Vertical(value)),
         Err(error) => Err(Fault::Memory(error)),
     }
@@ -67,14 +63,12 @@ fn vertical<'a>(alloc: Global, node: &Cursor<'_, 'a>) -> Result<Crs<'a>, Fault>
 
 #[inline(never)]
 fn compound<'a>(alloc: Global, node: &Cursor<'_, 'a>) -> Result<Crs<'a>, Fault>
-    requires sound { IsSound Class.CompoundCrs (item node.now) }
-    ensures { MatchResult result (λ value. ReadsCrs Class.CompoundCrs (item node.now) value)
+    requires sound { IsSound node.now.class (item node.now) }
+    requires class { node.now.class ≡ Class.CompoundCrs }
+    ensures { MatchResult result (λ value. ReadsCrs node.now.class (item node.now) value)
         (IsFaultOf node.now.items.now) }
 {
-    let items = node.items;
-    let id = node.id;
-    let class = Class::CompoundCrs;
-    match Compound::read(alloc, &Cursor { items, id, class }) {
+    match Compound::read(alloc, node) {
         Ok(value) => Ok(Crs::Compound(value)),
         Err(error) => Err(Fault::Memory(error)),
     }
