@@ -1,12 +1,9 @@
 //! What a text is by its first keyword, and keywords that aren't read.
 use crate::glance::{begins, ends, is_one_of, names, names_one_of};
-use crate::hint::{Form, Hint};
+use crate::hint::{Entry, Form, Hint};
 use crate::refused::NOT_HERE;
 use crate::sentence::{self, KEYWORD};
 use crs_shape::Class;
-
-// A keyword, and the sentence and the words that tell of its node.
-type Entry = (&'static [u8], &'static str, &'static [u8]);
 
 // The classes of CRS of WKT1.
 const OLD_CLASSES: [&[u8]; 8] = [

@@ -1,19 +1,18 @@
 //! What a text is by its front.
 use crate::class::by_class;
 use crate::glance::{begins, digit_count, is_one_of, keyword_at, rest, word_at};
-use crate::hint::{Form, Hint};
+use crate::hint::{Entry, Form, Hint, by_first_bytes};
 use crate::sentence;
 use crate::string::by_string;
-
-// The first bytes of a file that is no text, and the sentence and the words that tell of it.
-type Format = (&'static [u8], &'static str, &'static [u8]);
 
 /// What a text is by its front, which has no white space around it.
 pub(crate) fn by_front<'a>(text: &'a [u8], front: &'a [u8]) -> Option<Hint<'a>> {
     if front.is_empty() {
         return Some(Hint::of(sentence::EMPTY));
     }
-    let by_bytes = by_first_bytes(text).or(by_utf16(text)).or(by_mark(front));
+    let by_bytes = by_first_bytes(text, &FORMATS)
+        .or(by_utf16(text))
+        .or(by_first_bytes(front, &MARKS));
     if by_bytes.is_some() {
         return by_bytes;
     }
@@ -29,7 +28,8 @@ pub(crate) fn by_front<'a>(text: &'a [u8], front: &'a [u8]) -> Option<Hint<'a>> 
     }
 }
 
-const FORMATS: [Format; 14] = [
+// Files that are no text.
+const FORMATS: [Entry; 14] = [
     (b"\x00\x00\x27\x0a", sentence::SHAPEFILE, b""),
     (b"SQLite format 3\0", sentence::GEO_PACKAGE, b""),
     (b"II*\0", sentence::BINARY, b"a GeoTIFF, or another TIFF"),
@@ -46,26 +46,14 @@ const FORMATS: [Format; 14] = [
     (b"\x1f\x8b", sentence::ARCHIVE, b"a gzip archive"),
 ];
 
-fn by_first_bytes<'a>(text: &[u8]) -> Option<Hint<'a>> {
-    for (first_bytes, sentence, words) in &FORMATS {
-        if text.starts_with(first_bytes) {
-            return Some(Hint::of_piece(sentence, Form::Plain, words));
-        }
-    }
-    None
-}
-
 // A byte order mark, another notation, or quotes around the text.
-fn by_mark<'a>(front: &[u8]) -> Option<Hint<'a>> {
-    let (sentence, words) = match front {
-        [0xef, 0xbb, 0xbf, ..] => (sentence::BYTE_ORDER_MARK, b"".as_slice()),
-        [b'{', ..] => (sentence::JSON, sentence::BY_PROJ),
-        [b'<', ..] => (sentence::XML, b"".as_slice()),
-        [b'"', ..] | [b'\'', ..] => (sentence::QUOTED, b"".as_slice()),
-        _ => return None,
-    };
-    Some(Hint::of_piece(sentence, Form::Plain, words))
-}
+const MARKS: [Entry; 5] = [
+    (b"\xef\xbb\xbf", sentence::BYTE_ORDER_MARK, b""),
+    (b"{", sentence::JSON, sentence::BY_PROJ),
+    (b"<", sentence::XML, b""),
+    (b"\"", sentence::QUOTED, b""),
+    (b"'", sentence::QUOTED, b""),
+];
 
 // UTF-16 by its byte order mark; without one by the first four bytes, of which every second is zero. White space at the
 // front has zeros too, so that this looks at the whole text.

@@ -64,3 +64,16 @@ impl<'a> Hint<'a> {
         Hint::with(sentence, Filled::Piece(form, piece))
     }
 }
+
+/// Bytes that are looked for, and the sentence and the words that tell of them.
+pub(crate) type Entry = (&'static [u8], &'static str, &'static [u8]);
+
+/// The hint of the first of these entries with which the bytes begin.
+pub(crate) fn by_first_bytes<'a>(bytes: &[u8], entries: &[Entry]) -> Option<Hint<'a>> {
+    for (first_bytes, sentence, words) in entries {
+        if bytes.starts_with(first_bytes) {
+            return Some(Hint::of_piece(sentence, Form::Plain, words));
+        }
+    }
+    None
+}

@@ -3,7 +3,7 @@ use crate::before::look_before;
 use crate::class::by_keyword;
 use crate::delimiter::{by_delimiters, by_whole_text};
 use crate::glance::{back, digit_count, front, keyword_at, looked_at, rest};
-use crate::hint::{Filled, Hint};
+use crate::hint::{Entry, Filled, Hint, by_first_bytes};
 use crate::refused::{BAD_CHARACTER, BAD_NUMBER, NOT_HERE, NOT_UTF8, UNKNOWN_KEYWORD};
 use crate::sentence;
 
@@ -26,32 +26,28 @@ pub(crate) fn by_place(text: &[u8], number: u8, place: usize) -> Option<Hint<'_>
 }
 
 // Characters by their bytes, most of them quotes that aren't straight, and what to say of each.
-const CHARACTERS: [(&[u8], &str); 10] = [
-    (b"&quot;", sentence::XML_QUOTE),
-    (b"&#34;", sentence::XML_QUOTE),
-    (b"\\\"", sentence::ESCAPED_QUOTE),
-    (b"\xe2\x80\x9c", sentence::TYPOGRAPHIC_QUOTE),
-    (b"\xe2\x80\x9d", sentence::TYPOGRAPHIC_QUOTE),
-    (b"\xe2\x80\x9e", sentence::TYPOGRAPHIC_QUOTE),
-    (b"\xc2\xab", sentence::TYPOGRAPHIC_QUOTE),
-    (b"\xc2\xbb", sentence::TYPOGRAPHIC_QUOTE),
-    (b"'", sentence::SINGLE_QUOTE),
-    (b";", sentence::SEMICOLON),
+const CHARACTERS: [Entry; 10] = [
+    (b"&quot;", sentence::XML_QUOTE, b""),
+    (b"&#34;", sentence::XML_QUOTE, b""),
+    (b"\\\"", sentence::ESCAPED_QUOTE, b""),
+    (b"\xe2\x80\x9c", sentence::TYPOGRAPHIC_QUOTE, b""),
+    (b"\xe2\x80\x9d", sentence::TYPOGRAPHIC_QUOTE, b""),
+    (b"\xe2\x80\x9e", sentence::TYPOGRAPHIC_QUOTE, b""),
+    (b"\xc2\xab", sentence::TYPOGRAPHIC_QUOTE, b""),
+    (b"\xc2\xbb", sentence::TYPOGRAPHIC_QUOTE, b""),
+    (b"'", sentence::SINGLE_QUOTE, b""),
+    (b";", sentence::SEMICOLON, b""),
 ];
 
 // What a byte is that begins no token.
 fn by_character<'a>(there: &[u8]) -> Option<Hint<'a>> {
-    for (bytes, sentence) in &CHARACTERS {
-        if there.starts_with(bytes) {
-            return Some(Hint::of(sentence));
-        }
-    }
-    match there {
+    let by_control = match there {
         [byte, ..] if byte.is_ascii_control() => {
             Some(Hint::with(sentence::CONTROL, Filled::Byte(*byte)))
         }
         _ => None,
-    }
+    };
+    by_first_bytes(there, &CHARACTERS).or(by_control)
 }
 
 // What is where a number should begin.
