@@ -3,10 +3,5 @@
 mod axis;
 mod conversion;
 mod crs;
-mod dynamic;
-mod ellipsoid;
 mod frame;
-mod ident;
-mod meridian;
-mod unit;
 mod usage;

@@ -1,17 +1,28 @@
-//! Reference frames, ensembles and their members.
-ghost use Rattle.crs_value.specs.SoundFrames.{IsDatum, IsEnsemble, IsMember};
+//! Reference frames, ensembles and their members, ellipsoids, prime meridians, and dynamic parts.
+ghost use Rattle.crs_value.specs.SoundDynamic.{IsDeformationModel, IsDynamic};
+ghost use Rattle.crs_value.specs.SoundFrames.{IsDatum, IsEllipsoid, IsEnsemble, IsMember, IsMeridian};
 ghost use Rattle.crs_same.specs.Parts.{AreSame};
-ghost use Rattle.crs_same.specs.PartsOfFrames.{parts_of_datum, parts_of_ensemble, parts_of_frame};
+ghost use Rattle.crs_same.specs.PartsOfFrames.{parts_of_datum, parts_of_ellipsoid, parts_of_ensemble, parts_of_frame};
+ghost use Rattle.crs_same.specs.PartsOfFrames.{parts_of_given};
+ghost use Rattle.crs_same.specs.SameCrs.{SameDynamic};
+ghost use Rattle.crs_matching.specs.SameDynamic.{SameDeformationModel};
 ghost use Rattle.crs_matching.specs.SameFrames.{SameMember};
-ghost use Rattle.crs_normal.specs.PartSpellings.{IsFrame, IsSpelledDatum, IsSpelledEnsemble, IsSpelledFrame};
-ghost use Rattle.crs_normal.specs.PartSpellings.{IsSpelledMember};
+ghost use Rattle.crs_normal.specs.PartSpellings.{IsFrame, IsSpelledDatum, IsSpelledDeformationModel, IsSpelledDynamic};
+ghost use Rattle.crs_normal.specs.PartSpellings.{IsSpelledEllipsoid, IsSpelledEnsemble, IsSpelledFrame};
+ghost use Rattle.crs_normal.specs.PartSpellings.{IsSpelledMember, IsSpelledMeridian};
 
 use crate::canonical::Canonical;
 use crs_normal::laws::parts::{
-    datums_are_canonical, frame_parts_are_canonical, frames_are_canonical,
+    datums_are_canonical, dynamic_parts_are_canonical, frame_parts_are_canonical,
+    frames_are_canonical,
 };
-use crs_same::parts::{same_datum, same_ensemble, same_frame, same_member};
-use crs_value::{Datum, Ensemble, Frame, Level, Member};
+use crs_same::parts::{
+    same_datum, same_deformation_model, same_dynamic, same_ellipsoid, same_ensemble, same_frame,
+    same_member, same_meridian,
+};
+use crs_value::{
+    Datum, DeformationModel, Dynamic, Ellipsoid, Ensemble, Frame, Level, Member, Meridian,
+};
 
 impl Canonical for Member<'_> {
     ghost IsValue = { IsMember };
@@ -81,5 +92,73 @@ impl Canonical for Frame<'_> {
             Frame::Ensemble(ensemble) => ensemble.laws(),
         }
         frames_are_canonical();
+    }
+}
+
+impl Canonical for Ellipsoid<'_> {
+    ghost IsValue = { IsEllipsoid };
+
+    ghost Same = { AreSame parts_of_ellipsoid };
+
+    ghost IsSpelling = { IsSpelledEllipsoid };
+
+    fn same(&self, other: &Self, level: Level) -> bool {
+        same_ellipsoid(self, other, level)
+    }
+
+    fn laws(&self) {
+        let _name = self.name;
+        frame_parts_are_canonical();
+    }
+}
+
+impl Canonical for Meridian<'_> {
+    ghost IsValue = { IsMeridian };
+
+    ghost Same = { AreSame parts_of_given };
+
+    ghost IsSpelling = { IsSpelledMeridian };
+
+    fn same(&self, other: &Self, level: Level) -> bool {
+        same_meridian(self, other, level)
+    }
+
+    fn laws(&self) {
+        let _name = self.name;
+        frame_parts_are_canonical();
+    }
+}
+
+impl Canonical for DeformationModel<'_> {
+    ghost IsValue = { IsDeformationModel };
+
+    ghost Same = { SameDeformationModel };
+
+    ghost IsSpelling = { IsSpelledDeformationModel };
+
+    fn same(&self, other: &Self, level: Level) -> bool {
+        same_deformation_model(self, other, level)
+    }
+
+    fn laws(&self) {
+        let _name = self.name;
+        dynamic_parts_are_canonical();
+    }
+}
+
+impl Canonical for Dynamic<'_> {
+    ghost IsValue = { IsDynamic };
+
+    ghost Same = { SameDynamic };
+
+    ghost IsSpelling = { IsSpelledDynamic };
+
+    fn same(&self, other: &Self, level: Level) -> bool {
+        same_dynamic(self, other, level)
+    }
+
+    fn laws(&self) {
+        let _model = &self.model;
+        dynamic_parts_are_canonical();
     }
 }

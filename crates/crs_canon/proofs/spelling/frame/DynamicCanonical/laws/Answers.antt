@@ -1,5 +1,5 @@
 use Rattle.crs_canon.proofs.LawLemmas.{laws}
-use Rattle.crs_canon.proofs.spelling.dynamic.DynamicCanonical.laws.Goals as goal
+use Rattle.crs_canon.proofs.spelling.frame.DynamicCanonical.laws.Goals as goal
 
 pub returns : goal.returns
 returns c = laws c.self.view_is c.self.invariant c.dynamic_parts_are_canonical.ensures.dynamic

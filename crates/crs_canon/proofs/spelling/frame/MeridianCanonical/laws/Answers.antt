@@ -1,5 +1,5 @@
 use Rattle.crs_canon.proofs.LawLemmas.{laws}
-use Rattle.crs_canon.proofs.spelling.meridian.MeridianCanonical.laws.Goals as goal
+use Rattle.crs_canon.proofs.spelling.frame.MeridianCanonical.laws.Goals as goal
 
 pub returns : goal.returns
 returns c = laws c.self.view_is c.self.invariant c.frame_parts_are_canonical.ensures.meridian
