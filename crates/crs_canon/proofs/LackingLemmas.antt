@@ -1,7 +1,9 @@
 -- Spellings put in order, without those among others, are the text of the members whose spelling no other has.
-use Rattle.std.proofs.Common.{◌≡◌, ◌↔◌, ◌∙◌, ◌||◌, ◌++◌, ℕ, Bool, true, false, cond, not, Decides, List, [], ◌∷◌, Vec, filter, MatchResult, Result, inl, inr, ⊎_elim, refl, sym, ap, ap₂, subst}
-use Rattle.std.specs.BTreeSet.{contains}
+use Rattle.std.proofs.Common.{◌≡◌, ◌↔◌, ◌∙◌, ◌||◌, ◌++◌, ℕ, Bool, true, false, cond, not, Decides, List, [], ◌∷◌, Vec, filter, MatchResult, Result, Ordering, Less, Equal, Greater, inl, inr, ⊎_elim, refl, sym, ap, ap₂, subst}
+use Rattle.std.specs.BTreeSet.{contains, insert_key}
+use Rattle.std.specs.Cmp.Lexicographic.{slice_cmp}
 use Rattle.std.specs.List.{list_any}
+use Rattle.std.specs.Ordering.{match_ordering, nat_cmp}
 use Rattle.std.specs.Str.{bytes_eq}
 use Rattle.std.specs.declared.alloc.Global.{Global}
 use Rattle.std.proofs.lemmas.Map.Text.{is_eq-slice_cmp}
@@ -9,15 +11,30 @@ use Rattle.std.proofs.lemmas.Slice.Eq.{bytes_eq-Decides}
 use Rattle.std.proofs.lemmas.Bool.{false≢true}
 use Rattle.std.proofs.lemmas.Bool.Decides.{Decides-not, Decides-or}
 use Rattle.std.proofs.lemmas.Result.{MatchResult-weaker}
-use Rattle.crs_normal.specs.Prelude.{Ascends, Below, IsIn, in_order, put_all}
-use Rattle.crs_normal.proofs.members.SetLemmas.{each-has, each-of}
+use Rattle.crs_value.specs.Sound.{Each}
+use Rattle.crs_normal.specs.Prelude.{Ascends, Below, IsIn, in_order, put, put_all}
 use Rattle.crs_canon.specs.ContentText.{IsLackingText}
 use Rattle.crs_writer.specs.Prelude.{AppendsSpelling, ArePut, lacking, spellings, SpellsOneOf, comma_separated}
-use Rattle.crs_writer.proofs.SetLemmas.{compared}
 use Rattle.crs_canon.proofs.NamedLemmas.{from-passed, in-passed}
 use Rattle.crs_canon.proofs.SetTextLemmas.{spellings-tell}
 
--- ---- keys without those of another set
+-- ---- keys of a set
+
+-- the order of keys
+abbrev compared : Vec ℕ Global → Vec ℕ Global → Ordering
+compared a b = slice_cmp nat_cmp a.items b.items
+
+-- the spelling of a key that is put into a set is put among the others
+pub spellings-insert : (key : Vec ℕ Global) (keys : List (Vec ℕ Global)) →
+    spellings (insert_key compared keys key) ≡ put (λ bytes. bytes) key.items (spellings keys)
+spellings-insert key [] = refl
+spellings-insert key (x ∷ keys) =
+    elim (compared key x) as (λ o. spellings (match_ordering o (key ∷ x ∷ keys) (x ∷ keys) (x ∷ insert_key compared keys key))
+    ≡ match_ordering o (key.items ∷ spellings (x ∷ keys)) (spellings (x ∷ keys)) (x.items ∷ put (λ bytes. bytes) key.items (spellings keys))) [
+      | Less ↦ refl
+      | Equal ↦ refl
+      | Greater ↦ ap (λ rest. x.items ∷ rest) (spellings-insert key keys)
+    ]
 
 has-spelling : (key : Vec ℕ Global) (keys : List (Vec ℕ Global)) →
     contains compared (record { keys = keys }) key ≡ list_any (bytes_eq key.items) (spellings keys)
@@ -50,12 +67,18 @@ lacking-has these others text =
       λ (is, none). in-passed lacks text these is (tell.1 none),
     )
 
+each-passed : (P : List ℕ → Type 0) (test : List ℕ → Bool) (xs : List (List ℕ)) → Each P xs → Each P (filter test xs)
+each-passed P test [] h = tt
+each-passed P test (x ∷ xs) h =
+    let rest = each-passed P test xs h.1 in
+    elim (test x) as (λ b. Each P (cond b (x ∷ filter test xs) (filter test xs))) [ true ↦ (h.0, rest) | false ↦ rest ]
+
 passed-ascends : (test : List ℕ → Bool) (xs : List (List ℕ)) → Ascends (λ text. text) xs → Ascends (λ text. text) (filter test xs)
 passed-ascends test [] h = tt
 passed-ascends test (x ∷ xs) h =
     let rest = passed-ascends test xs h.1 in
     elim (test x) as (λ b. Ascends (λ text. text) (cond b (x ∷ filter test xs) (filter test xs))) [
-      | true ↦ (each-of (Below x) (filter test xs) (λ z p. each-has (Below x) xs z h.0 (from-passed test z xs p).0), rest)
+      | true ↦ (each-passed (Below x) test xs h.0, rest)
       | false ↦ rest
     ]
 

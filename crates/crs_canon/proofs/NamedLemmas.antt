@@ -3,11 +3,11 @@ use Rattle.std.proofs.Common.{◌≡◌, ◌↔◌, ◌∙◌, ◌&&◌, ◌⊎�
 use Rattle.std.specs.Option.{is_some}
 use Rattle.std.specs.Str.{bytes_eq}
 use Rattle.std.proofs.lemmas.Slice.Eq.{bytes_eq-Decides}
-use Rattle.std.proofs.lemmas.Bool.{false≢true}
+use Rattle.std.proofs.lemmas.Bool.{cases_Bool, false≢true, not_from_false}
 use Rattle.crs_value.specs.Prelude.{ParameterParts}
 use Rattle.crs_value.specs.declared.values.level.Level.{Level}
 use Rattle.crs_normal.specs.Prelude.{Ascends, IsIn, IsSpelledParameter, in_order, parameter_text, put_all}
-use Rattle.crs_canon.specs.Named.{ArePairedNames, is_paired, named_once, of_name, only, unpaired}
+use Rattle.crs_canon.specs.Named.{ArePairedNames, NamesTell, is_paired, named_once, of_name, only, unpaired}
 use Rattle.crs_canon.specs.PairedNames.{names_paired}
 use Rattle.crs_writer.specs.Prelude.{AreSpellingsOf, ArePut}
 
@@ -49,21 +49,37 @@ once-only name xs x = by (nat_le (length xs) 64)
     by false e = let none : ⊥ = cc in absurd none
 
 -- the parameter of a name that stands once is each of this name
-pub is-once : (xs : List ParameterParts) (x z : ParameterParts) → named_once z.name xs ≡ Some x → IsIn z xs → z ≡ x
+is-once : (xs : List ParameterParts) (x z : ParameterParts) → named_once z.name xs ≡ Some x → IsIn z xs → z ≡ x
 is-once xs x z e i =
     ⊎_elim (λ same. same) (λ none. absurd none) (subst (IsIn z) (once-only z.name xs x e)
     (in-passed (λ p. bytes_eq p.name z.name) z xs i ((bytes_eq-Decides z.name z.name).1 refl)))
 
 -- it is one of them, and has the name
-pub of-once : (name : List ℕ) (xs : List ParameterParts) (x : ParameterParts) → named_once name xs ≡ Some x → IsIn x xs × (x.name ≡ name)
+of-once : (name : List ℕ) (xs : List ParameterParts) (x : ParameterParts) → named_once name xs ≡ Some x → IsIn x xs × (x.name ≡ name)
 of-once name xs x e =
     let found = from-passed (λ p. bytes_eq p.name name) x xs (subst (IsIn x) (sym (once-only name xs x e)) (inl refl)) in
     (found.0, (bytes_eq-Decides x.name name).0 found.1)
 
-pub both-some : {V : Type 0} (p q : Option V) → (is_some p && is_some q) ≡ true → (x : V) × (y : V) × (p ≡ Some x) × (q ≡ Some y)
+both-some : {V : Type 0} (p q : Option V) → (is_some p && is_some q) ≡ true → (x : V) × (y : V) × (p ≡ Some x) × (q ≡ Some y)
 both-some (Some x) (Some y) e = (x, y, refl, refl)
 both-some (Some x) None e = absurd (false≢true e)
 both-some None q e = absurd (false≢true e)
+
+-- what names tell
+pub names-tell : NamesTell
+names-tell = record { found = of-once; either = either; left = λ xs ys x i. (from-passed (is-left xs ys) x xs i).0 }
+  where
+    is-left : (xs ys : List ParameterParts) → ParameterParts → Bool
+    is-left xs ys x = not (is_paired xs ys x.name)
+
+    either : (xs ys : List ParameterParts) (x : ParameterParts) → IsIn x xs → IsIn x (unpaired xs ys)
+        ⊎ ((y : ParameterParts) × (named_once x.name xs ≡ Some x) × (named_once x.name ys ≡ Some y))
+    either xs ys x i = elim (cases_Bool (is_paired xs ys x.name)) [
+      | inl is ↦
+          let (z, y, p, q) = both-some (named_once x.name xs) (named_once x.name ys) is in
+          inr (y, p ∙ ap Some (sym (is-once xs z x p i)), q)
+      | inr other ↦ inl (in-passed (is-left xs ys) x xs i (not_from_false (is_paired xs ys x.name) other))
+    ]
 
 -- ---- names
 

@@ -5,7 +5,6 @@ use Rattle.std.proofs.lemmas.List.{append-nil}
 use Rattle.crs_value.specs.Sound.{Each}
 use Rattle.crs_matching.specs.Prelude.{AllHaveSame, HasSame}
 use Rattle.crs_normal.specs.Prelude.{Ascends, IsIn, IsCanonicalForm, IsClosed}
-use Rattle.crs_normal.proofs.members.SetLemmas.{each-of}
 use Rattle.crs_writer.specs.Prelude.{HaveOneTextWhereSame, IsSetText, SpellsOneOf, commas, comma_separated}
 
 -- ---- closed texts after one another
@@ -92,6 +91,10 @@ one-text Spells a b one both first second s t =
       λ p. (s.same text).1 ((both text).1 ((t.same text).0 p)),
     )) in
     s.written ∙ ap comma_separated members ∙ sym t.written
+
+each-of : (P : List ℕ → Type 0) (xs : List (List ℕ)) → ((text : List ℕ) → IsIn text xs → P text) → Each P xs
+each-of P [] f = tt
+each-of P (x ∷ xs) f = (f x (inl refl), each-of P xs (λ text i. f text (inr i)))
 
 module _ {V : Type 0} (Q : V → Type 0) (Spells : V → List ℕ → Type 0) (Same : V → V → Type 0) (form : IsCanonicalForm Q Same Spells) where
   -- the spelling of a value is that of one of these exactly where one of these is the same

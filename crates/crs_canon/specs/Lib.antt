@@ -1,3 +1,4 @@
+pub mod Appended
 pub mod ContentText
 pub mod Examples
 pub mod MainTheorem

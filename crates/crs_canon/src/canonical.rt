@@ -1,8 +1,8 @@
 //! Nodes that are compared and written by themselves.
-ghost use Rattle.std.specs.Prelude.{◌≡◌, ◌↔◌, ℕ, IsTrue, List, MatchResult};
+ghost use Rattle.std.specs.Prelude.{◌≡◌, ◌↔◌, ℕ, IsTrue, List};
 ghost use Rattle.crs_value.specs.declared.values.level.Level.{Level};
 ghost use Rattle.crs_normal.specs.CanonicalForm.{IsCanonicalForm};
-ghost use Rattle.crs_writer.specs.Canonical.{AppendsSpelling};
+ghost use Rattle.crs_canon.specs.Appended.{AppendsOrNothing};
 
 use crs_value::Level;
 use crs_writer::pieces::Spell;
@@ -30,9 +30,7 @@ pub trait Canonical: Spell {
     ///
     /// `AllocError`: there is no memory for it, and `out` is as before.
     fn write(&self, alloc: Global, level: Level, out: &mut Vec<u8>) -> Result<(), AllocError>
-        ensures { MatchResult result
-            (λ _. AppendsSpelling (IsSpelling level self.now) out.old.items out.new.items)
-            (λ _. out.new.items ≡ out.old.items) }
+        ensures { AppendsOrNothing result (IsSpelling level self.now) out.old.items out.new.items }
     {
         self.laws();
         let mut text = Vec::new(alloc);

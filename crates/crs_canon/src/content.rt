@@ -1,11 +1,11 @@
 //! The value of a part of a CRS, as the canonical text writes it.
-ghost use Rattle.std.specs.Prelude.{◌≡◌, MatchResult, OnOk};
+ghost use Rattle.std.specs.Prelude.{◌≡◌, OnOk};
 ghost use Rattle.crs_value.specs.declared.values.level.Level.TheVariants as levels;
 ghost use Rattle.crs_same.specs.declared.content.Content.TheVariants as content;
 ghost use Rattle.crs_normal.specs.PartSpellings.{IsSpelledUsage};
-ghost use Rattle.crs_writer.specs.Canonical.{AppendsSpelling};
-ghost use Rattle.crs_canon.specs.ContentText.{IsContentText};
 ghost use Rattle.crs_writer.specs.Members.{ArePut, spellings};
+ghost use Rattle.crs_canon.specs.Appended.{AppendsOrNothing};
+ghost use Rattle.crs_canon.specs.ContentText.{IsContentText};
 
 use crate::canonical::Canonical;
 use crate::lacking::{append_lacking, append_lacking_members};
@@ -21,18 +21,14 @@ use std::collections::BTreeSet;
 
 // These bytes.
 fn append_bytes(out: &mut Vec<u8>, bytes: &[u8]) -> Result<(), AllocError>
-    ensures { MatchResult result
-        (λ _. AppendsSpelling (λ written. written ≡ bytes.now) out.old.items out.new.items)
-        (λ _. out.new.items ≡ out.old.items) }
+    ensures { AppendsOrNothing result (λ written. written ≡ bytes.now) out.old.items out.new.items }
 {
     out.extend_from_slice(bytes)
 }
 
 // A text in quotes.
 fn append_text(alloc: Global, out: &mut Vec<u8>, text: &[u8]) -> Result<(), AllocError>
-    ensures { MatchResult result
-        (λ _. AppendsSpelling (IsContentText levels.Full (content.Text text.now)) out.old.items out.new.items)
-        (λ _. out.new.items ≡ out.old.items) }
+    ensures { AppendsOrNothing result (IsContentText levels.Full (content.Text text.now)) out.old.items out.new.items }
 {
     let mut quoted = Vec::new(alloc);
     open_text(&mut quoted, b"\"", text)?;
@@ -40,9 +36,8 @@ fn append_text(alloc: Global, out: &mut Vec<u8>, text: &[u8]) -> Result<(), Allo
 }
 
 fn append_number(out: &mut Vec<u8>, number: &Decimal) -> Result<(), AllocError>
-    ensures { MatchResult result
-        (λ _. AppendsSpelling (IsContentText levels.Full (content.Number number.now)) out.old.items out.new.items)
-        (λ _. out.new.items ≡ out.old.items) }
+    ensures { AppendsOrNothing result (IsContentText levels.Full (content.Number number.now))
+        out.old.items out.new.items }
 {
     number.write(out)
 }
@@ -57,9 +52,7 @@ pub fn append_unit(
     unit: &Unit<'_>,
     level: Level,
 ) -> Result<(), AllocError>
-    ensures { MatchResult result
-        (λ _. AppendsSpelling (IsContentText level (content.Unit asked unit.now)) out.old.items out.new.items)
-        (λ _. out.new.items ≡ out.old.items) }
+    ensures { AppendsOrNothing result (IsContentText level (content.Unit asked unit.now)) out.old.items out.new.items }
 {
     let _name = unit.name;
     parts::units_are_canonical();
@@ -97,9 +90,8 @@ fn append_usages(
     others: &Usages<'_, '_>,
     level: Level,
 ) -> Result<(), AllocError>
-    ensures { MatchResult result
-        (λ _. AppendsSpelling (IsContentText level (content.Usages these.now others.now)) out.old.items out.new.items)
-        (λ _. out.new.items ≡ out.old.items) }
+    ensures { AppendsOrNothing result (IsContentText level (content.Usages these.now others.now))
+        out.old.items out.new.items }
 {
     sets::texts_are_in_order();
     let mut sorted = BTreeSet::new(alloc);
@@ -121,9 +113,7 @@ pub fn write_content(
     level: Level,
     out: &mut Vec<u8>,
 ) -> Result<(), AllocError>
-    ensures { MatchResult result
-        (λ _. AppendsSpelling (IsContentText level content.now) out.old.items out.new.items)
-        (λ _. out.new.items ≡ out.old.items) }
+    ensures { AppendsOrNothing result (IsContentText level content.now) out.old.items out.new.items }
 {
     match content {
         Content::Nothing => Ok(()),

@@ -1,6 +1,6 @@
 //! The members of a set that another lacks.
 ghost use Rattle.std.specs.Prelude.{◌≡◌, ◌++◌, MatchResult, OnOk};
-ghost use Rattle.crs_writer.specs.Canonical.{AppendsSpelling};
+ghost use Rattle.crs_canon.specs.Appended.{AppendsOrNothing};
 ghost use Rattle.crs_canon.specs.ContentText.{IsLackingText};
 ghost use Rattle.crs_writer.specs.Members.{lacking, spellings};
 ghost use Rattle.crs_writer.specs.SetText.{commas, comma_separated};
@@ -57,9 +57,8 @@ pub fn append_lacking_members<T: Canonical>(
     others: &[T],
     level: Level,
 ) -> Result<(), AllocError>
-    ensures { MatchResult result
-        (λ _. AppendsSpelling (IsLackingText (T.IsSpelling level) these.now others.now) out.old.items out.new.items)
-        (λ _. out.new.items ≡ out.old.items) }
+    ensures { AppendsOrNothing result (IsLackingText (T.IsSpelling level) these.now others.now)
+        out.old.items out.new.items }
 {
     sets::texts_are_in_order();
     are_spelled(these);

@@ -10,6 +10,7 @@ ghost use Rattle.crs_writer.specs.Canonical.{CanonicalText, IsCanonicalOf, IsCan
 ghost use Rattle.crs_writer.specs.Equality.{canon_writes, canons_equal};
 ghost use Rattle.crs_canon.specs.Examples.{DigestsArePublished, DigestsAreRusts};
 ghost use Rattle.crs_canon.specs.MainTheorem.{MainTheorem, SpellSame};
+ghost use Rattle.crs_canon.specs.Named.{NamesTell};
 ghost use Rattle.crs_writer.specs.SetText.{HaveOneTextWhereSame};
 
 use crate::canonical::Canonical;
@@ -107,3 +108,9 @@ pub fn set_texts_are_equal_where_same<T: Canonical>(node: &T)
     closed_texts();
     texts_are_in_order();
 }
+
+/// Each parameter of a set is found by its name, and one of the other set too, or is among those that are unpaired.
+/// Profile.
+pub fn names_tell_parameters()
+    ensures { NamesTell }
+{}

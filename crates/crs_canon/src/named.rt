@@ -1,11 +1,11 @@
 //! The members of a set of parameters by their names.
-ghost use Rattle.std.specs.Prelude.{◌≡◌, IfOk, MatchResult, OnOk, map, not};
+ghost use Rattle.std.specs.Prelude.{◌≡◌, IfOk, OnOk, map};
 ghost use Rattle.std.specs.Option.{option_copied};
 ghost use Rattle.crs_normal.specs.Ordered.{put, put_all};
 ghost use Rattle.crs_normal.specs.PartSpellings.{IsSpelledParameter};
 ghost use Rattle.crs_normal.specs.PartTexts.{parameter_text};
-ghost use Rattle.crs_writer.specs.Canonical.{AppendsSpelling};
 ghost use Rattle.crs_writer.specs.Members.{spellings};
+ghost use Rattle.crs_canon.specs.Appended.{AppendsOrNothing};
 ghost use Rattle.crs_canon.specs.ContentText.{IsLackingText};
 ghost use Rattle.crs_canon.specs.Named.{ArePairedNames, is_paired, named_once, of_name, only, unpaired};
 ghost use Rattle.crs_canon.specs.PairedNames.{names_paired};
@@ -95,25 +95,6 @@ fn gather_name(alloc: Global, names: &mut BTreeSet<Vec<u8>>, name: &[u8]) -> Res
     Ok(())
 }
 
-fn is_unpaired<'a>(these: &[Parameter<'a>], others: &[Parameter<'a>], name: &[u8]) -> bool
-    ensures { result ≡ not (is_paired these.now others.now name.now) }
-{
-    !is_paired(these, others, name)
-}
-
-// Puts a parameter's spelling among the others.
-fn gather_parameter<'a>(
-    alloc: Global,
-    sorted: &mut BTreeSet<Vec<u8>>,
-    member: &Parameter<'a>,
-    level: Level,
-) -> Result<(), AllocError>
-    ensures { OnOk result (spellings sorted.new.keys
-        ≡ put (λ b. b) (parameter_text level member.now) (spellings sorted.old.keys)) }
-{
-    gather::<Parameter<'a>, &Parameter<'a>>(alloc, sorted, &member, level)
-}
-
 // Adds the spellings of those whose names aren't paired.
 fn gather_unpaired<'a>(
     alloc: Global,
@@ -126,8 +107,8 @@ fn gather_unpaired<'a>(
         ≡ put_all (λ b. b) (spellings sorted.old.keys) (map (parameter_text level) (unpaired these.now others.now))) }
 {
     for member in these {
-        if is_unpaired(these, others, member.name) {
-            gather_parameter(alloc, sorted, member, level)?;
+        if !is_paired(these, others, member.name) {
+            gather::<Parameter<'a>, &Parameter<'a>>(alloc, sorted, &member, level)?;
         }
     }
     Ok(())
@@ -144,10 +125,8 @@ pub fn append_unpaired<'a>(
     others: &[Parameter<'a>],
     level: Level,
 ) -> Result<(), AllocError>
-    ensures { MatchResult result
-        (λ _. AppendsSpelling (IsLackingText (IsSpelledParameter level)
-        (unpaired these.now others.now) (unpaired others.now these.now)) out.old.items out.new.items)
-        (λ _. out.new.items ≡ out.old.items) }
+    ensures { AppendsOrNothing result (IsLackingText (IsSpelledParameter level)
+        (unpaired these.now others.now) (unpaired others.now these.now)) out.old.items out.new.items }
 {
     sets::texts_are_in_order();
     are_spelled(these);

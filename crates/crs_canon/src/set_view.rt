@@ -4,9 +4,9 @@ ghost use Rattle.crs_value.specs.Sound.{Each};
 ghost use Rattle.crs_value.specs.declared.values.level.Level.{Level};
 ghost use Rattle.crs_matching.specs.Sets.{AllHaveSame, HasSame, SameSet};
 ghost use Rattle.crs_normal.specs.Ascending.{IsIn};
-ghost use Rattle.crs_writer.specs.Canonical.{AppendsSpelling};
 ghost use Rattle.crs_writer.specs.Members.{AppendsAll, AreSpellingsOf};
 ghost use Rattle.crs_writer.specs.SetText.{HaveOneTextWhereSame, IsSetText, commas, comma_separated};
+ghost use Rattle.crs_canon.specs.Appended.{AppendsOrNothing};
 
 use crate::canonical::Canonical;
 use crs_normal::laws::sets;
@@ -50,9 +50,7 @@ impl<'s, T: Canonical> Set<'s, T> {
     ///
     /// `AllocError`: there is no memory for it, and `out` is as before.
     pub fn write(&self, alloc: Global, level: Level, out: &mut Vec<u8>) -> Result<(), AllocError>
-        ensures { MatchResult result
-            (λ _. AppendsSpelling (IsSetText (T.IsSpelling level) self.now) out.old.items out.new.items)
-            (λ _. out.new.items ≡ out.old.items) }
+        ensures { AppendsOrNothing result (IsSetText (T.IsSpelling level) self.now) out.old.items out.new.items }
     {
         sets::texts_are_in_order();
         append_set(alloc, out, self.members, level)

@@ -1,8 +1,11 @@
-use Rattle.std.proofs.Common.{[], refl}
-use Rattle.crs_writer.proofs.SetLemmas.{gathered}
+use Rattle.std.proofs.Common.{◌∙◌, ap}
+use Rattle.crs_normal.specs.Prelude.{put}
+use Rattle.crs_writer.specs.Prelude.{spellings}
+use Rattle.crs_canon.proofs.LackingLemmas.{spellings-insert}
 use Rattle.crs_canon.proofs.named.gather_name.Goals as goal
 
 pub returns : goal.returns
 returns c =
-    gathered c.args.names.now.keys c.insert.new.self.keys c.in_ok-bytes.bytes [] c.args.name.now c.in_ok-insert.ensures.keys refl
-    c.in_ok-bytes.ensures.items
+    let keys = c.args.names.now.keys in
+    ap (λ k. spellings k) c.in_ok-insert.ensures.keys ∙ spellings-insert c.in_ok-bytes.bytes keys
+    ∙ ap (λ name. put (λ b. b) name (spellings keys)) c.in_ok-bytes.ensures.items
