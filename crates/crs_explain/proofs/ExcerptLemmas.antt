@@ -1,14 +1,14 @@
 -- The piece of a line at a place, put together.
-use Rattle.std.proofs.Common.{◌≡◌, ℕ, ◌+◌, ◌-◌, ◌==◌, true, List, ◌++◌, codes, length, take, drop, refl, sym, ap, ◌∙◌, append_assoc, arith}
+use Rattle.std.proofs.Common.{◌≡◌, ℕ, ◌+◌, ◌-◌, ◌==◌, true, cond, List, ◌++◌, codes, length, take, drop, refl, sym, ap, ◌∙◌, append_assoc, arith}
 use Rattle.std.proofs.lemmas.Bool.{eq-eqb}
 use Rattle.std.proofs.lemmas.List.{drop_at, take_at, length-append, length-take-le, take-append-drop}
+use Rattle.std.proofs.lemmas.List.Sums.{sum_by-append}
 use Rattle.std.proofs.lemmas.Str.Ascii.{trim_ascii_end_is}
 use Rattle.std.specs.List.{suffix_len}
 use Rattle.std.specs.Char.{is_ascii_whitespace}
 use Rattle.std.specs.Str.{IsTrimAsciiEnd}
 use Rattle.crs_text.specs.Prelude.{feeds, IsPosition}
 use Rattle.crs_text.specs.declared.position.Position.{Position}
-use Rattle.crs_streams.proofs.FeedLemmas.{feeds-append}
 use Rattle.crs_explain.specs.Excerpt.{IsExcerpt, shown_place, printed_text, blanks_below}
 
 -- a piece behind other bytes
@@ -35,6 +35,10 @@ trimmed text kept place at is =
     let n : length kept ≡ length text - suffix_len is_ascii_whitespace text =
     ap length (trim_ascii_end_is text kept is) ∙ length-take-le (length text - suffix_len is_ascii_whitespace text) text (omega arith) in
     rw end n
+
+-- how many feeds there are
+feeds-append : (a b : List ℕ) → feeds (a ++ b) ≡ feeds a + feeds b
+feeds-append a b = sum_by-append (λ x. cond (x == 10) 1 0) a b
 
 -- the lines of an excerpt
 pub excerpt_of : (text : List ℕ) (place shown : ℕ) (p : Position) (line_left line_right front left right rest lines : List ℕ) →

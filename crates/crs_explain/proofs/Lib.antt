@@ -2,7 +2,6 @@ pub mod ArgumentLemmas
 pub mod ExcerptLemmas
 pub mod LineLemmas
 pub mod PieceLemmas
-pub mod ListedLemmas
 pub mod DifferingLemmas
 pub mod OrderLemmas
 pub mod SameLemmas

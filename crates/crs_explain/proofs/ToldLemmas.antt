@@ -1,7 +1,7 @@
 -- Two sets of parameters of which nothing is told are the same.
-use Rattle.std.proofs.Common.{◌≡◌, ◌∙◌, ◌++◌, ◌⊎◌, ⊎_elim, ℕ, Bool, if◌then◌else◌, not, Some, List, [], ◌∷◌, filter, inl, inr, refl, sym, subst, true≢false}
+use Rattle.std.proofs.Common.{◌≡◌, ◌∙◌, ◌++◌, ◌⊎◌, ⊎_elim, ℕ, if◌then◌else◌, Some, List, [], ◌∷◌, inl, inr, refl, sym, subst, true≢false}
 use Rattle.std.specs.Str.{bytes_eq}
-use Rattle.std.proofs.lemmas.Bool.{cases_Bool, not_from_false}
+use Rattle.std.proofs.lemmas.Bool.{cases_Bool}
 use Rattle.std.proofs.lemmas.Slice.Eq.{bytes_eq-Decides}
 use Rattle.crs_shape.specs.declared.unit_kind.UnitKind.TheVariants as kinds
 use Rattle.crs_value.specs.Prelude.{ParameterParts, IsIn, IsParameter}
@@ -11,12 +11,9 @@ use Rattle.crs_matching.specs.Prelude.{SameParameter, AllHaveSame, HasSame, Same
 use Rattle.crs_same.specs.Prelude.{Differences, Parts, identifiers, numbers, units}
 use Rattle.crs_same.specs.declared.step.Step.TheVariants as step
 use Rattle.crs_normal.specs.Prelude.{IsCanonicalForm, IsSpelledParameter}
-use Rattle.crs_normal.proofs.members.SetLemmas.{each-has, each-of}
 use Rattle.crs_writer.specs.Prelude.{SpellsOneOf, commas, comma_separated}
 use Rattle.crs_canon.specs.ContentText.{IsLackingText}
-use Rattle.crs_canon.specs.Named.{ArePairedNames, is_paired, named_once, unpaired}
-use Rattle.crs_canon.proofs.NamedLemmas.{both-some, from-passed, in-passed, is-once, of-once}
-use Rattle.crs_canon.proofs.SetSameLemmas.{closed-some}
+use Rattle.crs_canon.specs.Named.{ArePairedNames, NamesTell, named_once, unpaired}
 use Rattle.crs_explain.specs.DifferingSets.{AreTextsOfName, AreTextsOfNames, AreTextsOfParts, AreTextsOfSet, are_empty, parameter_path, parts_of_parameter}
 use Rattle.crs_explain.specs.DifferingTexts.{PartTexts}
 
@@ -72,8 +69,11 @@ all-of Same (x ∷ xs) ys f =
     let (y, i, same) = f x (inl refl) in
     (has-in Same x y ys same i, all-of Same xs ys (λ z j. f z (inr j)))
 
-each-passed : {V : Type 0} (Q : V → Type 0) (test : V → Bool) (xs : List V) → Each Q xs → Each Q (filter test xs)
-each-passed Q test xs h = each-of Q (filter test xs) (λ z i. each-has Q xs z h (from-passed test z xs i).0)
+-- each of these is as all are
+each-has : (xs : List ParameterParts) → Each IsParameter xs → (z : ParameterParts) → IsIn z xs → IsParameter z
+each-has [] h z i = absurd i
+each-has (x ∷ xs) h z (inl e) = subst IsParameter (sym e) h.0
+each-has (x ∷ xs) h z (inr i) = each-has xs h.1 z i
 
 spells-in : {V : Type 0} (P : V → List ℕ → Type 0) (x : V) (xs : List V) (text : List ℕ) → IsIn x xs → P x text → SpellsOneOf P xs text
 spells-in P x [] text i p = absurd i
@@ -90,7 +90,7 @@ member-empty (m ∷ n ∷ members) text e i =
 
 -- ---- parameters
 
-module _ (level : Level) (form : IsCanonicalForm IsParameter (SameParameter level) (IsSpelledParameter level))
+module _ (tell : NamesTell) (level : Level) (form : IsCanonicalForm IsParameter (SameParameter level) (IsSpelledParameter level))
     (turn : (a b : ParameterParts) → SameParameter level a b → SameParameter level b a) where
   abbrev Spells : ParameterParts → List ℕ → Type 0
   Spells = IsSpelledParameter level
@@ -104,32 +104,39 @@ module _ (level : Level) (form : IsCanonicalForm IsParameter (SameParameter leve
   AreSameByName xs ys =
       (name : List ℕ) (x y : ParameterParts) → named_once name xs ≡ Some x → named_once name ys ≡ Some y → SameParameter level x y
 
-  found-or-not : (x : ParameterParts) (ys : List ParameterParts) (text : List ℕ) → IsParameter x → Spells x text → Each IsParameter ys →
+  -- these are parameters
+  abbrev AreParameters : List ParameterParts → Type 0
+  AreParameters xs = (x : ParameterParts) → IsIn x xs → IsParameter x
+
+  found-or-not : (x : ParameterParts) (ys : List ParameterParts) (text : List ℕ) → IsParameter x → Spells x text → AreParameters ys →
       IsAmong x ys ⊎ (SpellsOneOf Spells ys text → ⊥)
   found-or-not x [] text q p h = inr (λ s. s)
   found-or-not x (y ∷ ys) text q p h =
-      let own = form.there y h.0 in
+      let q-y = h y (inl refl) in
+      let own = form.there y q-y in
       elim (cases_Bool (bytes_eq text own.0)) [
-        | inl is ↦ inl (y, inl refl, (form.equal x y text own.0 q h.0 p own.1).0 ((bytes_eq-Decides text own.0).0 is))
-        | inr other ↦ elim (found-or-not x ys text q p h.1) [
+        | inl is ↦ inl (y, inl refl, (form.equal x y text own.0 q q-y p own.1).0 ((bytes_eq-Decides text own.0).0 is))
+        | inr other ↦ elim (found-or-not x ys text q p (λ z i. h z (inr i))) [
           | inl (z, i, same) ↦ inl (z, inr i, same)
           | inr n ↦
-              inr (λ s. ⊎_elim (λ t. true≢false (sym ((bytes_eq-Decides text own.0).1 (form.one y text own.0 h.0 t own.1)) ∙ other)) n s)
+              inr (λ s. ⊎_elim (λ t. true≢false (sym ((bytes_eq-Decides text own.0).1 (form.one y text own.0 q-y t own.1)) ∙ other)) n s)
         ]
       ]
 
   -- the others lack none of these, where nothing is written
-  none-lacking : (xs ys : List ParameterParts) (written : List ℕ) → Each IsParameter xs → Each IsParameter ys →
+  none-lacking : (xs ys : List ParameterParts) (written : List ℕ) → AreParameters xs → AreParameters ys →
       IsLackingText Spells xs ys written → written ≡ [] → (x : ParameterParts) → IsIn x xs → IsAmong x ys
   none-lacking xs ys written g h text none x i =
-      let q = each-has IsParameter xs x g i in
+      let q = g x i in
       let own = form.there x q in
       let Lacks : List ℕ → Type 0 = λ t. SpellsOneOf Spells ys t → ⊥ in
       elim (found-or-not x ys own.0 q own.1 h) [
         | inl found ↦ found
         | inr n ↦
             let listed = (text.same own.0).1 (spells-in (λ z t. Spells z t × Lacks t) x xs own.0 i (own.1, n)) in
-            absurd (closed-some own.0 (form.closed x own.0 q own.1) (member-empty text.members own.0 (sym none ∙ text.written) listed))
+            let closed = form.closed x own.0 q own.1 in
+            let e = sym (member-empty text.members own.0 (sym none ∙ text.written) listed) ∙ closed.parts in
+            let rest : 91 ∷ closed.inside ≡ [] = (both-empty closed.word (91 ∷ closed.inside) e).1 in absurd (cc)
       ]
 
   one-name : (path : List ℕ) (xs ys : List ParameterParts) (names : List (List ℕ)) → ArePairedNames xs ys names →
@@ -138,34 +145,30 @@ module _ (level : Level) (form : IsCanonicalForm IsParameter (SameParameter leve
       let i : IsIn name names = (are.same name).1 (rw (e, f) refl) in
       let parts : AreTextsOfParts level (parameter_path path name) (parts_of_parameter level x y) [] =
       rw (e, f) at (of-name level path xs ys names name i told) in
-      parts-same level x y ((of-once name xs x e).1 ∙ sym (of-once name ys y f).1)
+      parts-same level x y ((tell.found name xs x e).1 ∙ sym (tell.found name ys y f).1)
       (none-differs level (parameter_path path name) (parts_of_parameter level x y) parts)
 
   -- others have each of these
-  all-have : (xs ys : List ParameterParts) (written : List ℕ) → Each IsParameter xs → Each IsParameter ys → AreSameByName xs ys →
+  all-have : (xs ys : List ParameterParts) (written : List ℕ) → AreParameters xs → AreParameters ys → AreSameByName xs ys →
       IsLackingText Spells (unpaired xs ys) (unpaired ys xs) written → written ≡ [] → AllHaveSame (SameParameter level) xs ys
   all-have xs ys written g h named text none = all-of (SameParameter level) xs ys among
     where
-      passes : (these others : List ParameterParts) → ParameterParts → Bool
-      passes these others w = not (is_paired these others w.name)
-
       among : (z : ParameterParts) → IsIn z xs → IsAmong z ys
-      among z i = elim (cases_Bool (is_paired xs ys z.name)) [
-        | inl is ↦
-            let (x, y, p, q) = both-some (named_once z.name xs) (named_once z.name ys) is in
-            (y, (of-once z.name ys y q).0, subst (λ w. SameParameter level w y) (sym (is-once xs x z p i)) (named z.name x y p q))
-        | inr other ↦
-            let (y, j, same) = none-lacking (unpaired xs ys) (unpaired ys xs) written (each-passed IsParameter (passes xs ys) xs g)
-            (each-passed IsParameter (passes ys xs) ys h) text none z (in-passed (passes xs ys) z xs i (not_from_false (is_paired xs ys z.name) other)) in
-            (y, (from-passed (passes ys xs) y ys j).0, same)
+      among z i = elim (tell.either xs ys z i) [
+        | inl left ↦
+            let (y, j, same) = none-lacking (unpaired xs ys) (unpaired ys xs) written (λ w k. g w (tell.left xs ys w k))
+            (λ w k. h w (tell.left ys xs w k)) text none z left in (y, tell.left ys xs y j, same)
+        | inr (y, p, q) ↦ (y, (tell.found z.name ys y q).0, named z.name z y p q)
       ]
 
   pub told-set : (path : List ℕ) (xs ys : List ParameterParts) → Each IsParameter xs → Each IsParameter ys →
       AreTextsOfSet level path xs ys [] → SameSet (SameParameter level) xs ys
-  told-set path xs ys g h (names, these, others, are_names, told, (one, e, (here, first, second)), whole) =
-      let split = both-empty these others whole in
+  told-set path xs ys g h (names, texts, others, are_names, told, (one, e, (here, first, second)), whole) =
+      let split = both-empty texts others whole in
       let empty = left-out one.first one.second one (sym split.1 ∙ e) in
+      let these : AreParameters xs = each-has xs g in
+      let those : AreParameters ys = each-has ys h in
       let named : AreSameByName xs ys = one-name path xs ys names are_names (subst (AreTextsOfNames level path xs ys names) split.0 told) in (
-        all-have xs ys one.first g h named first empty.0,
-        all-have ys xs one.second h g (λ name y x f e. turn x y (named name x y e f)) second empty.1,
+        all-have xs ys one.first these those named first empty.0,
+        all-have ys xs one.second those these (λ name y x f e. turn x y (named name x y e f)) second empty.1,
       )

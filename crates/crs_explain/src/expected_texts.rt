@@ -1,8 +1,8 @@
 //! What is found at a place and what could stand there, as texts: a line for a person, and pieces for a program.
-ghost use Rattle.std.specs.Prelude.{◌≡◌, ◌++◌, ◌∷◌, [], OnOk, codes};
+ghost use Rattle.std.specs.Prelude.{◌≡◌, ◌++◌, ◌∷◌, [], None, OnOk, codes};
 ghost use Rattle.crs_explain.specs.Expectation.{expected_line, listed, node_at, or_nothing};
 
-use crate::names::{Name, append_listed, push_each};
+use crate::names::{Name, append_listed};
 use crate::pieces::Pieces;
 use crs_streams::append_number;
 use std::alloc::{AllocError, Global};
@@ -34,26 +34,54 @@ impl Model for ExpectedTexts {
     } };
 }
 
-/// Appends the line of what is found and what could stand there; nothing where that isn't known.
-pub(crate) fn append_expected(
-    expected: &Option<ExpectedTexts>,
-    out: &mut Vec<u8>,
-) -> Result<(), AllocError>
-    ensures { OnOk result (out.new.items ≡ out.old.items ++ expected_line (or_nothing expected.now)) }
-{
-    match expected {
-        Some(expected) => append_line(expected, out),
-        None => Ok(()),
+impl ExpectedTexts {
+    /// Nothing that is found or could stand there.
+    pub(crate) fn nothing(alloc: Global) -> ExpectedTexts
+        ensures { result ≡ or_nothing None }
+    {
+        ExpectedTexts {
+            node: Vec::new(alloc),
+            place: 0,
+            found: Vec::new(alloc),
+            names: Vec::new(alloc),
+            meant: Vec::new(alloc),
+        }
+    }
+
+    /// Appends the line of what is found and what could stand there; nothing where there are no names.
+    pub(crate) fn append_line(&self, out: &mut Vec<u8>) -> Result<(), AllocError>
+        ensures { OnOk result (out.new.items ≡ out.old.items ++ expected_line self.now) }
+    {
+        if self.names.is_empty() {
+            return Ok(());
+        }
+        append_node(&self.node, self.place, out)?;
+        append_rest(&self.found, &self.names, out)
+    }
+
+    /// Adds that line, the keyword of the node, and what is found to pieces.
+    pub(crate) fn push_found(&self, alloc: Global, out: &mut Pieces) -> Result<(), AllocError>
+        ensures { OnOk result (out.new ≡ out.old ++ expected_line self.now ∷ self.now.node ∷ self.now.found ∷ []) }
+    {
+        let mut line = Vec::new(alloc);
+        self.append_line(&mut line)?;
+        out.push(&line)?;
+        out.push(&self.node)?;
+        out.push(&self.found)
     }
 }
 
-/// Where the node begins; 0 where it isn't known what could stand there.
-pub(crate) fn place_of_node(expected: &Option<ExpectedTexts>) -> usize
-    ensures { result ≡ (or_nothing expected.now).place }
+/// What is expected, or nothing where that isn't known.
+pub(crate) fn or_nothing<'e>(
+    expected: &'e Option<ExpectedTexts>,
+    nothing: &'e ExpectedTexts,
+) -> &'e ExpectedTexts
+    requires { nothing.now ≡ or_nothing None }
+    ensures { result.now ≡ or_nothing expected.now }
 {
     match expected {
-        Some(expected) => expected.place,
-        None => 0,
+        Some(expected) => expected,
+        None => nothing,
     }
 }
 
@@ -63,56 +91,6 @@ pub(crate) fn meant_in(expected: &Option<ExpectedTexts>) -> &[u8] {
         Some(expected) => &expected.meant,
         None => b"",
     }
-}
-
-/// Adds the line, the keyword of the node, and what is found to pieces.
-pub(crate) fn push_found(
-    alloc: Global,
-    expected: &Option<ExpectedTexts>,
-    out: &mut Pieces,
-) -> Result<(), AllocError>
-    ensures { OnOk result (out.new ≡ out.old ++ expected_line (or_nothing expected.now)
-        ∷ (or_nothing expected.now).node ∷ (or_nothing expected.now).found ∷ []) }
-{
-    match expected {
-        Some(expected) => {
-            let mut line = Vec::new(alloc);
-            append_line(expected, &mut line)?;
-            push_three(&line, &expected.node, &expected.found, out)
-        }
-        None => push_three(b"", b"", b"", out),
-    }
-}
-
-fn push_three(first: &[u8], second: &[u8], third: &[u8], out: &mut Pieces) -> Result<(), AllocError>
-    ensures { OnOk result (out.new ≡ out.old ++ first.now ∷ second.now ∷ third.now ∷ []) }
-{
-    out.push(first)?;
-    out.push(second)?;
-    out.push(third)
-}
-
-/// Adds the name of each that could stand there to pieces.
-pub(crate) fn push_expected(
-    expected: &Option<ExpectedTexts>,
-    out: &mut Pieces,
-) -> Result<(), AllocError>
-    ensures { OnOk result (out.new ≡ out.old ++ (or_nothing expected.now).names) }
-{
-    match expected {
-        Some(expected) => push_each(&expected.names, out),
-        None => Ok(()),
-    }
-}
-
-fn append_line(expected: &ExpectedTexts, out: &mut Vec<u8>) -> Result<(), AllocError>
-    ensures { OnOk result (out.new.items ≡ out.old.items ++ expected_line expected.now) }
-{
-    if expected.names.is_empty() {
-        return Ok(());
-    }
-    append_node(&expected.node, expected.place, out)?;
-    append_rest(&expected.found, &expected.names, out)
 }
 
 // `: found AXIS, expected CS`, and a line feed.

@@ -10,6 +10,7 @@ ghost use Rattle.crs_explain.specs.DifferingSets.{AreTextsOfSet};
 ghost use Rattle.crs_explain.specs.DifferingTexts.{PartTexts, texts_exchanged};
 ghost use Rattle.crs_explain.specs.InOrder.{AreInOrder};
 
+use crs_canon::laws::names_tell_parameters;
 use crs_matching::laws::{
     same_idents_is_equivalence, same_parameter_is_equivalence, same_unit_is_equivalence,
     same_value_is_equivalence,
@@ -23,6 +24,7 @@ pub fn parameters_that_differ_are_told()
 {
     same_parameter_is_equivalence();
     conversions_are_canonical();
+    names_tell_parameters();
 }
 
 /// Two sets of parameters in the other order have the same texts, each with its values exchanged. Profile.

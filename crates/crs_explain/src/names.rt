@@ -1,5 +1,5 @@
 //! Names of what could stand at a place, each by itself, listed, and as an array of JSON.
-ghost use Rattle.std.specs.Prelude.{◌≡◌, ◌++◌, ◌∷◌, [], OnOk, codes, drop, length, ◌<◌};
+ghost use Rattle.std.specs.Prelude.{◌≡◌, ◌++◌, ◌∷◌, [], OnOk};
 ghost use Rattle.crs_explain.specs.Expectation.{listed};
 ghost use Rattle.crs_streams.specs.Json.{json_array, json_more, json_text};
 
@@ -44,42 +44,20 @@ pub(crate) fn push_name(bytes: &[u8], out: &mut Vec<Name>) -> Result<(), AllocEr
 pub(crate) fn append_listed(names: &[Name], out: &mut Vec<u8>) -> Result<(), AllocError>
     ensures { OnOk result (out.new.items ≡ out.old.items ++ listed names.now) }
 {
-    if names.len() < 3 {
-        return append_few(names, out);
-    }
-    out.extend_from_slice(names[0].bytes())?;
-    out.extend_from_slice(b", ")?;
-    append_listed(behind_first(names), out)?;
-    Ok(())
-}
-
-fn behind_first(names: &[Name]) -> &[Name]
-    ensures { result.now ≡ drop 1 names.now }
-{
-    match names {
-        [] => names,
-        [_, others @ ..] => others,
-    }
-}
-
-fn append_few(names: &[Name], out: &mut Vec<u8>) -> Result<(), AllocError>
-    requires { length names.now < 3 }
-    ensures { OnOk result (out.new.items ≡ out.old.items ++ listed names.now) }
-{
     match names {
         [] => Ok(()),
         [only] => out.extend_from_slice(only.bytes()),
-        [first, last] => append_two(first, last, out),
-        _ => unreachable!(),
+        [first, last] => {
+            out.extend_from_slice(first.bytes())?;
+            out.extend_from_slice(b" or ")?;
+            out.extend_from_slice(last.bytes())
+        }
+        [first, others @ ..] => {
+            out.extend_from_slice(first.bytes())?;
+            out.extend_from_slice(b", ")?;
+            append_listed(others, out)
+        }
     }
-}
-
-fn append_two(first: &Name, last: &Name, out: &mut Vec<u8>) -> Result<(), AllocError>
-    ensures { OnOk result (out.new.items ≡ out.old.items ++ (first.now ++ codes " or " ++ last.now)) }
-{
-    out.extend_from_slice(first.bytes())?;
-    out.extend_from_slice(b" or ")?;
-    out.extend_from_slice(last.bytes())
 }
 
 /// Adds each name to pieces.

@@ -1,5 +1,4 @@
 //! What is at a place of a well-formed text.
-ghost use Rattle.std.specs.Char.{is_ascii_whitespace};
 ghost use Rattle.std.specs.Prelude.{◌≡◌, ◌++◌, ◌≤◌, IfOk, OnOk, drop, length, take};
 ghost use Rattle.std.specs.List.{prefix_len};
 ghost use Rattle.crs_explain.specs.Found.{first_byte, found_in, is_of_word, named_by, opens, opens_after_white, word_found, word_of, word_shown};
@@ -43,19 +42,7 @@ fn append_word(there: &[u8], out: &mut Vec<u8>) -> Result<(), AllocError>
 fn opens_after_white(bytes: &[u8]) -> bool
     ensures { result ≡ opens_after_white bytes.now }
 {
-    opens(rest_of(bytes, white_length(bytes)))
-}
-
-fn white_length(bytes: &[u8]) -> usize
-    ensures { result ≡ prefix_len is_ascii_whitespace bytes.now }
-{
-    bytes.iter().take_while(|it| is_white(**it)).count()
-}
-
-fn is_white(byte: u8) -> bool
-    ensures { result ≡ is_ascii_whitespace byte }
-{
-    byte.is_ascii_whitespace()
+    opens(bytes.trim_ascii_start())
 }
 
 fn opens(bytes: &[u8]) -> bool

@@ -2,8 +2,9 @@
 ghost use Rattle.std.specs.Prelude.{◌≡◌, ◌++◌, ◌∷◌, ◌≤◌, [], IfOk, OnOk, codes, decimal, length};
 ghost use Rattle.crs_explain.specs.Explained.{AreExplainedPieces, IsExplained, explanation_pieces, explanation_text, head};
 
-use crate::expected_texts::{append_expected, place_of_node, push_expected, push_found};
+use crate::expected_texts::{ExpectedTexts, or_nothing};
 use crate::explanation::{ExplanationOf, explanation};
+use crate::names::push_each;
 use crate::pieces::Pieces;
 use crs_streams::{append_number, append_refusal};
 use crs_text::{Position, Refusal};
@@ -71,10 +72,11 @@ fn text_of(
 ) -> Result<Vec<u8>, AllocError>
     ensures { IfOk result (λ told. told.items ≡ explanation_text refusal explanation.now) }
 {
+    let nothing = ExpectedTexts::nothing(alloc);
     let mut told = Vec::new(alloc);
     append_head(refusal, explanation.position, &mut told)?;
     told.extend_from_slice(&explanation.excerpt)?;
-    append_expected(&explanation.expected, &mut told)?;
+    or_nothing(&explanation.expected, &nothing).append_line(&mut told)?;
     explanation.sentences.append_lines(&mut told)?;
     Ok(told)
 }
@@ -102,15 +104,17 @@ fn append_position(position: Position, out: &mut Vec<u8>) -> Result<(), AllocErr
 fn pieces_of(alloc: Global, explanation: &ExplanationOf) -> Result<ExplanationPieces, AllocError>
     ensures { IfOk result (λ told. told ≡ explanation_pieces explanation.now) }
 {
+    let nothing = ExpectedTexts::nothing(alloc);
+    let expected = or_nothing(&explanation.expected, &nothing);
     let mut pieces = Pieces::new(alloc);
     pieces.push(&explanation.excerpt)?;
-    push_found(alloc, &explanation.expected, &mut pieces)?;
+    expected.push_found(alloc, &mut pieces)?;
     explanation.sentences.push(&mut pieces)?;
-    push_expected(&explanation.expected, &mut pieces)?;
+    push_each(&expected.names, &mut pieces)?;
     Ok(ExplanationPieces {
         line: explanation.position.line,
         column: explanation.position.column,
-        node: place_of_node(&explanation.expected),
+        node: expected.place,
         pieces,
     })
 }
