@@ -1,14 +1,14 @@
 -- Ellipsoids and geodetic reference frames that are canonical as they stand are what is written of all that is read from
 -- them.
-use Rattle.std.proofs.Common.{◌≡◌, List, [], ◌∷◌, codes}
+use Rattle.std.proofs.Common.{◌≡◌, List, [], ◌∷◌, codes, refl}
 use Rattle.crs_text.specs.Prelude.{Item, End, number, text, item_text}
+use Rattle.crs_shape.specs.Prelude.{class_named, is_keyword}
 use Rattle.crs_shape.specs.declared.class.Class.TheVariants as class
 use Rattle.crs_shape.specs.declared.unit_kind.UnitKind.TheVariants as kinds
 use Rattle.crs_value.specs.Prelude.{ReadsEach, ReadsDatum, ReadsEllipsoid, ReadsIdent, ReadsNumberOf, ReadsTextOf, ReadsUnit, DatumParts, EllipsoidParts}
 use Rattle.crs_value.specs.Values.{IdentParts}
 use Rattle.crs_value.specs.declared.values.level.Level.{Level}
 use Rattle.crs_normal.specs.Prelude.{ellipsoid_text, item_datum, norm_datum, set_idents}
-use Rattle.crs_normal.proofs.read.NameLemmas.{keyword-names}
 use Rattle.crs_nodes.specs.Copied.{IsPlainDatum, IsPlainEllipsoid}
 use Rattle.crs_nodes.proofs.CopiedLemmas.{leaf-at, leaf-text, node-at, node-text, none-kept, none-read, number-said, some-read, those-in, unit-copied}
 
@@ -19,10 +19,11 @@ no-idents level (i ∷ is) r = absurd r
 
 pub ellipsoid-copied : (level : Level) (item : Item) (e : EllipsoidParts) → IsPlainEllipsoid level item → ReadsEllipsoid class.Ellipsoid item e →
     item_text item ≡ ellipsoid_text level e
+unfolding class_named is_keyword
 ellipsoid-copied level item e f r =
     let c = class.Ellipsoid in
     let g = f.is_unit in
-    let unit = node-at c class.LengthUnit f.unit g.are f.is_length (keyword-names c (codes "LENGTHUNIT")) in
+    let unit = node-at c class.LengthUnit f.unit g.are f.is_length refl in
     let of = those-in c item (leaf-at text c f.name f.is_name ∷ leaf-at number c f.axis f.is_axis.kind ∷ leaf-at number c f.flattening f.is_flattening.kind
     ∷ unit ∷ []) End f.are in
     let u = some-read (ReadsUnit class.LengthUnit) f.unit [] e.unit (rw (of class.LengthUnit) at r.unit) in
@@ -32,16 +33,17 @@ ellipsoid-copied level item e f r =
       leaf-text text f.name e.name f.is_name (rw (of class.Text) at r.name),
       number-said f.axis e.semi_major_axis f.is_axis (rw (of class.Number) at r.semi_major_axis),
       number-said f.flattening e.inverse_flattening f.is_flattening (rw (of class.Number) at r.inverse_flattening),
-      unit-copied level kinds.Length class.LengthUnit f.unit u.it (keyword-names class.LengthUnit (codes "ID")) g u.reads,
+      unit-copied level kinds.Length class.LengthUnit f.unit u.it refl g u.reads,
       no-idents level e.identifiers (rw (of class.Identifier) at r.identifiers),
     )
 
 pub datum-copied : (level : Level) (item : Item) (d : DatumParts) → IsPlainDatum level item → ReadsDatum class.GeodeticFrame item d →
     item_text item ≡ item_text (item_datum (codes "DATUM") (norm_datum level d))
+unfolding class_named is_keyword
 datum-copied level item d f r =
     let c = class.GeodeticFrame in
     let g = f.is_ellipsoid in
-    let ellipsoid = node-at c class.Ellipsoid f.ellipsoid g.are g.keyword (keyword-names c (codes "ELLIPSOID")) in
+    let ellipsoid = node-at c class.Ellipsoid f.ellipsoid g.are g.keyword refl in
     let of = those-in c item (leaf-at text c f.name f.is_name ∷ ellipsoid ∷ []) End f.are in
     let e = some-read (ReadsEllipsoid class.Ellipsoid) f.ellipsoid [] d.ellipsoid (rw (of class.Ellipsoid) at r.ellipsoid) in
     rw (

@@ -4,7 +4,7 @@ use denote.Enum.Bare.{sameb}
 use Rattle.crs_decimal.specs.Prelude.{plain, Value}
 use Rattle.crs_text.specs.Prelude.{Item, Siblings, leaf, End, More, arguments, kind_of_item, place_of, raw_of, Kind, number, text, item_text, others_text}
 use Rattle.crs_text.specs.declared.items.ItemKind.TheVariants as items
-use Rattle.crs_shape.specs.Prelude.{class_named, class_in, class_of_kind, kind_as, unit_word}
+use Rattle.crs_shape.specs.Prelude.{class_named, class_in, class_of_kind, is_keyword, kind_as, unit_word}
 use Rattle.crs_shape.specs.contracts.class.Class.{the_type}
 use Rattle.crs_shape.specs.declared.class.Class.{Class}
 use Rattle.crs_shape.specs.declared.class.Class.TheVariants as class
@@ -15,8 +15,6 @@ use Rattle.crs_value.specs.Values.{IdentParts}
 use Rattle.crs_value.specs.declared.values.level.Level.{Level}
 use Rattle.crs_value.specs.declared.values.level.Level.TheVariants as levels
 use Rattle.crs_normal.specs.Prelude.{method_text, parameter_text, each, is_short, item_ident, item_unit, norm_unit, set_idents}
-use Rattle.crs_normal.proofs.read.NameLemmas.{keyword-names}
-use Rattle.crs_normal.proofs.texts.WordFormLemmas.{kind-one}
 use Rattle.crs_nodes.specs.Copied.{IsEnd, IsPlainMethod, IsPlainNumber, IsPlainParameter, IsPlainly, IsSaidUnit, IsShortIdent, SaysKind}
 
 -- ---- arguments by their numbers
@@ -158,13 +156,14 @@ end-copied level c (More item End) is named e r = one is (rw (ident-in c item na
 
 pub method-copied : (level : Level) (item : Item) (m : MethodParts) → IsPlainMethod level item → ReadsMethod class.Method item m →
     item_text item ≡ method_text level m
+unfolding class_named is_keyword
 method-copied level item m f r =
     let c = class.Method in
     let of = those-in c item (leaf-at text c f.name f.is_name ∷ []) f.rest f.are in
     rw (
       node-text item f.are f.keyword,
       leaf-text text f.name m.name f.is_name (rw (of class.Text) at r.name),
-      end-copied level c f.rest m.identifiers (keyword-names c (codes "ID")) f.is_end (rw (of class.Identifier) at r.identifiers),
+      end-copied level c f.rest m.identifiers refl f.is_end (rw (of class.Identifier) at r.identifiers),
     )
 
 -- ---- units
@@ -177,10 +176,9 @@ pub unit-copied : (level : Level) (asked : UnitKind) (c : Class) (item : Item) (
 unit-copied level asked c item u named f r =
     let of = those-in c item (leaf-at text c f.name f.is_name ∷ leaf-at number c f.factor f.is_factor.kind ∷ []) f.rest f.are in
     let k = f.keyword.0 in
-    let kind : k ≡ u.kind = kind-one k u.kind (rw f.keyword.2 at r.kind) in
     rw (
-      node-text item f.are f.keyword.2,
-      ← kind,
+      node-text item f.are f.keyword.2.is,
+      f.keyword.2.only u.kind r.kind,
       as-said asked k f.keyword.1,
       leaf-text text f.name u.name f.is_name (rw (of class.Text) at r.name),
       number-said f.factor u.factor f.is_factor (rw (of class.Number) at r.factor),
@@ -198,10 +196,11 @@ unit_class kinds.Plain = class.PlainUnit
 
 unit-names : (k : UnitKind) →
     (class_named class.Parameter (unit_word k) ≡ Some (unit_class k)) × Identifies (unit_class k) × (sameb the_type (unit_class k) class.Identifier ≡ false)
-unit-names kinds.Length = (keyword-names class.Parameter (codes "LENGTHUNIT"), keyword-names class.LengthUnit (codes "ID"), refl)
-unit-names kinds.Angle = (keyword-names class.Parameter (codes "ANGLEUNIT"), keyword-names class.AngleUnit (codes "ID"), refl)
-unit-names kinds.Scale = (keyword-names class.Parameter (codes "SCALEUNIT"), keyword-names class.ScaleUnit (codes "ID"), refl)
-unit-names kinds.Plain = (keyword-names class.Parameter (codes "UNIT"), keyword-names class.PlainUnit (codes "ID"), refl)
+unfolding class_named is_keyword
+unit-names kinds.Length = (refl, refl, refl)
+unit-names kinds.Angle = (refl, refl, refl)
+unit-names kinds.Scale = (refl, refl, refl)
+unit-names kinds.Plain = (refl, refl, refl)
 
 as-unit : (d : Class) (unit : Item) (o : Option UnitParts) → ReadsAsUnit d unit o → IsSome (ReadsUnit d) unit o
 as-unit d unit None r = absurd r
@@ -229,13 +228,14 @@ unit-read kinds.Scale item unit rest o of none r =
 
 pub parameter-copied : (level : Level) (item : Item) (p : ParameterParts) → IsPlainParameter level item → ReadsParameter class.Parameter item p →
     item_text item ≡ parameter_text level p
+unfolding class_named is_keyword
 parameter-copied level item p f r =
     let c = class.Parameter in
-    let idents : Identifies c = keyword-names c (codes "ID") in
+    let idents : Identifies c = refl in
     let g = f.is_unit in
     let k = g.keyword.0 in
     let names = unit-names k in
-    let unit = node-at c (unit_class k) f.unit g.are g.keyword.2 names.0 in
+    let unit = node-at c (unit_class k) f.unit g.are g.keyword.2.is names.0 in
     let of = those-in c item (leaf-at text c f.name f.is_name ∷ leaf-at number c f.value f.is_value.kind ∷ unit ∷ []) f.rest f.are in
     let u = as-unit (unit_class k) f.unit p.unit
     (unit-read k item f.unit f.rest p.unit (λ d t n. rw (of d, t, n)) (λ d. end-none level c d f.rest idents f.is_end) r.unit) in

@@ -1,12 +1,12 @@
 -- Usages that are canonical as they stand are what is written of all that is read from them.
-use Rattle.std.proofs.Common.{◌≡◌, ℕ, List, [], ◌∷◌, codes}
+use Rattle.std.proofs.Common.{◌≡◌, ℕ, List, [], ◌∷◌, codes, refl}
 use Rattle.crs_text.specs.Prelude.{Item, End, number, text, item_text}
+use Rattle.crs_shape.specs.Prelude.{class_named, is_keyword}
 use Rattle.crs_shape.specs.declared.class.Class.{Class}
 use Rattle.crs_shape.specs.declared.class.Class.TheVariants as class
 use Rattle.crs_value.specs.Prelude.{ReadsBox, ReadsExtent, ReadsTextOf, ReadsUsage, BoxParts, UsageParts}
 use Rattle.crs_value.specs.declared.values.level.Level.{Level}
 use Rattle.crs_normal.specs.Prelude.{usage_text, text_node, item_box}
-use Rattle.crs_normal.proofs.read.NameLemmas.{keyword-names}
 use Rattle.crs_nodes.specs.Copied.{IsPlainBox, IsPlainUsage, IsTextNode}
 use Rattle.crs_nodes.proofs.CopiedLemmas.{leaf-at, leaf-text, node-at, node-text, none-read, number-said, some-read, those-in}
 
@@ -30,14 +30,15 @@ box-said c item b f r =
     )
 
 pub usage-copied : (level : Level) (item : Item) (u : UsageParts) → IsPlainUsage item → ReadsUsage class.Usage item u → item_text item ≡ usage_text level u
+unfolding class_named is_keyword
 usage-copied level item u f r =
     let c = class.Usage in
     let i = f.is_scope in
     let j = f.is_area in
     let k = f.is_bbox in
-    let scope = node-at c class.Scope f.scope i.are i.keyword (keyword-names c (codes "SCOPE")) in
-    let area = node-at c class.Area f.area j.are j.keyword (keyword-names c (codes "AREA")) in
-    let bbox = node-at c class.BoundingBox f.bbox k.are k.keyword (keyword-names c (codes "BBOX")) in
+    let scope = node-at c class.Scope f.scope i.are i.keyword refl in
+    let area = node-at c class.Area f.area j.are j.keyword refl in
+    let bbox = node-at c class.BoundingBox f.bbox k.are k.keyword refl in
     let of = those-in c item (scope ∷ area ∷ bbox ∷ []) End f.are in
     let s = some-read (ReadsTextOf class.Scope) f.scope [] u.scope (rw (of class.Scope) at r.scope) in
     let a = some-read (ReadsTextOf class.Area) f.area [] u.area (rw (of class.Area) at r.area) in

@@ -5,7 +5,7 @@ use Rattle.crs_decimal.specs.Value.{Value}
 use Rattle.crs_text.specs.Items.{HasId, Item, Siblings, End, More, arguments, kind_of_item, raw_of}
 use Rattle.crs_text.specs.declared.items.ItemKind.{ItemKind}
 use Rattle.crs_text.specs.declared.items.ItemKind.TheVariants as items
-use Rattle.crs_shape.specs.Words.{direction_word, unit_word}
+use Rattle.crs_shape.specs.Words.{SpellsWord, direction_word, unit_word}
 use Rattle.crs_shape.specs.declared.direction.Direction.{Direction}
 use Rattle.crs_shape.specs.declared.unit_kind.UnitKind.{UnitKind}
 use Rattle.crs_shape.specs.declared.unit_kind.UnitKind.TheVariants as kinds
@@ -58,9 +58,14 @@ SaysKind kinds.Angle = Unit {0}
 SaysKind kinds.Scale = Unit {0}
 SaysKind kinds.Plain = ⊥
 
+-- the bytes are the word of this value, and spell that of no other
+pub record IsWordOf {V : Type 0} (word : V → List ℕ) (raw : List ℕ) (value : V) : Type 0 where
+  pub is : raw ≡ word value
+  pub only : (other : V) → SpellsWord raw (word other) → other ≡ value
+
 -- the bytes are the keyword of such a kind
 abbrev pub IsSaidKind : List ℕ → Type 0
-IsSaidKind raw = (kind : UnitKind) × SaysKind kind × (raw ≡ unit_word kind)
+IsSaidKind raw = (kind : UnitKind) × SaysKind kind × IsWordOf unit_word raw kind
 
 -- a unit whose keyword says its kind
 pub record IsSaidUnit (level : Level) (item : Item) : Type 0 where
@@ -151,7 +156,7 @@ pub record IsPlainDatum (level : Level) (item : Item) : Type 0 where
 
 -- the bytes are the word of a direction in its own letters
 abbrev pub IsDirectionWord : List ℕ → Type 0
-IsDirectionWord raw = (direction : Direction) × (raw ≡ direction_word direction)
+IsDirectionWord raw = (direction : Direction) × IsWordOf direction_word raw direction
 
 -- the order that this number is
 pub record IsPlainOrder (position : ℕ) (item : Item) : Type 0 where

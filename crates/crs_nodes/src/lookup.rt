@@ -1,7 +1,8 @@
 //! The arguments of a node, by their class.
 ghost use Rattle.std.specs.Prelude.{◌≡◌, IsTrue, drop};
 ghost use Rattle.crs_text.specs.Items.{arguments, rest_of, here, HasId};
-ghost use Rattle.crs_value.specs.Reading.{item_at, ahead, Holds, those, IsFound};
+ghost use Rattle.crs_value.specs.FoundArguments.{from_found};
+ghost use Rattle.crs_value.specs.Reading.{item_at, ahead, Holds, those};
 ghost use Rattle.crs_nodes.specs.Found.{AreLeaves};
 
 use crs_shape::{Class, Sought};
@@ -20,7 +21,8 @@ pub fn is_flat(items: &Items<'_>, id: ItemId) -> bool
 #[inline(always)]
 fn found(items: &Items<'_>, from: Option<ItemId>, parent: Class, class: Class) -> Option<ItemId>
     requires { Holds items.now from }
-    ensures { IsFound items.now parent class (those parent class (ahead items.now from)) result }
+    ensures holds { Holds items.now result }
+    ensures all { from_found items.now parent class result ≡ those parent class (ahead items.now from) }
 {
     let sought = Sought::new(parent, class);
     let mut at = from;
@@ -37,8 +39,8 @@ fn found(items: &Items<'_>, from: Option<ItemId>, parent: Class, class: Class) -
 #[inline(always)]
 pub fn first(items: &Items<'_>, id: ItemId, parent: Class, class: Class) -> Option<ItemId>
     requires { HasId items.now id }
-    ensures { IsFound items.now parent class (those parent class (arguments
-        (item_at items.now id))) result }
+    ensures holds { Holds items.now result }
+    ensures all { from_found items.now parent class result ≡ those parent class (arguments (item_at items.now id)) }
 {
     found(items, items.arg(id, 0), parent, class)
 }
@@ -47,7 +49,8 @@ pub fn first(items: &Items<'_>, id: ItemId, parent: Class, class: Class) -> Opti
 #[inline(always)]
 pub fn later(items: &Items<'_>, id: ItemId, parent: Class, class: Class) -> Option<ItemId>
     requires { HasId items.now id }
-    ensures { IsFound items.now parent class (those parent class (rest_of (here items.now id))) result }
+    ensures holds { Holds items.now result }
+    ensures all { from_found items.now parent class result ≡ those parent class (rest_of (here items.now id)) }
 {
     found(items, items.next(id), parent, class)
 }
@@ -56,8 +59,9 @@ pub fn later(items: &Items<'_>, id: ItemId, parent: Class, class: Class) -> Opti
 #[inline(always)]
 pub fn nth(items: &Items<'_>, id: ItemId, parent: Class, class: Class, k: usize) -> Option<ItemId>
     requires { HasId items.now id }
-    ensures { IsFound items.now parent class (drop k (those parent class (arguments
-        (item_at items.now id)))) result }
+    ensures holds { Holds items.now result }
+    ensures all { from_found items.now parent class result
+        ≡ drop k (those parent class (arguments (item_at items.now id))) }
 {
     let mut at = first(items, id, parent, class);
     for _step in 0..k {
