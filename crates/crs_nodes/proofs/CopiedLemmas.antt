@@ -1,29 +1,20 @@
 -- Nodes of the commonest forms, where they are canonical as they stand, are what is written of all that is read from them.
-use Rattle.std.proofs.Common.{arith, ◌≡◌, ℕ, false, if◌then◌else◌, List, [], ◌∷◌, ◌++◌, Option, Some, None, codes, refl, sym, ap, subst, ◌∙◌}
+use Rattle.std.proofs.Common.{arith, ◌≡◌, ℕ, false, if◌then◌else◌, List, [], ◌∷◌, ◌++◌, Option, Some, None, codes, refl, sym, ap, ◌∙◌}
 use denote.Enum.Bare.{sameb}
 use Rattle.crs_decimal.specs.Prelude.{plain, Value}
 use Rattle.crs_text.specs.Prelude.{Item, Siblings, leaf, End, More, arguments, kind_of_item, place_of, raw_of, Kind, number, text, item_text, others_text}
-use Rattle.crs_text.specs.declared.items.ItemKind.TheVariants as items
 use Rattle.crs_shape.specs.Prelude.{class_named, class_in, class_of_kind, is_keyword, kind_as, unit_word}
 use Rattle.crs_shape.specs.contracts.class.Class.{the_type}
 use Rattle.crs_shape.specs.declared.class.Class.{Class}
 use Rattle.crs_shape.specs.declared.class.Class.TheVariants as class
 use Rattle.crs_shape.specs.declared.unit_kind.UnitKind.{UnitKind}
 use Rattle.crs_shape.specs.declared.unit_kind.UnitKind.TheVariants as kinds
-use Rattle.crs_value.specs.Prelude.{MethodParts, ParameterParts, ahead, those, ReadsEach, ReadsOptional, ReadsIdent, ReadsNumber, ReadsText, ReadsTextOf, ReadsUnit, ReadsAsUnit, ReadsMethod, ReadsParameter, ReadsUnitOf, parameter_units, UnitParts}
+use Rattle.crs_value.specs.Prelude.{MethodParts, ParameterParts, those, ReadsEach, ReadsOptional, ReadsIdent, ReadsNumber, ReadsText, ReadsTextOf, ReadsUnit, ReadsAsUnit, ReadsMethod, ReadsParameter, ReadsUnitOf, parameter_units, UnitParts}
 use Rattle.crs_value.specs.Values.{IdentParts}
 use Rattle.crs_value.specs.declared.values.level.Level.{Level}
 use Rattle.crs_value.specs.declared.values.level.Level.TheVariants as levels
 use Rattle.crs_normal.specs.Prelude.{method_text, parameter_text, each, is_short, item_ident, item_unit, norm_unit, set_idents}
-use Rattle.crs_nodes.specs.Copied.{IsEnd, IsPlainMethod, IsPlainNumber, IsPlainParameter, IsPlainly, IsSaidUnit, IsShortIdent, SaysKind}
-
--- ---- arguments by their numbers
-
-pub number-by : (item : Item) (raw : List ℕ) → kind_of_item item ≡ items.Number → raw ≡ raw_of item → IsPlainly raw → IsPlainNumber item
-number-by item raw k e p = record { kind = k; plain = subst IsPlainly e p }
-
-pub none-ahead : (tree : Item) (at : Option ℕ) → at ≡ None → ahead tree at ≡ End
-none-ahead tree at e = rw e
+use Rattle.crs_nodes.specs.Copied.{IsEnd, IsPlainMethod, IsPlainNumber, IsPlainParameter, IsSaidUnit, IsShortIdent, SaysKind}
 
 -- ---- items that are no nodes
 

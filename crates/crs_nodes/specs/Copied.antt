@@ -16,6 +16,12 @@ use Rattle.crs_normal.specs.SpelledItems.{is_short}
 use Rattle.crs_normal.specs.SpelledUnits.{whole_value}
 use Rattle.crs_nodes.specs.Found.{IsNumber}
 
+-- a node of this keyword, and the number of its first argument
+pub record IsOpened (tree : Item) (id : ℕ) (keyword : List ℕ) (at : Option ℕ) : Type 0 where
+  pub is_keyword : raw_of (item_at tree id) ≡ keyword
+  pub holds : Holds tree at
+  pub are : ahead tree at ≡ arguments (item_at tree id)
+
 -- the next argument, which is of this kind, and the number of the one behind it
 pub record IsNext (tree : Item) (at : Option ℕ) (kind : ItemKind) (id : ℕ) (next : Option ℕ) : Type 0 where
   pub has : HasId tree id

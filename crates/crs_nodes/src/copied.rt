@@ -2,7 +2,7 @@
 //! node isn't said to be of its form says nothing: it is written part by part.
 ghost use Rattle.std.specs.Prelude.{◌≡◌, IfSome, IsTrue, codes};
 ghost use Rattle.crs_decimal.specs.Plain.{plain};
-ghost use Rattle.crs_text.specs.Items.{HasId, arguments};
+ghost use Rattle.crs_text.specs.Items.{End, HasId, Item};
 ghost use Rattle.crs_text.specs.Written.{item_text};
 ghost use Rattle.crs_value.specs.ConversionValues.{MethodParts, ParameterParts};
 ghost use Rattle.crs_value.specs.Reading.{Holds, ahead, item_at};
@@ -13,9 +13,10 @@ ghost use Rattle.crs_normal.specs.PartTexts.{method_text, parameter_text, usage_
 ghost use Rattle.crs_normal.specs.SpelledFrames.{item_datum, norm_datum};
 ghost use Rattle.crs_normal.specs.SpelledSystems.{item_axis, norm_axis};
 ghost use Rattle.crs_normal.specs.SpelledUnits.{item_ident, whole_value};
-ghost use Rattle.crs_nodes.specs.Copied.{IsDirectionWord, IsEnd, IsNext, IsPlainAxis, IsPlainBox, IsPlainDatum};
-ghost use Rattle.crs_nodes.specs.Copied.{IsPlainEllipsoid, IsPlainMethod, IsPlainOrder, IsPlainParameter, IsPlainUsage};
-ghost use Rattle.crs_nodes.specs.Copied.{IsPlainly, IsSaidKind, IsSaidUnit, IsShortIdent, IsTextNode};
+ghost use Rattle.crs_nodes.specs.Copied.{IsDirectionWord, IsEnd, IsNext, IsOpened, IsPlainAxis, IsPlainBox};
+ghost use Rattle.crs_nodes.specs.Copied.{IsPlainDatum, IsPlainEllipsoid, IsPlainMethod, IsPlainNumber, IsPlainOrder};
+ghost use Rattle.crs_nodes.specs.Copied.{IsPlainParameter, IsPlainUsage, IsPlainly, IsSaidKind, IsSaidUnit};
+ghost use Rattle.crs_nodes.specs.Copied.{IsShortIdent, IsTextNode};
 ghost use Rattle.crs_nodes.specs.Cursor.{item};
 
 use crate::digits::is_short;
@@ -29,12 +30,16 @@ use itoa::Buffer;
 
 // ---- arguments one after another
 
-fn first_of(items: &Items<'_>, id: ItemId) -> Option<ItemId>
+// The first argument of a node that has this keyword.
+#[inline(always)]
+fn opened(items: &Items<'_>, id: ItemId, keyword: &[u8]) -> Option<Option<ItemId>>
     requires { HasId items.now id }
-    ensures holds { Holds items.now result }
-    ensures are { ahead items.now result ≡ arguments (item_at items.now id) }
+    ensures { IfSome result (λ at. IsOpened items.now id keyword.now at) }
 {
-    items.arg(id, 0)
+    if items.raw(id) != keyword {
+        return None;
+    }
+    Some(items.arg(id, 0))
 }
 
 // The argument that comes next, if it is of this kind, and the one behind it.
@@ -56,6 +61,32 @@ fn next_of(
     Some((id, items.next(id)))
 }
 
+// The same, if it is a number in its plain spelling.
+#[inline(always)]
+fn next_plain(items: &Items<'_>, at: Option<ItemId>) -> Option<(ItemId, Option<ItemId>)>
+    requires { Holds items.now at }
+    ensures next { IfSome result (λ found. IsNext items.now at ItemKind.Number found.0 found.1) }
+    ensures plain { IfSome result (λ found. IsPlainNumber (item_at items.now found.0)) }
+{
+    let (number, next) = next_of(items, at, ItemKind::Number)?;
+    if is_plainly(items.raw(number)) {
+        Some((number, next))
+    } else {
+        None
+    }
+}
+
+// Nothing comes next.
+#[inline(always)]
+fn none_next(at: Option<ItemId>) -> Option<()>
+    ensures { IfSome result (λ _. (tree : Item) → ahead tree at ≡ End) }
+{
+    match at {
+        None => Some(()),
+        Some(_) => None,
+    }
+}
+
 // ---- numbers and keywords
 
 // Whether these bytes are the plain spelling of the number that they spell.
@@ -75,204 +106,6 @@ fn is_said_kind(raw: &[u8]) -> bool
         || raw == b"SCALEUNIT".as_slice()
 }
 
-// ---- forms
-
-fn is_short_ident(items: &Items<'_>, id: ItemId) -> bool
-    requires { HasId items.now id }
-    ensures { IsTrue result → IsShortIdent (item_at items.now id) }
-{
-    let Some((_authority, at)) = next_of(items, first_of(items, id), ItemKind::Text) else {
-        return false;
-    };
-    let Some((code, end)) = next_of(items, at, ItemKind::Number) else {
-        return false;
-    };
-    end.is_none() && items.raw(id) == b"ID".as_slice() && is_short(items.raw(code))
-}
-
-fn is_end(items: &Items<'_>, at: Option<ItemId>, level: Level) -> bool
-    requires { Holds items.now at }
-    ensures { IsTrue result → IsEnd level (ahead items.now at) }
-{
-    let Some(id) = at else {
-        return true;
-    };
-    keeps(level) && items.next(id).is_none() && is_short_ident(items, id)
-}
-
-fn is_said_unit(items: &Items<'_>, id: ItemId, level: Level) -> bool
-    requires { HasId items.now id }
-    ensures { IsTrue result → IsSaidUnit level (item_at items.now id) }
-{
-    let Some((_name, at)) = next_of(items, first_of(items, id), ItemKind::Text) else {
-        return false;
-    };
-    let Some((factor, end)) = next_of(items, at, ItemKind::Number) else {
-        return false;
-    };
-    is_said_kind(items.raw(id)) && is_plainly(items.raw(factor)) && is_end(items, end, level)
-}
-
-fn is_plain_method(items: &Items<'_>, id: ItemId, level: Level) -> bool
-    requires { HasId items.now id }
-    ensures { IsTrue result → IsPlainMethod level (item_at items.now id) }
-{
-    let Some((_name, end)) = next_of(items, first_of(items, id), ItemKind::Text) else {
-        return false;
-    };
-    items.raw(id) == b"METHOD".as_slice() && is_end(items, end, level)
-}
-
-fn is_plain_parameter(items: &Items<'_>, id: ItemId, level: Level) -> bool
-    requires { HasId items.now id }
-    ensures { IsTrue result → IsPlainParameter level (item_at items.now id) }
-{
-    let Some((_name, at)) = next_of(items, first_of(items, id), ItemKind::Text) else {
-        return false;
-    };
-    let Some((value, at)) = next_of(items, at, ItemKind::Number) else {
-        return false;
-    };
-    let Some((unit, end)) = next_of(items, at, ItemKind::Node) else {
-        return false;
-    };
-    if items.raw(id) != b"PARAMETER".as_slice() {
-        return false;
-    }
-    if !is_plainly(items.raw(value)) {
-        return false;
-    }
-    if !is_said_unit(items, unit, level) {
-        return false;
-    }
-    is_end(items, end, level)
-}
-
-fn is_text_node(items: &Items<'_>, id: ItemId, word: &[u8]) -> bool
-    requires { HasId items.now id }
-    ensures { IsTrue result → IsTextNode word.now (item_at items.now id) }
-{
-    let Some((_inner, end)) = next_of(items, first_of(items, id), ItemKind::Text) else {
-        return false;
-    };
-    end.is_none() && items.raw(id) == word
-}
-
-fn is_plain_box(items: &Items<'_>, id: ItemId) -> bool
-    requires { HasId items.now id }
-    ensures { IsTrue result → IsPlainBox (item_at items.now id) }
-{
-    let Some((south, at)) = next_of(items, first_of(items, id), ItemKind::Number) else {
-        return false;
-    };
-    let Some((west, at)) = next_of(items, at, ItemKind::Number) else {
-        return false;
-    };
-    let Some((north, at)) = next_of(items, at, ItemKind::Number) else {
-        return false;
-    };
-    let Some((east, end)) = next_of(items, at, ItemKind::Number) else {
-        return false;
-    };
-    if end.is_some() {
-        return false;
-    }
-    if items.raw(id) != b"BBOX".as_slice() {
-        return false;
-    }
-    if !is_plainly(items.raw(south)) {
-        return false;
-    }
-    if !is_plainly(items.raw(west)) {
-        return false;
-    }
-    if !is_plainly(items.raw(north)) {
-        return false;
-    }
-    is_plainly(items.raw(east))
-}
-
-fn is_plain_usage(items: &Items<'_>, id: ItemId) -> bool
-    requires { HasId items.now id }
-    ensures { IsTrue result → IsPlainUsage (item_at items.now id) }
-{
-    let Some((scope, at)) = next_of(items, first_of(items, id), ItemKind::Node) else {
-        return false;
-    };
-    let Some((area, at)) = next_of(items, at, ItemKind::Node) else {
-        return false;
-    };
-    let Some((bbox, end)) = next_of(items, at, ItemKind::Node) else {
-        return false;
-    };
-    if end.is_some() {
-        return false;
-    }
-    if items.raw(id) != b"USAGE".as_slice() {
-        return false;
-    }
-    if !is_text_node(items, scope, b"SCOPE") {
-        return false;
-    }
-    if !is_text_node(items, area, b"AREA") {
-        return false;
-    }
-    is_plain_box(items, bbox)
-}
-
-fn is_plain_ellipsoid(items: &Items<'_>, id: ItemId, level: Level) -> bool
-    requires { HasId items.now id }
-    ensures { IsTrue result → IsPlainEllipsoid level (item_at items.now id) }
-{
-    let Some((_name, at)) = next_of(items, first_of(items, id), ItemKind::Text) else {
-        return false;
-    };
-    let Some((axis, at)) = next_of(items, at, ItemKind::Number) else {
-        return false;
-    };
-    let Some((flattening, at)) = next_of(items, at, ItemKind::Number) else {
-        return false;
-    };
-    let Some((unit, end)) = next_of(items, at, ItemKind::Node) else {
-        return false;
-    };
-    if end.is_some() {
-        return false;
-    }
-    if items.raw(id) != b"ELLIPSOID".as_slice() {
-        return false;
-    }
-    if !is_plainly(items.raw(axis)) {
-        return false;
-    }
-    if !is_plainly(items.raw(flattening)) {
-        return false;
-    }
-    if items.raw(unit) != b"LENGTHUNIT".as_slice() {
-        return false;
-    }
-    is_said_unit(items, unit, level)
-}
-
-fn is_plain_datum(items: &Items<'_>, id: ItemId, level: Level) -> bool
-    requires { HasId items.now id }
-    ensures { IsTrue result → IsPlainDatum level (item_at items.now id) }
-{
-    let Some((_name, at)) = next_of(items, first_of(items, id), ItemKind::Text) else {
-        return false;
-    };
-    let Some((ellipsoid, end)) = next_of(items, at, ItemKind::Node) else {
-        return false;
-    };
-    if end.is_some() {
-        return false;
-    }
-    if items.raw(id) != b"DATUM".as_slice() {
-        return false;
-    }
-    is_plain_ellipsoid(items, ellipsoid, level)
-}
-
 fn is_direction_word(raw: &[u8]) -> bool
     ensures { IsTrue result → IsDirectionWord raw.now }
 {
@@ -290,54 +123,167 @@ fn is_position(raw: &[u8], position: u64) -> bool
     digits.format(position).as_bytes() == raw
 }
 
-fn is_plain_order(items: &Items<'_>, id: ItemId, position: u64) -> bool
+// ---- forms: `Some` where the item has the form
+
+fn short_ident(items: &Items<'_>, id: ItemId) -> Option<()>
     requires { HasId items.now id }
-    ensures { IsTrue result → IsPlainOrder position (item_at items.now id) }
+    ensures { IfSome result (λ _. IsShortIdent (item_at items.now id)) }
 {
-    let Some((number, end)) = next_of(items, first_of(items, id), ItemKind::Number) else {
-        return false;
-    };
-    if end.is_some() {
-        return false;
+    let at = opened(items, id, b"ID")?;
+    let (_authority, at) = next_of(items, at, ItemKind::Text)?;
+    let (code, at) = next_of(items, at, ItemKind::Number)?;
+    none_next(at)?;
+    if is_short(items.raw(code)) {
+        Some(())
+    } else {
+        None
     }
-    if items.raw(id) != b"ORDER".as_slice() {
-        return false;
-    }
-    is_position(items.raw(number), position)
 }
 
-fn is_plain_axis(items: &Items<'_>, id: ItemId, position: u64, level: Level) -> bool
-    requires { HasId items.now id }
-    ensures { IsTrue result → IsPlainAxis level position (item_at items.now id) }
+fn ends(items: &Items<'_>, at: Option<ItemId>, level: Level) -> Option<()>
+    requires { Holds items.now at }
+    ensures { IfSome result (λ _. IsEnd level (ahead items.now at)) }
 {
-    let Some((_name, at)) = next_of(items, first_of(items, id), ItemKind::Text) else {
-        return false;
+    let Some(id) = at else {
+        return Some(());
     };
-    let Some((direction, at)) = next_of(items, at, ItemKind::Word) else {
-        return false;
-    };
-    let Some((order, at)) = next_of(items, at, ItemKind::Node) else {
-        return false;
-    };
-    let Some((unit, end)) = next_of(items, at, ItemKind::Node) else {
-        return false;
-    };
-    if items.raw(id) != b"AXIS".as_slice() {
-        return false;
+    if !keeps(level) || items.next(id).is_some() {
+        return None;
     }
+    short_ident(items, id)?;
+    Some(())
+}
+
+fn said_unit(items: &Items<'_>, id: ItemId, level: Level) -> Option<()>
+    requires { HasId items.now id }
+    ensures { IfSome result (λ _. IsSaidUnit level (item_at items.now id)) }
+{
+    if !is_said_kind(items.raw(id)) {
+        return None;
+    }
+    let (_name, at) = next_of(items, items.arg(id, 0), ItemKind::Text)?;
+    let (_factor, at) = next_plain(items, at)?;
+    ends(items, at, level)
+}
+
+fn plain_method(items: &Items<'_>, id: ItemId, level: Level) -> Option<()>
+    requires { HasId items.now id }
+    ensures { IfSome result (λ _. IsPlainMethod level (item_at items.now id)) }
+{
+    let at = opened(items, id, b"METHOD")?;
+    let (_name, at) = next_of(items, at, ItemKind::Text)?;
+    ends(items, at, level)
+}
+
+fn plain_parameter(items: &Items<'_>, id: ItemId, level: Level) -> Option<()>
+    requires { HasId items.now id }
+    ensures { IfSome result (λ _. IsPlainParameter level (item_at items.now id)) }
+{
+    let at = opened(items, id, b"PARAMETER")?;
+    let (_name, at) = next_of(items, at, ItemKind::Text)?;
+    let (_value, at) = next_plain(items, at)?;
+    let (unit, at) = next_of(items, at, ItemKind::Node)?;
+    said_unit(items, unit, level)?;
+    ends(items, at, level)?;
+    Some(())
+}
+
+fn text_node(items: &Items<'_>, id: ItemId, word: &[u8]) -> Option<()>
+    requires { HasId items.now id }
+    ensures { IfSome result (λ _. IsTextNode word.now (item_at items.now id)) }
+{
+    let at = opened(items, id, word)?;
+    let (_inner, at) = next_of(items, at, ItemKind::Text)?;
+    none_next(at)
+}
+
+fn plain_box(items: &Items<'_>, id: ItemId) -> Option<()>
+    requires { HasId items.now id }
+    ensures { IfSome result (λ _. IsPlainBox (item_at items.now id)) }
+{
+    let at = opened(items, id, b"BBOX")?;
+    let (_south, at) = next_plain(items, at)?;
+    let (_west, at) = next_plain(items, at)?;
+    let (_north, at) = next_plain(items, at)?;
+    let (_east, at) = next_plain(items, at)?;
+    none_next(at)?;
+    Some(())
+}
+
+fn plain_usage(items: &Items<'_>, id: ItemId) -> Option<()>
+    requires { HasId items.now id }
+    ensures { IfSome result (λ _. IsPlainUsage (item_at items.now id)) }
+{
+    let at = opened(items, id, b"USAGE")?;
+    let (scope, at) = next_of(items, at, ItemKind::Node)?;
+    let (area, at) = next_of(items, at, ItemKind::Node)?;
+    let (bbox, at) = next_of(items, at, ItemKind::Node)?;
+    none_next(at)?;
+    text_node(items, scope, b"SCOPE")?;
+    text_node(items, area, b"AREA")?;
+    plain_box(items, bbox)
+}
+
+fn plain_ellipsoid(items: &Items<'_>, id: ItemId, level: Level) -> Option<()>
+    requires { HasId items.now id }
+    ensures { IfSome result (λ _. IsPlainEllipsoid level (item_at items.now id)) }
+{
+    let at = opened(items, id, b"ELLIPSOID")?;
+    let (_name, at) = next_of(items, at, ItemKind::Text)?;
+    let (_axis, at) = next_plain(items, at)?;
+    let (_flattening, at) = next_plain(items, at)?;
+    let (unit, at) = next_of(items, at, ItemKind::Node)?;
+    none_next(at)?;
+    if items.raw(unit) != b"LENGTHUNIT".as_slice() {
+        return None;
+    }
+    said_unit(items, unit, level)?;
+    Some(())
+}
+
+fn plain_datum(items: &Items<'_>, id: ItemId, level: Level) -> Option<()>
+    requires { HasId items.now id }
+    ensures { IfSome result (λ _. IsPlainDatum level (item_at items.now id)) }
+{
+    let at = opened(items, id, b"DATUM")?;
+    let (_name, at) = next_of(items, at, ItemKind::Text)?;
+    let (ellipsoid, at) = next_of(items, at, ItemKind::Node)?;
+    none_next(at)?;
+    plain_ellipsoid(items, ellipsoid, level)
+}
+
+fn plain_order(items: &Items<'_>, id: ItemId, position: u64) -> Option<()>
+    requires { HasId items.now id }
+    ensures { IfSome result (λ _. IsPlainOrder position (item_at items.now id)) }
+{
+    let at = opened(items, id, b"ORDER")?;
+    let (number, at) = next_of(items, at, ItemKind::Number)?;
+    none_next(at)?;
+    if is_position(items.raw(number), position) {
+        Some(())
+    } else {
+        None
+    }
+}
+
+fn plain_axis(items: &Items<'_>, id: ItemId, position: u64, level: Level) -> Option<()>
+    requires { HasId items.now id }
+    ensures { IfSome result (λ _. IsPlainAxis level position (item_at items.now id)) }
+{
+    let at = opened(items, id, b"AXIS")?;
+    let (_name, at) = next_of(items, at, ItemKind::Text)?;
+    let (direction, at) = next_of(items, at, ItemKind::Word)?;
+    let (order, at) = next_of(items, at, ItemKind::Node)?;
+    let (unit, at) = next_of(items, at, ItemKind::Node)?;
     if !is_direction_word(items.raw(direction)) {
-        return false;
+        return None;
     }
-    if !is_plain_order(items, order, position) {
-        return false;
-    }
+    plain_order(items, order, position)?;
     if items.raw(unit) == b"SCALEUNIT".as_slice() {
-        return false;
+        return None;
     }
-    if !is_said_unit(items, unit, level) {
-        return false;
-    }
-    is_end(items, end, level)
+    said_unit(items, unit, level)?;
+    ends(items, at, level)
 }
 
 // ---- copies
@@ -348,11 +294,8 @@ pub fn ident<'a>(node: &Node<'_, 'a>) -> Option<&'a [u8]>
         bytes.now ≡ item_text (item_ident i)) }
 {
     let items = node.items;
-    if is_short_ident(items, node.id) {
-        items.written(node.id)
-    } else {
-        None
-    }
+    short_ident(items, node.id)?;
+    items.written(node.id)
 }
 
 /// The text of the method that is read from a node, if that is the node's bytes. Profile.
@@ -361,11 +304,11 @@ pub fn method<'a>(node: &Node<'_, 'a>, level: Level) -> Option<&'a [u8]>
         bytes.now ≡ method_text level m) }
 {
     let items = node.items;
-    if node.class == Class::Method && is_plain_method(items, node.id, level) {
-        items.written(node.id)
-    } else {
-        None
+    if node.class != Class::Method {
+        return None;
     }
+    plain_method(items, node.id, level)?;
+    items.written(node.id)
 }
 
 /// The text of the parameter that is read from a node, if that is the node's bytes. Profile.
@@ -374,11 +317,11 @@ pub fn parameter<'a>(node: &Node<'_, 'a>, level: Level) -> Option<&'a [u8]>
         bytes.now ≡ parameter_text level p) }
 {
     let items = node.items;
-    if node.class == Class::Parameter && is_plain_parameter(items, node.id, level) {
-        items.written(node.id)
-    } else {
-        None
+    if node.class != Class::Parameter {
+        return None;
     }
+    plain_parameter(items, node.id, level)?;
+    items.written(node.id)
 }
 
 /// The text of the usage that is read from a node, if that is the node's bytes. Profile.
@@ -387,11 +330,11 @@ pub fn usage<'a>(node: &Node<'_, 'a>, level: Level) -> Option<&'a [u8]>
         bytes.now ≡ usage_text level u) }
 {
     let items = node.items;
-    if node.class == Class::Usage && is_plain_usage(items, node.id) {
-        items.written(node.id)
-    } else {
-        None
+    if node.class != Class::Usage {
+        return None;
     }
+    plain_usage(items, node.id)?;
+    items.written(node.id)
 }
 
 /// The text of the geodetic reference frame that is read from a node, if that is the node's bytes. Profile.
@@ -400,11 +343,11 @@ pub fn datum<'a>(node: &Node<'_, 'a>, level: Level) -> Option<&'a [u8]>
         bytes.now ≡ item_text (item_datum (codes "DATUM") (norm_datum level d))) }
 {
     let items = node.items;
-    if node.class == Class::GeodeticFrame && is_plain_datum(items, node.id, level) {
-        items.written(node.id)
-    } else {
-        None
+    if node.class != Class::GeodeticFrame {
+        return None;
     }
+    plain_datum(items, node.id, level)?;
+    items.written(node.id)
 }
 
 /// The text of the axis at this position that is read from a node, if that is the node's bytes. Profile.
@@ -413,9 +356,9 @@ pub fn axis<'a>(node: &Node<'_, 'a>, position: u64, level: Level) -> Option<&'a 
         bytes.now ≡ item_text (item_axis (norm_axis level s position a))) }
 {
     let items = node.items;
-    if node.class == Class::Axis && is_plain_axis(items, node.id, position, level) {
-        items.written(node.id)
-    } else {
-        None
+    if node.class != Class::Axis {
+        return None;
     }
+    plain_axis(items, node.id, position, level)?;
+    items.written(node.id)
 }
