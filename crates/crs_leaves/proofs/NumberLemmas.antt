@@ -1,6 +1,6 @@
 -- Numbers, as bytes spell them.
-use Rattle.std.proofs.Common.{◌≡◌, ℕ, List, Some, sym, ap, subst}
-use Rattle.crs_decimal.specs.Prelude.{Denotes, IsFault, Value, IsNormal, exact}
+use Rattle.std.proofs.Common.{◌≡◌, ℕ, List, ◌++◌, ◌∙◌, Result, Ok, Err, OnOk, MatchResult, Some, sym, ap, subst}
+use Rattle.crs_decimal.specs.Prelude.{AppendsPlain, Denotes, IsFault, IsPlain, Value, IsNormal, exact, plain}
 use Rattle.crs_decimal.specs.declared.fault.NumberFault.{NumberFault}
 use Rattle.crs_decimal.specs.declared.fault.NumberFault.TheVariants as faults
 
@@ -21,3 +21,13 @@ pub number-refused : (bytes raw : List ℕ) (fault : NumberFault) (b : Value) �
     IsNormal b × Denotes raw (exact b) → ⊥
 number-refused bytes raw fault b same is q =
     no-number bytes fault b is (subst (λ x. Denotes x (exact b)) (sym same) q.1)
+
+abbrev pub PlainIsOne : Type 0
+PlainIsOne = (v : Value) (bytes : List ℕ) → IsNormal v → IsPlain bytes → Denotes bytes (exact v) → bytes ≡ plain v
+
+-- a number that is appended in a plain spelling is appended in the one that there is
+pub one-appended : {T E : Type 0} → PlainIsOne → (v : Value) → IsNormal v → (before after : List ℕ) (r : Result T E) →
+    MatchResult r (λ _. AppendsPlain v before after) (λ _. after ≡ before) → OnOk r (after ≡ before ++ plain v)
+one-appended one v normal before after (Ok x) a =
+    a.appended ∙ ap (λ s. before ++ s) (one v a.spelling normal a.is_plain a.denotes)
+one-appended one v normal before after (Err e) a = tt

@@ -3,4 +3,3 @@ pub mod CopiedDatumLemmas
 pub mod CopiedLemmas
 pub mod CopiedUsageLemmas
 pub mod DirectFlatLemmas
-pub mod PlainLemmas

@@ -33,4 +33,4 @@ loop-at-preserved c =
     let tree = c.args.items.now in
     seeking-on ReadsAxis c.args.position tree c.args.class class.Axis (those c.args.class class.Axis (arguments (item_at tree c.args.id))) c.loop-at.index
     c.in-Some.axis c.later-at.result (rw c.in-Some.is at c.loop-at.invariant)
-    (λ axis reads. sym c.if-is_axis_at.false ∙ c.is_axis_at.ensures axis reads) c.later-at.ensures
+    (λ axis reads. sym c.if-is_axis_at.false ∙ c.is_axis_at.ensures axis reads) c.later-at.ensures.holds c.later-at.ensures.all

@@ -1,4 +1,4 @@
-use Rattle.crs_nodes.proofs.PlainLemmas.{one-appended}
+use Rattle.crs_leaves.proofs.NumberLemmas.{one-appended}
 use Rattle.crs_leaves.proofs.texts.write_decimal.Goals as goal
 
 pub returns : goal.returns
