@@ -1,13 +1,12 @@
 -- Texts put among others that are in order: where they belong, and that spans of the others stay theirs.
-use Rattle.std.proofs.Common.{◌≡◌, ◌++◌, ◌∙◌, ◌≤◌, ◌<◌, ◌+◌, ◌-◌, ℕ, zero, suc, get_or, List, [], ◌∷◌, length, take, drop, Ordering, Less, Equal, Greater, refl, sym, ap, subst, arith}
+use Rattle.std.proofs.Common.{◌≡◌, ◌↔◌, ◌++◌, ◌∙◌, ◌≤◌, ◌<◌, ◌+◌, ◌-◌, ℕ, zero, suc, get_or, List, [], ◌∷◌, length, take, drop, Ordering, Less, Equal, Greater, refl, sym, ap, subst, arith}
 use Rattle.std.specs.List.{insert, slice_range}
 use Rattle.std.specs.Cmp.Lexicographic.{slice_cmp}
 use Rattle.std.specs.Ordering.{nat_cmp, match_ordering, ordering_reverse}
 use Rattle.std.proofs.lemmas.Cmp.{nat_list_cmp_total}
 use Rattle.std.proofs.lemmas.List.{append_assoc, drop-append-le, drop_more, get_or-map, length-append, length-drop, length-map, take-append-drop, take-append-le, take_all, take_more}
 use Rattle.crs_value.specs.Sound.{Each}
-use Rattle.crs_normal.specs.Prelude.{Ascends, Below, put, put_all}
-use Rattle.crs_normal.proofs.members.SetLemmas.{in_order-ascends, in_order-of}
+use Rattle.crs_normal.specs.Prelude.{Ascends, Below, IsIn, in_order, put, put_all}
 use Rattle.crs_writer.specs.Spans.{AreInOrder, AreWithin, IsPutAmong, IsWithin, text_at, texts_at}
 use Rattle.crs_writer.specs.declared.spans.Span.{Span}
 
@@ -95,10 +94,16 @@ put_all-more : (sorted xs : List (List ℕ)) (t : List ℕ) →
 put_all-more sorted [] t = refl
 put_all-more sorted (x ∷ xs) t = put_all-more (puts x sorted) xs t
 
-pub put-ascends : (t : List ℕ) (texts : List (List ℕ)) → Ascends (λ b. b) texts → Ascends (λ b. b) (puts t texts)
-put-ascends t texts s =
-    subst (Ascends (λ b. b)) (put_all-more [] texts t ∙ ap (puts t) (in_order-of (λ b. b) texts s))
-    (in_order-ascends (λ b. b) (texts ++ t ∷ []))
+-- texts in order, as the law of crs_normal has them
+pub record OrderLaws : Type 0 where
+  pub ascend : (texts : List (List ℕ)) → Ascends (λ b. b) (in_order (λ b. b) texts)
+  pub members : (texts : List (List ℕ)) (text : List ℕ) → IsIn text (in_order (λ b. b) texts) ↔ IsIn text texts
+  pub one : (xs ys : List (List ℕ)) → Ascends (λ b. b) xs → Ascends (λ b. b) ys → ((text : List ℕ) → IsIn text xs ↔ IsIn text ys) → xs ≡ ys
+
+put-ascends : OrderLaws → (t : List ℕ) (texts : List (List ℕ)) → Ascends (λ b. b) texts → Ascends (λ b. b) (puts t texts)
+put-ascends laws t texts s =
+    let same : in_order (λ b. b) texts ≡ texts = laws.one (in_order (λ b. b) texts) texts (laws.ascend texts) s (laws.members texts) in
+    subst (Ascends (λ b. b)) (put_all-more [] texts t ∙ ap (puts t) same) (laws.ascend (texts ++ t ∷ []))
 
 -- ---- spans among more bytes
 
@@ -162,13 +167,13 @@ same-texts all start spans order =
     ap (λ bytes. texts_at bytes spans) (sym (take-append-drop start all)) ∙ texts-stay (take start all) (drop start all) spans order.within
 
 -- the last bytes are put among the texts of the others
-pub last-put : (all : List ℕ) (start at : ℕ) (spans others : List Span) (span : Span) →
+pub last-put : OrderLaws → (all : List ℕ) (start at : ℕ) (spans others : List Span) (span : Span) →
     start ≤ length all → AreInOrder (take start all) spans →
     span.start ≡ start → span.end ≡ length all → others ≡ insert spans at span →
     puts (drop start all) (texts_at all spans)
     ≡ take at (texts_at all spans) ++ drop start all ∷ drop at (texts_at all spans) →
     IsPutAmong (drop start all) (take start all) spans all others
-last-put all start at spans others span le order from to is put =
+last-put laws all start at spans others span le order from to is put =
     let stays : AreInOrder all spans = front-order all start spans order in
     let text : text_at all span ≡ drop start all =
     ap (λ n. slice_range all n span.end) from ∙ ap (λ n. slice_range all start n) to
@@ -182,7 +187,7 @@ last-put all start at spans others span le order from to is put =
     record {
       order = record {
         within = within;
-        ascend = subst (Ascends (λ b. b)) (sym texts) (put-ascends (drop start all) (texts_at all spans) stays.ascend);
+        ascend = subst (Ascends (λ b. b)) (sym texts) (put-ascends laws (drop start all) (texts_at all spans) stays.ascend);
       };
       texts = texts ∙ ap (puts (drop start all)) (same-texts all start spans order);
     }

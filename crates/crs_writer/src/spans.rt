@@ -6,6 +6,7 @@ ghost use Rattle.crs_writer.specs.SetText.{commas};
 ghost use Rattle.crs_writer.specs.Spans.{AreInOrder, AreWithin, IsPutAmong, IsWithin, text_at, texts_at};
 
 use crs_leaves::append;
+use crs_normal::laws::sets::texts_are_in_order;
 use std::alloc::AllocError;
 use std::cmp::Ordering;
 
@@ -60,6 +61,7 @@ pub(crate) fn put_last(
     ensures { OnOk result (IsPutAmong (drop start bytes.old.items) (take start bytes.old.items) spans.old.items
         bytes.new.items spans.new.items) }
 {
+    texts_are_in_order();
     let end = bytes.len();
     match place_of(rest_of(bytes, start), bytes, spans) {
         None => bytes.truncate(start),

@@ -1,6 +1,6 @@
 use Rattle.std.proofs.Common.{◌≡◌, ◌++◌, ◌∷◌, ◌∙◌, drop, length, rules, take, vec_len, refl, subst, sym}
 use Rattle.crs_writer.specs.Spans.{AreInOrder, IsPutAmong}
-use Rattle.crs_writer.proofs.SpanLemmas.{front-order, last-known, last-put, of-seen, puts}
+use Rattle.crs_writer.proofs.SpanLemmas.{OrderLaws, front-order, last-known, last-put, of-seen, puts}
 use Rattle.crs_writer.proofs.spans.put_last.Goals as goal
 
 pub place_of-requires : goal.place_of-requires
@@ -26,8 +26,10 @@ returns-in_ok-insert-in-Some c =
     let spans = c.args.spans.now.items in
     let start = c.args.start in
     let at = c.in-Some.at in
+    let law = c.texts_are_in_order.ensures in
+    let laws : OrderLaws = record { ascend = law.ascend; members = law.members; one = law.one } in
     let long : length all ≡ vec_len c.args.bytes.now = search rules in
-    last-put all start at spans c.insert.new.self.items _ c.requires.start c.requires.order refl (c.len-end.ensures ∙ sym long)
+    last-put laws all start at spans c.insert.new.self.items _ c.requires.start c.requires.order refl (c.len-end.ensures ∙ sym long)
     c.in_ok-insert-in-Some.ensures.items
     (of-seen (λ t texts. puts t texts ≡ take at texts ++ t ∷ drop at texts) start _ _ all _ spans _ c.rest_of.ensures c.deref.ensures.value
     c.deref-2.ensures.value c.deref-3.ensures.value c.in-Some.ensures.1)

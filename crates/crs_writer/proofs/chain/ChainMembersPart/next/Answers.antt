@@ -1,4 +1,3 @@
-use Rattle.crs_value.proofs.found.ArgumentLemmas.{found-holds}
 use Rattle.crs_writer.proofs.ChainLemmas.{fewer-left, first-said, none-left}
 use Rattle.crs_writer.proofs.chain.ChainMembersPart.next.Goals as goal
 
@@ -7,7 +6,7 @@ returns-in-None g c = none-left _ _ _ _ _ c.in-None.is
 
 pub returns-in-Some : goal.returns-in-Some
 returns-in-Some g c = (
-  found-holds _ _ _ _ c.later-at.result c.later-at.ensures,
-  fewer-left _ _ _ _ _ _ c.in-Some.is c.later-at.ensures,
-  first-said (g.T.ReadAs.Reads c.args.self.now.class) _ _ _ _ _ _ c.in-Some.is c.later-at.ensures,
+  c.later-at.ensures.holds,
+  fewer-left _ _ _ _ _ _ c.in-Some.is c.later-at.ensures.all,
+  first-said (g.T.ReadAs.Reads c.args.self.now.class) _ _ _ _ _ _ c.in-Some.is c.later-at.ensures.all,
 )
