@@ -48,18 +48,6 @@ impl<'i, 'a> Node<'i, 'a> {
         }
     }
 
-    /// The argument of this class that must be there. Profile.
-    #[inline(always)]
-    pub fn one(&self, class: Class) -> Node<'i, 'a>
-        requires { ¬ (args class self.now ≡ []) }
-        ensures { IsFirst self.now class (args class self.now) (Some result) }
-    {
-        match self.first(class) {
-            None => unreachable!(),
-            Some(found) => found,
-        }
-    }
-
     /// All arguments of this class. Profile.
     #[inline(always)]
     pub fn all(&self, class: Class) -> Chain<'i, 'a>

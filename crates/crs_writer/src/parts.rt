@@ -9,7 +9,7 @@ ghost use Rattle.crs_value.specs.Values.{IdentParts, UnitParts};
 ghost use Rattle.crs_normal.specs.SpelledFrames.{is_zero};
 ghost use Rattle.crs_normal.specs.SpelledItems.{each};
 ghost use Rattle.crs_normal.specs.SpelledUnits.{item_ident, item_unit, norm_unit, set_idents, whole_value};
-ghost use Rattle.crs_leaves.specs.Direct.{IsRead, Writes};
+ghost use Rattle.crs_leaves.specs.Direct.{Writes};
 ghost use Rattle.crs_nodes.specs.Found.{SaysIfAny};
 ghost use Rattle.crs_writer.specs.Parts.{number_behind, opt_text};
 
@@ -73,19 +73,6 @@ pub trait Part<T: Spell>: Copy {
         ensures { OnOk result (Writes (Says self.now) (λ v. 44 ∷ T.spelling level v) out.old.items out.new.items) };
 }
 
-/// A part that a node must have, and in which others must be. Profile.
-pub trait NeededPart<T: Spell>: Copy {
-    /// The values that it may be.
-    ghost Says: { Self → T → Type 0 };
-
-    /// Appends it after a comma.
-    ///
-    /// `AllocError`: there is no memory for it.
-    fn put(&self, out: &mut Vec<u8>, level: Level) -> Result<(), AllocError>
-        requires { IsRead (Says self.now) }
-        ensures { OnOk result (Writes (Says self.now) (λ v. 44 ∷ T.spelling level v) out.old.items out.new.items) };
-}
-
 impl<'b> NumberPart for &'b Decimal {
     ghost Says = { λ s v. v ≡ s.now };
 
@@ -145,12 +132,19 @@ impl<'b, T: Spell> Part<T> for &'b T {
     }
 }
 
-impl<'b, T: Spell> NeededPart<T> for &'b T {
-    ghost Says = { λ s v. v ≡ s.now };
+// A part that must be there: where it isn't, no value is one.
+impl<T: Spell, P: Part<T>> Part<T> for Option<P> {
+    ghost use Rattle.std.specs.Prelude.{Some};
+    ghost use Rattle.crs_nodes.specs.Found.{SaysIfAny};
+
+    ghost Says = { λ part v. SaysIfAny P.Says part (Some v) };
 
     #[inline(always)]
     fn put(&self, out: &mut Vec<u8>, level: Level) -> Result<(), AllocError> {
-        write_part(out, *self, level)
+        match self {
+            None => Ok(()),
+            Some(part) => part.put(out, level),
+        }
     }
 }
 

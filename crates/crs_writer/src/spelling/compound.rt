@@ -7,10 +7,10 @@ ghost use Rattle.crs_normal.specs.PartTexts.{compound_text, horizontal_text};
 ghost use Rattle.crs_normal.specs.SpelledCrs.{item_horizontal, item_vertical, norm_horizontal, norm_vertical};
 ghost use Rattle.crs_normal.specs.SpelledUsages.{norm_tail, tail_items};
 ghost use Rattle.crs_nodes.specs.Cursor.{item};
-ghost use Rattle.crs_leaves.specs.Direct.{IsRead, Writes};
+ghost use Rattle.crs_leaves.specs.Direct.{Writes};
 ghost use Rattle.crs_leaves.specs.Openings.{named_node};
 
-use crate::parts::NeededPart;
+use crate::parts::Part;
 use crate::spell::Spell;
 use crate::spelling::geodetic::write_geodetic_of;
 use crate::spelling::projected::write_projected_of;
@@ -34,7 +34,6 @@ impl Spell for Horizontal<'_> {
 
 // The horizontal part of a compound CRS.
 fn write_horizontal(node: &Node<'_, '_>, out: &mut Vec<u8>, level: Level) -> Result<(), AllocError>
-    requires { IsRead (ReadsHorizontal node.now.class (item node.now)) }
     ensures { OnOk result (Writes (ReadsHorizontal node.now.class (item node.now)) (horizontal_text level)
         out.old.items out.new.items) }
 {
@@ -45,13 +44,13 @@ fn write_horizontal(node: &Node<'_, '_>, out: &mut Vec<u8>, level: Level) -> Res
         return write_geodetic_of(&found, out, level);
     }
     match node.first(Class::ProjectedCrs) {
-        None => unreachable!(),
+        None => Ok(()),
         Some(found) => write_projected_of(&found, out, level),
     }
 }
 
 // In the node of the compound CRS.
-impl<'c, 'i, 'a> NeededPart<Horizontal<'a>> for &'c Node<'i, 'a> {
+impl<'c, 'i, 'a> Part<Horizontal<'a>> for &'c Node<'i, 'a> {
     ghost use Rattle.crs_value.specs.ReadsCrs.{ReadsHorizontal};
     ghost use Rattle.crs_nodes.specs.Cursor.{item};
 
@@ -72,17 +71,14 @@ struct CompoundFields<'n, H, V, T> {
     tail: T,
 }
 
-impl<
+impl<'n, 'a, H: Part<Horizontal<'a>>, V: Part<Vertical<'a>>, T: TailPart> CompoundFields<
     'n,
-    'a,
-    H: NeededPart<Horizontal<'a>>,
-    V: NeededPart<Vertical<'a>>,
-    T: TailPart,
-> CompoundFields<'n, H, V, T> {
+    H,
+    V,
+    T,
+> {
     // After an opening.
     fn write(self, out: &mut Vec<u8>, opening: &[u8], level: Level) -> Result<(), AllocError>
-        requires horizontal { IsRead (H.Says self.horizontal) }
-        requires vertical { IsRead (V.Says self.vertical) }
         ensures { OnOk result ((p : CompoundParts) → p.name ≡ self.entry.name.now →
             H.Says self.entry.horizontal p.horizontal → V.Says self.entry.vertical p.vertical →
             T.Says self.entry.tail p.tail → out.new.items ≡ out.old.items ++ named_node opening.now p.name
@@ -117,16 +113,15 @@ pub(crate) fn write_compound_of(
     out: &mut Vec<u8>,
     level: Level,
 ) -> Result<(), AllocError>
-    requires { IsRead (ReadsCompound node.now.class (item node.now)) }
     ensures { OnOk result (Writes (ReadsCompound node.now.class (item node.now)) (compound_text level)
         out.old.items out.new.items) }
 {
     let tail = node;
-    let vertical = node.one(Class::VerticalCrs);
+    let vertical = node.first(Class::VerticalCrs);
     CompoundFields {
         name: node.text(),
         horizontal: node,
-        vertical: &vertical,
+        vertical: vertical.as_ref(),
         tail,
     }
     .write(out, b"COMPOUNDCRS[\"", level)

@@ -12,7 +12,7 @@ ghost use Rattle.crs_nodes.specs.Found.{SaysIfAny};
 
 use crate::chain::ReadAs;
 use crate::members::MembersPart;
-use crate::parts::{IdentsPart, NeededPart, NumberPart, Part, UnitPart};
+use crate::parts::{IdentsPart, NumberPart, Part, UnitPart};
 use crate::set::write_set;
 use crate::spell::Spell;
 use crate::spelling::ident::write_named;
@@ -154,18 +154,18 @@ impl<'a> Spell for Conversion<'a> {
     }
 }
 
-impl<'c, 'i, 'a> NeededPart<Conversion<'a>> for &'c Node<'i, 'a> {
+impl<'c, 'i, 'a> Part<Conversion<'a>> for &'c Node<'i, 'a> {
     ghost use Rattle.crs_value.specs.ReadsConversion.{ReadsConversion};
     ghost use Rattle.crs_nodes.specs.Cursor.{item};
 
     ghost Says = { λ n c. ReadsConversion n.now.class (item n.now) c };
 
     fn put(&self, out: &mut Vec<u8>, level: Level) -> Result<(), AllocError> {
-        let method = self.one(Class::Method);
+        let method = self.first(Class::Method);
         let parameters = self.all(Class::Parameter);
         ConversionFields {
             name: self.text(),
-            method: &method,
+            method: method.as_ref(),
             parameters: &parameters,
             ids: *self,
         }

@@ -1,5 +1,5 @@
 //! Reference frames, ensembles and their members.
-ghost use Rattle.std.specs.Prelude.{◌≡◌, ◌∷◌, ◌++◌, [], OnOk, codes};
+ghost use Rattle.std.specs.Prelude.{◌≡◌, ◌∷◌, ◌++◌, OnOk, codes};
 ghost use Rattle.std.specs.Option.{option_copied, option_map};
 ghost use Rattle.crs_text.specs.Items.{End, More};
 ghost use Rattle.crs_text.specs.Written.{item_text};
@@ -12,8 +12,8 @@ ghost use Rattle.crs_normal.specs.SpelledFrames.{item_ellipsoid, item_frame, ite
 ghost use Rattle.crs_normal.specs.SpelledFrames.{item_datum, item_ensemble, norm_datum, norm_ensemble, set_members};
 ghost use Rattle.crs_normal.specs.SpelledItems.{each, number_node, opt, text_node};
 ghost use Rattle.crs_normal.specs.SpelledUnits.{item_ident, set_idents};
-ghost use Rattle.crs_nodes.specs.Cursor.{args, item};
-ghost use Rattle.crs_leaves.specs.Direct.{IsRead, Writes};
+ghost use Rattle.crs_nodes.specs.Cursor.{item};
+ghost use Rattle.crs_leaves.specs.Direct.{Writes};
 ghost use Rattle.crs_leaves.specs.Openings.{named_node};
 ghost use Rattle.crs_nodes.specs.Found.{SaysIfAny};
 
@@ -246,13 +246,11 @@ pub(crate) trait FramePart: Copy {
 
     // After a comma.
     fn put_geodetic(&self, out: &mut Vec<u8>, level: Level) -> Result<(), AllocError>
-        requires { IsRead (SaysGeodetic self.now) }
         ensures { OnOk result (Writes (SaysGeodetic self.now)
             (λ f. 44 ∷ item_text (item_frame (codes "DATUM") (norm_frame level f))) out.old.items out.new.items) };
 
     // After a comma.
     fn put_vertical(&self, out: &mut Vec<u8>, level: Level) -> Result<(), AllocError>
-        requires { IsRead (SaysVertical self.now) }
         ensures { OnOk result (Writes (SaysVertical self.now)
             (λ f. 44 ∷ item_text (item_frame (codes "VDATUM") (norm_frame level f))) out.old.items out.new.items) };
 }
@@ -284,12 +282,13 @@ fn write_ensemble_of(
     class: Class,
     level: Level,
 ) -> Result<(), AllocError>
-    requires { ¬ (args class node.now ≡ []) }
     ensures { OnOk result (Writes (ReadsOne ReadsEnsemble class node.now.class (item node.now))
         (λ e. 44 ∷ item_text (item_ensemble (norm_ensemble level e))) out.old.items out.new.items) }
 {
-    let found = node.one(class);
-    write_ensemble_in(out, &found, level)
+    match node.first(class) {
+        None => Ok(()),
+        Some(found) => write_ensemble_in(out, &found, level),
+    }
 }
 
 impl<'c, 'i, 'a> FramePart for &'c Node<'i, 'a> {

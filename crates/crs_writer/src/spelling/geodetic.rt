@@ -15,7 +15,7 @@ ghost use Rattle.crs_normal.specs.SpelledItems.{node_of, opt, text_item};
 ghost use Rattle.crs_normal.specs.SpelledSystems.{norm_system, system_items};
 ghost use Rattle.crs_normal.specs.SpelledUsages.{norm_tail, tail_items};
 ghost use Rattle.crs_nodes.specs.Cursor.{item};
-ghost use Rattle.crs_leaves.specs.Direct.{IsRead, Writes};
+ghost use Rattle.crs_leaves.specs.Direct.{Writes};
 ghost use Rattle.crs_nodes.specs.Found.{SaysIfAny};
 
 use crate::parts::{Part, write_optional};
@@ -62,8 +62,6 @@ impl<
 > GeodeticFields<'n, D, F, M, S, T> {
     #[tactic(auto, using(crate::proofs::FlatLemmas::crs_rules))]
     fn write(self, out: &mut Vec<u8>, level: Level) -> Result<(), AllocError>
-        requires frame { IsRead (F.SaysGeodetic self.frame) }
-        requires system { IsRead (S.Says self.system) }
         ensures { OnOk result ((n : List ℕ) (d : Option DynamicParts) (f : Frame) (m : Option MeridianParts)
             (s : SystemParts) (t : TailParts) → n ≡ self.entry.name.now → SaysIfAny D.Says self.entry.dynamic d →
             F.SaysGeodetic self.entry.frame f → SaysIfAny M.Says self.entry.meridian m → S.Says self.entry.system s →
@@ -110,7 +108,6 @@ pub(crate) fn write_geodetic_of(
     out: &mut Vec<u8>,
     level: Level,
 ) -> Result<(), AllocError>
-    requires { IsRead (ReadsGeodetic node.now.class (item node.now)) }
     ensures { OnOk result (Writes (ReadsGeodetic node.now.class (item node.now)) (geodetic_text level)
         out.old.items out.new.items) }
 {

@@ -18,11 +18,11 @@ ghost use Rattle.crs_normal.specs.SpelledSystems.{norm_system, system_items};
 ghost use Rattle.crs_normal.specs.SpelledUnits.{item_ident, item_unit, norm_units, set_idents};
 ghost use Rattle.crs_normal.specs.SpelledUsages.{norm_tail, tail_items};
 ghost use Rattle.crs_nodes.specs.Cursor.{item};
-ghost use Rattle.crs_leaves.specs.Direct.{IsRead, Writes};
+ghost use Rattle.crs_leaves.specs.Direct.{Writes};
 ghost use Rattle.crs_leaves.specs.Openings.{named_node};
 ghost use Rattle.crs_nodes.specs.Found.{SaysIfAny};
 
-use crate::parts::{IdentsPart, NeededPart, Part, UnitPart, write_optional};
+use crate::parts::{IdentsPart, Part, UnitPart, write_optional};
 use crate::spell::Spell;
 use crate::spelling::frame::FramePart;
 use crate::spelling::meridian::write_meridian;
@@ -58,7 +58,6 @@ impl<
     // After an opening.
     #[tactic(auto, using(crate::proofs::FlatLemmas::crs_rules))]
     fn write(self, out: &mut Vec<u8>, opening: &[u8], level: Level) -> Result<(), AllocError>
-        requires { IsRead (F.SaysGeodetic self.frame) }
         ensures { OnOk result ((n : List ℕ) (d : Option DynamicParts) (f : Frame) (m : Option MeridianParts)
             (u : Option UnitParts) (is : List IdentParts) → n ≡ self.entry.name.now → SaysIfAny D.Says self.entry.dynamic d →
             F.SaysGeodetic self.entry.frame f → SaysIfAny M.Says self.entry.meridian m →
@@ -93,7 +92,7 @@ impl Spell for Base<'_> {
     }
 }
 
-impl<'c, 'i, 'a> NeededPart<Base<'a>> for &'c Node<'i, 'a> {
+impl<'c, 'i, 'a> Part<Base<'a>> for &'c Node<'i, 'a> {
     ghost use Rattle.crs_value.specs.ReadsCrs.{ReadsBase};
     ghost use Rattle.crs_nodes.specs.Cursor.{item};
 
@@ -128,16 +127,13 @@ struct ProjectedFields<'n, B, C, S, T> {
 impl<
     'n,
     'a,
-    B: NeededPart<Base<'a>>,
-    C: NeededPart<Conversion<'a>>,
+    B: Part<Base<'a>>,
+    C: Part<Conversion<'a>>,
     S: SystemPart,
     T: TailPart,
 > ProjectedFields<'n, B, C, S, T> {
     // After an opening.
     fn write(self, out: &mut Vec<u8>, opening: &[u8], level: Level) -> Result<(), AllocError>
-        requires base { IsRead (B.Says self.base) }
-        requires conversion { IsRead (C.Says self.conversion) }
-        requires system { IsRead (S.Says self.system) }
         ensures { OnOk result ((p : ProjectedParts) → p.name ≡ self.entry.name.now → B.Says self.entry.base p.base →
             C.Says self.entry.conversion p.conversion → S.Says self.entry.system p.system →
             T.Says self.entry.tail p.tail →
@@ -175,17 +171,16 @@ pub(crate) fn write_projected_of(
     out: &mut Vec<u8>,
     level: Level,
 ) -> Result<(), AllocError>
-    requires { IsRead (ReadsProjected node.now.class (item node.now)) }
     ensures { OnOk result (Writes (ReadsProjected node.now.class (item node.now)) (projected_text level)
         out.old.items out.new.items) }
 {
     let tail = node;
-    let base = node.one(Class::BaseCrs);
-    let conversion = node.one(Class::Conversion);
+    let base = node.first(Class::BaseCrs);
+    let conversion = node.first(Class::Conversion);
     ProjectedFields {
         name: node.text(),
-        base: &base,
-        conversion: &conversion,
+        base: base.as_ref(),
+        conversion: conversion.as_ref(),
         system: node,
         tail,
     }

@@ -13,7 +13,7 @@ ghost use Rattle.crs_normal.specs.SpelledItems.{each, number_item};
 ghost use Rattle.crs_normal.specs.SpelledSystems.{axes_from, axis_at, item_axis, item_head};
 ghost use Rattle.crs_normal.specs.SpelledSystems.{norm_axis, norm_system, system_items, with_axis};
 ghost use Rattle.crs_nodes.specs.Cursor.{args, item};
-ghost use Rattle.crs_leaves.specs.Direct.{IsRead, Writes};
+ghost use Rattle.crs_leaves.specs.Direct.{Writes};
 ghost use Rattle.crs_nodes.specs.Found.{SaysIfAny};
 
 use crate::parts::{IdentsPart, NumberPart};
@@ -33,7 +33,6 @@ pub(crate) trait SystemPart: Copy {
 
     // The node `CS` after a comma; the answer is the system's type.
     fn put_head(&self, out: &mut Vec<u8>, level: Level) -> Result<SystemType, AllocError>
-        requires { IsRead (Says self.now) }
         ensures is { IfOk result (λ t. (s : SystemParts) → Says self.now s → s.system_type ≡ t) }
         ensures head { OnOk result (Writes (Says self.now) (λ s. 44 ∷ item_text (item_head (norm_system level s)))
             out.old.items out.new.items) };
@@ -99,7 +98,6 @@ pub(crate) fn write_system<S: SystemPart>(
     system: S,
     level: Level,
 ) -> Result<(), AllocError>
-    requires { IsRead (S.Says system) }
     ensures { OnOk result (Writes (S.Says system) (λ s. others_text (system_items (norm_system level s) End))
         out.old.items out.new.items) }
 {
@@ -276,7 +274,9 @@ impl<'c, 'i, 'a> SystemPart for &'c Node<'i, 'a> {
     }
 
     fn put_head(&self, out: &mut Vec<u8>, level: Level) -> Result<SystemType, AllocError> {
-        let head = self.one(Class::CoordinateSystem);
+        let Some(head) = self.first(Class::CoordinateSystem) else {
+            return Ok(SystemType::Vertical);
+        };
         let system_type = type_of(&head);
         write_head(out, system_type, head.number(), &head, level)?;
         Ok(system_type)

@@ -12,12 +12,12 @@ ghost use Rattle.crs_normal.specs.SpelledItems.{each, opt};
 ghost use Rattle.crs_normal.specs.SpelledSystems.{norm_system, system_items};
 ghost use Rattle.crs_normal.specs.SpelledUsages.{norm_tail, tail_items};
 ghost use Rattle.crs_nodes.specs.Cursor.{item};
-ghost use Rattle.crs_leaves.specs.Direct.{IsRead, Writes};
+ghost use Rattle.crs_leaves.specs.Direct.{Writes};
 ghost use Rattle.crs_leaves.specs.Openings.{named_node};
 ghost use Rattle.crs_nodes.specs.Found.{SaysIfAny};
 
 use crate::members::MembersPart;
-use crate::parts::{NeededPart, Part, write_optional};
+use crate::parts::{Part, write_optional};
 use crate::set::write_set;
 use crate::spell::Spell;
 use crate::spelling::frame::FramePart;
@@ -52,9 +52,7 @@ impl<
 > VerticalFields<'n, 'm, D, F, S, G, T> {
     // After an opening.
     fn write(self, out: &mut Vec<u8>, opening: &[u8], level: Level) -> Result<(), AllocError>
-        requires frame { IsRead (F.SaysVertical self.frame) }
-        requires system { IsRead (S.Says self.system) }
-        requires models { G.Hold self.models.now }
+        requires { G.Hold self.models.now }
         ensures { OnOk result ((v : VerticalParts) → v.name ≡ self.entry.name.now →
             SaysIfAny D.Says self.entry.dynamic v.dynamic → F.SaysVertical self.entry.frame v.frame →
             S.Says self.entry.system v.system → G.Say self.entry.models.now v.geoid_models →
@@ -96,7 +94,6 @@ pub(crate) fn write_vertical_of(
     out: &mut Vec<u8>,
     level: Level,
 ) -> Result<(), AllocError>
-    requires { IsRead (ReadsVertical node.now.class (item node.now)) }
     ensures { OnOk result (Writes (ReadsVertical node.now.class (item node.now)) (vertical_text level)
         out.old.items out.new.items) }
 {
@@ -115,7 +112,7 @@ pub(crate) fn write_vertical_of(
     .write(out, b"VERTCRS[\"", level)
 }
 
-impl<'c, 'i, 'a> NeededPart<Vertical<'a>> for &'c Node<'i, 'a> {
+impl<'c, 'i, 'a> Part<Vertical<'a>> for &'c Node<'i, 'a> {
     ghost use Rattle.crs_value.specs.ReadsCrs.{ReadsVertical};
     ghost use Rattle.crs_nodes.specs.Cursor.{item};
 

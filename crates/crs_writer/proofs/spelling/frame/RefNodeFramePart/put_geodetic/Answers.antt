@@ -2,12 +2,8 @@ use Rattle.std.proofs.Common.{codes}
 use Rattle.std.proofs.lemmas.Result.{on_ok_weaker}
 use Rattle.crs_shape.specs.declared.class.Class.TheVariants as class
 use Rattle.crs_nodes.specs.Cursor.{item}
-use Rattle.crs_writer.proofs.CursorLemmas.{some-ensemble}
 use Rattle.crs_writer.proofs.DirectPartLemmas.{ensemble-written}
 use Rattle.crs_writer.proofs.spelling.frame.RefNodeFramePart.put_geodetic.Goals as goal
-
-pub write_ensemble_of-requires : goal.write_ensemble_of-requires
-write_ensemble_of-requires c = some-ensemble class.GeodeticFrame class.GeodeticEnsemble _ _ c.in-None.ensures c.requires
 
 pub returns-in-None : goal.returns-in-None
 returns-in-None c = on_ok_weaker c.write_ensemble_of.result

@@ -2,7 +2,7 @@ use Rattle.crs_shape.specs.declared.class.Class.TheVariants as class
 use Rattle.crs_value.specs.Prelude.{ReadsMeridian, ReadsUnit, ReadsDynamic}
 use Rattle.crs_writer.proofs.CursorLemmas.{first-said}
 use Rattle.crs_writer.proofs.FlatLemmas.{written}
-use Rattle.crs_writer.proofs.spelling.projected.RefNodeNeededPartBase.put.Goals as goal
+use Rattle.crs_writer.proofs.spelling.projected.RefNodePartBase.put.Goals as goal
 
 pub returns : goal.returns
 returns c = written c.write.result _ _ _ c.write.ensures (λ w b r.
