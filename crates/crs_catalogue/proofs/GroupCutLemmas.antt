@@ -1,10 +1,11 @@
 -- Bytes are cut into lines, one piece further.
 use Rattle.std.proofs.Common.{◌≡◌, ◌+◌, ◌<◌, ◌≤◌, ◌++◌, ◌∷◌, [], ℕ, Bool, List, true, false, length, ap, sym, refl, ◌∙◌, arith, append_assoc, append-nil, inl, inr, length-append, ◌==◌}
+use Rattle.std.proofs.lemmas.Bool.{eqb-true, false≢true}
+use Rattle.std.proofs.lemmas.List.{nil_from_length}
+use Rattle.std.proofs.lemmas.List.Folds.{list_all-append}
 use Rattle.crs_catalogue.specs.GroupCutting.{CutterParts, IsCutFault, IsCutTo, IsKept, IsLedgerFor, IsLedgerOf, IsNextLine, IsNotKept, LedgerParts, no_lines}
 use Rattle.crs_streams.specs.declared.fault.RunFault.{RunFault}
-use Rattle.crs_streams.specs.Prelude.{HasNoFeed, IsSplit, HasShortLines, IsTooLong}
-use Rattle.crs_streams.proofs.FeedLemmas.{ended-begins, ended-feeds, ended-fits, ended-last, ended-lines, ended-more, none-kept, short-ended, short-line, short-more, some-kept}
-use Rattle.crs_streams.proofs.SplitLemmas.{plain-append}
+use Rattle.crs_streams.specs.Prelude.{CutsLines, HasNoFeed, IsSplit, IsTooLong}
 use Rattle.crs_value.specs.declared.values.level.Level.{Level}
 use Rattle.crs_catalogue.specs.Partition.{PlacedLine}
 use Rattle.crs_catalogue.proofs.LineAddedLemmas.{none-ledger}
@@ -12,17 +13,14 @@ use Rattle.crs_catalogue.proofs.LineAddedLemmas.{none-ledger}
 abbrev pub cutter_of : LedgerParts → List ℕ → CutterParts
 cutter_of ledger partial = record { ledger = ledger; partial = partial }
 
-module _ (Form : Level → List ℕ → List ℕ → Type 0) (Share : Level → PlacedLine → PlacedLine → Type 0) (named : Bool) where
+module _ (lines : CutsLines) (Form : Level → List ℕ → List ℕ → Type 0) (Share : Level → PlacedLine → PlacedLine → Type 0) (named : Bool) where
   -- no byte was cut
   pub cut-fresh : (level : Level) (cutter : CutterParts) → cutter ≡ cutter_of (no_lines level) [] → IsCutTo Form Share named [] cutter
   cut-fresh level cutter is = rw is (record {
     ended = [];
     texts = [];
-    are_bytes = refl;
-    are_ended = refl;
-    are_short = short-line [] (omega arith);
-    is_one = refl;
-    is_short = omega arith;
+    is_cut = lines.none;
+    are_texts = refl;
     of_texts = none-ledger Form Share named level;
   })
 
@@ -31,18 +29,18 @@ module _ (Form : Level → List ℕ → List ℕ → Type 0) (Share : Level → 
       → length before.partial + length line ≤ 1048576
       → IsNextLine Form Share named (before.partial ++ line) before.ledger after.ledger → after.partial ≡ []
       → IsCutTo Form Share named (bytes ++ (line ++ 10 ∷ [])) after
-  cut-line bytes line before after cut plain fits (text, is, further) none = record {
-    ended = cut.ended ++ ((before.partial ++ line) ++ 10 ∷ []);
-    texts = cut.texts ++ text ∷ [];
-    are_bytes = simp (cut.are_bytes, none, append_assoc, append-nil);
-    are_ended = ended-more cut.ended cut.texts (before.partial ++ line) text cut.are_ended
-        (plain-append before.partial line cut.is_one plain) is;
-    are_short = short-ended cut.ended (before.partial ++ line) (ended-begins cut.ended cut.texts cut.are_ended)
-        cut.are_short (omega (arith, length-append before.partial line));
-    is_one = rw none refl;
-    is_short = rw none (omega arith);
-    of_texts = further cut.texts cut.of_texts;
-  }
+  cut-line bytes line before after cut plain fits (text, is, further) none =
+      let whole = before.partial ++ line in
+      let more = further cut.texts cut.of_texts in
+      let counted : after.ledger.lines ≡ before.ledger.lines + 1 =
+      omega (arith, more.lines, cut.of_texts.lines, length-append cut.texts (text ∷ [])) in record {
+        ended = cut.ended ++ (whole ++ 10 ∷ []);
+        texts = cut.texts ++ text ∷ [];
+        is_cut = rw (none, counted) (lines.line line cut.is_cut plain fits);
+        are_texts = lines.joined cut.ended (whole ++ 10 ∷ []) cut.texts (text ∷ []) cut.is_cut.begins cut.are_texts
+            (inl (whole, [], refl, rw (list_all-append, cut.is_cut.is_one, plain) refl, is, refl));
+        of_texts = more;
+      }
 
   -- bytes of a line that goes on
   cut-kept : (bytes more : List ℕ) (before after : CutterParts) → IsCutTo Form Share named bytes before → HasNoFeed more
@@ -50,11 +48,8 @@ module _ (Form : Level → List ℕ → List ℕ → Type 0) (Share : Level → 
   cut-kept bytes more before after cut plain kept = record {
     ended = cut.ended;
     texts = cut.texts;
-    are_bytes = simp (cut.are_bytes, kept.are_more, append_assoc);
-    are_ended = cut.are_ended;
-    are_short = cut.are_short;
-    is_one = rw kept.are_more (plain-append before.partial more cut.is_one plain);
-    is_short = rw (kept.are_more, length-append) kept.are_few;
+    is_cut = rw (kept.are_more, kept.is_ledger) (lines.more more cut.is_cut plain kept.are_few);
+    are_texts = cut.are_texts;
     of_texts = rw kept.is_ledger cut.of_texts;
   }
 
@@ -62,29 +57,7 @@ module _ (Form : Level → List ℕ → List ℕ → Type 0) (Share : Level → 
   cut-long : (bytes line rest : List ℕ) (cutter : CutterParts) → IsCutTo Form Share named bytes cutter → HasNoFeed line
       → 1048576 < length cutter.partial + length line → length line + length rest ≤ 65536
       → IsTooLong (bytes ++ (line ++ rest)) (cutter.ledger.lines + 1)
-  cut-long bytes line rest cutter cut plain long small = record {
-    front = cut.ended;
-    long = cutter.partial ++ line;
-    rest = rest;
-    are_bytes = simp (cut.are_bytes, append_assoc);
-    begins = ended-begins cut.ended cut.texts cut.are_ended;
-    is_one = plain-append cutter.partial line cut.is_one plain;
-    is_long = omega (arith, length-append cutter.partial line);
-    is_soon = omega (arith, length-append cutter.partial line, cut.is_short);
-    before = cut.are_short;
-    is_number = ap (λ n. n + 1) (cut.of_texts.lines ∙ sym (ended-feeds cut.ended cut.texts cut.are_ended));
-  }
-
-  -- so far no line is too long
-  pub cut-short : (bytes : List ℕ) (cutter : CutterParts) → IsCutTo Form Share named bytes cutter → HasShortLines bytes
-  cut-short bytes cutter cut =
-      rw cut.are_bytes
-      (short-more cut.ended cutter.partial (ended-begins cut.ended cut.texts cut.are_ended) cut.are_short
-      (short-line cutter.partial cut.is_short))
-
-  pub cut-fits : (bytes : List ℕ) (cutter : CutterParts) → IsCutTo Form Share named bytes cutter → cutter.ledger.lines ≤ length bytes
-  cut-fits bytes cutter cut =
-      rw (cut.are_bytes, length-append) (omega (arith, cut.of_texts.lines, ended-fits cut.ended cut.texts cut.are_ended))
+  cut-long bytes line rest cutter cut plain long small = (lines.long line rest cut.is_cut plain long small).0
 
   -- a line that is whole within a piece
   pub cut-straight : (line : List ℕ) (now : CutterParts) (ledger after : LedgerParts) (partial : List ℕ)
@@ -92,7 +65,7 @@ module _ (Form : Level → List ℕ → List ℕ → Type 0) (Share : Level → 
       → true ≡ (length partial == 0) → IsNextLine Form Share named line ledger after → (bytes : List ℕ) → IsCutTo Form Share named bytes now
       → IsCutTo Form Share named (bytes ++ (line ++ 10 ∷ [])) (cutter_of after partial)
   cut-straight line now ledger after partial is plain fits empty next bytes cut =
-      let none = none-kept partial empty in
+      let none = nil_from_length partial (eqb-true (length partial) 0 (sym empty)) in
       cut-line bytes line (cutter_of ledger partial) _ (rw (← is) at cut) plain (rw (← is) at fits) (rw none next) none
 
   -- a line some bytes of which were kept
@@ -159,8 +132,9 @@ module _ (Form : Level → List ℕ → List ℕ → Type 0) (Share : Level → 
       → true ≡ (length partial == 0) → (bytes : List ℕ) → IsCutTo Form Share named bytes now → IsLedgerFor Form Share named bytes ledger
   ended-ledger now ledger partial is empty bytes cut =
       let own : IsCutTo Form Share named bytes (cutter_of ledger partial) = rw is cut in
-      let bytes_are : bytes ≡ own.ended = simp (none-kept partial empty, append-nil) at own.are_bytes in
-      record { texts = own.texts; are_texts = ended-lines bytes own.texts (rw bytes_are own.are_ended); of_texts = own.of_texts }
+      let none = nil_from_length partial (eqb-true (length partial) 0 (sym empty)) in
+      let bytes_are : bytes ≡ own.ended = simp (none, append-nil) at own.is_cut.are_bytes in
+      record { texts = own.texts; are_texts = rw bytes_are own.are_texts; of_texts = own.of_texts }
 
   -- at the end the open line is the last
   pub last-ledger : (now : CutterParts) (ledger after : LedgerParts) (partial last : List ℕ)
@@ -171,6 +145,7 @@ module _ (Form : Level → List ℕ → List ℕ → Type 0) (Share : Level → 
       let own : IsCutTo Form Share named bytes (cutter_of ledger partial) = rw is cut in
       record {
         texts = own.texts ++ partial ∷ [];
-        are_texts = rw own.are_bytes (ended-last own.ended own.texts partial own.are_ended own.is_one (some-kept partial some));
+        are_texts = rw own.is_cut.are_bytes (lines.joined own.ended partial own.texts (partial ∷ []) own.is_cut.begins own.are_texts
+            (inr (λ none. false≢true (rw none at some), own.is_cut.is_one, refl, refl)));
         of_texts = rw same at (further own.texts own.of_texts);
       }

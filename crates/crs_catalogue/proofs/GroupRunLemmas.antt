@@ -1,18 +1,15 @@
 -- What the source of a run has given, and what the two halves of the run say of the whole.
-use Rattle.std.proofs.Common.{◌≡◌, ◌∙◌, ◌+◌, ◌<◌, ◌≤◌, ◌*◌, ◌^◌, ℕ, Bool, List, false, ap, arith, is_ok, Result, Ok, Err, IfOk, IsErr, MatchResult}
-use Rattle.std.specs.Io.KnownBytes.{ReadConsumes}
+use Rattle.std.proofs.Common.{◌≡◌, ◌∙◌, ◌+◌, ◌<◌, ◌≤◌, ◌++◌, ◌*◌, ◌^◌, [], ℕ, Bool, List, false, ap, append-nil, arith, is_ok, length, length-append, Result, Ok, Err, IfErr, IfOk, IsErr, MatchResult}
 use Rattle.crs_catalogue.specs.GroupCutting.{CutterParts, IsCutFault, IsCutTo, IsLedgerFor, LedgerParts}
 use Rattle.crs_value.specs.declared.values.level.Level.{Level}
 use Rattle.crs_catalogue.specs.GroupOutput.{IsGroupOutputBy, catalogue_text}
 use Rattle.crs_catalogue.specs.GroupReading.{IsLedgerWhole, IsReadInto, WritesLedger}
-use Rattle.crs_streams.specs.Prelude.{GivesShortLines, HasGiven, CountsRead, SinkState, SourceState}
+use Rattle.crs_streams.specs.Prelude.{CountsRead, CutsLines, GivesMore, GivesShortLines, HasGiven, SinkState, SourceState}
 use Rattle.crs_catalogue.specs.GroupRun.{IsGroupedBy, IsReadingFault}
 use Rattle.crs_catalogue.specs.declared.listing.Listing.{Listing}
 use Rattle.crs_catalogue.specs.declared.summary.Summary.{Summary}
 use Rattle.crs_streams.specs.declared.fault.RunFault.{RunFault}
 use Rattle.crs_streams.specs.declared.fault.RunFault.TheVariants.{ReadFailed, TooLong, Memory}
-use Rattle.crs_catalogue.proofs.GroupCutLemmas.{cut-fits, cut-short}
-use Rattle.crs_streams.proofs.GivenLemmas.{given-kept}
 use Rattle.crs_catalogue.specs.Partition.{PlacedLine}
 
 pub fault-in-piece : (old new : SourceState) (bytes : List ℕ) (fault : RunFault) → HasGiven old new bytes
@@ -28,33 +25,30 @@ kept P Q (Ok x) s is same p = rw is p
 kept P Q (Err e) (Ok x) other same p = absurd cc
 kept P Q (Err e) (Err f) other same p = tt
 
-module _ (Form : Level → List ℕ → List ℕ → Type 0) (Share : Level → PlacedLine → PlacedLine → Type 0) (named : Bool) where
+module _ (lines : CutsLines) (Form : Level → List ℕ → List ℕ → Type 0) (Share : Level → PlacedLine → PlacedLine → Type 0) (named : Bool) where
   -- so far no line was too long
   pub gives-short : (old now : SourceState) (bytes : List ℕ) (cutter : CutterParts) → HasGiven old now bytes
       → IsCutTo Form Share named bytes cutter → GivesShortLines old now
-  gives-short old now bytes cutter given cut = (bytes, given, cut-short Form Share named bytes cutter cut)
+  gives-short old now bytes cutter given cut = (bytes, given, lines.short cut.is_cut)
 
   -- a read that fails
-  pub failed-read : {E : Type 0} (old now new : SourceState) (bytes room : List ℕ) (cutter : CutterParts) (answer : Result ℕ E)
-      → HasGiven old now bytes → IsCutTo Form Share named bytes cutter → ReadConsumes now.remaining new.remaining answer room
+  pub failed-read : {E : Type 0} (old now new : SourceState) (bytes : List ℕ) (cutter : CutterParts) (answer : Result ℕ E)
+      → HasGiven old now bytes → IsCutTo Form Share named bytes cutter → IfErr answer (λ _. GivesMore now new [])
       → CountsRead now new answer → IsErr answer → IsReadingFault old new ReadFailed
-  failed-read old now new bytes room cutter (Ok count) given cut consumed counted bad = cc
-  failed-read old now new bytes room cutter (Err error) given cut consumed counted bad =
-      let kept = counted.bytes in
-      (kept.2, gives-short old new bytes cutter (given-kept old now new bytes given consumed kept.0) cut)
+  failed-read old now new bytes cutter (Ok count) given cut kept counted bad = cc
+  failed-read old now new bytes cutter (Err error) given cut kept counted bad =
+      (counted.bytes.2, gives-short old new bytes cutter (rw append-nil at (kept old bytes given)) cut)
 
   -- lines are counted within 64 bits
-  pub lines-fit : (bytes : List ℕ) (cutter : CutterParts) (old now : SourceState) (more : ℕ) → IsCutTo Form Share named bytes cutter
-      → HasGiven old now bytes → now.taken ≤ 65536 * 1048576 → more ≤ 65536
-      → cutter.ledger.lines + more + 1 < 2 ^ 64
-  lines-fit bytes cutter old now more cut given few piece =
-      omega (arith, cut-fits Form Share named bytes cutter cut, given.is_counted)
+  pub lines-fit : (bytes more : List ℕ) (cutter : CutterParts) (old new : SourceState) → IsCutTo Form Share named bytes cutter
+      → HasGiven old new (bytes ++ more) → new.taken ≤ 65536 * 1048576 → cutter.ledger.lines + length more + 1 < 2 ^ 64
+  lines-fit bytes more cutter old new cut given few =
+      omega (arith, lines.fits cut.is_cut, given.is_counted, length-append bytes more)
 
   pub read-fits : (old new : SourceState) (cutter : CutterParts) → IsReadInto Form Share named old new cutter
       → cutter.ledger.lines + 1 < 2 ^ 64
   read-fits old new cutter read =
-      let fits = lines-fit read.bytes cutter old new 0 read.is_cut read.is_whole.is_given read.is_few (omega arith) in
-      omega (arith, fits)
+      omega (arith, lines.fits read.is_cut.is_cut, read.is_whole.is_given.is_counted, read.is_few)
 
   -- the ledger of all that was read
   pub whole-ledger : {E : Type 0} (level : Level) (old new : SourceState) (cutter : CutterParts)
@@ -62,14 +56,14 @@ module _ (Form : Level → List ℕ → List ℕ → Type 0) (Share : Level → 
       → IfOk answer (λ ledger. (bytes : List ℕ) → IsCutTo Form Share named bytes cutter → IsLedgerFor Form Share named bytes ledger)
       → IfOk answer (λ ledger. ledger.catalogue.level ≡ level)
       → IfOk answer (IsLedgerWhole Form Share named level old new)
-  whole-ledger level old new cutter (Ok ledger) read lines is = record {
+  whole-ledger level old new cutter (Ok ledger) read made is = record {
     bytes = read.bytes;
     is_whole = read.is_whole;
-    are_short = cut-short Form Share named read.bytes cutter read.is_cut;
-    is_ledger = lines read.bytes read.is_cut;
+    are_short = lines.short read.is_cut.is_cut;
+    is_ledger = made read.bytes read.is_cut;
     is_level = is;
   }
-  whole-ledger level old new cutter (Err error) read lines is = tt
+  whole-ledger level old new cutter (Err error) read made is = tt
 
 -- the catalogue of all that was read is written
 pub grouped : (Form : Level → List ℕ → List ℕ → Type 0) (Share : Level → PlacedLine → PlacedLine → Type 0)

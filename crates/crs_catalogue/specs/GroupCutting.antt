@@ -6,10 +6,10 @@ use Rattle.crs_placed.specs.Catalogue.{CatalogueParts}
 use Rattle.crs_catalogue.specs.GroupTexts.{IsCatalogueOfBy}
 use Rattle.crs_catalogue.specs.Names.{name_of, names_in, text_behind, texts_in}
 use Rattle.crs_catalogue.specs.Partition.{PlacedLine}
-use Rattle.crs_streams.specs.EndedLines.{AreEnded}
-use Rattle.crs_streams.specs.Lines.{AreLines, HasNoFeed, IsTextOf, blank_in}
+use Rattle.crs_streams.specs.Cutting.{AreCut}
+use Rattle.crs_streams.specs.Lines.{AreLines, IsTextOf, blank_in}
 use Rattle.crs_catalogue.specs.GroupOutput.{numbered}
-use Rattle.crs_streams.specs.LongLines.{HasShortLines, IsTooLong}
+use Rattle.crs_streams.specs.LongLines.{IsTooLong}
 use Rattle.crs_streams.specs.declared.fault.RunFault.{RunFault}
 use Rattle.crs_placed.specs.declared.placed.Placed.{Placed}
 use Rattle.crs_placed.specs.declared.placed.Placed.TheVariants.{Blank, Refused, Group}
@@ -85,11 +85,8 @@ pub record IsCutTo (Form : Level → List ℕ → List ℕ → Type 0)
     (cutter : CutterParts) : Type 0 where
   pub ended : List ℕ
   pub texts : List (List ℕ)
-  pub are_bytes : bytes ≡ ended ++ cutter.partial
-  pub are_ended : AreEnded ended texts
-  pub are_short : HasShortLines ended
-  pub is_one : HasNoFeed cutter.partial
-  pub is_short : length cutter.partial ≤ 1048576
+  pub is_cut : AreCut bytes ended cutter.partial cutter.ledger.lines
+  pub are_texts : AreLines ended texts
   pub of_texts : IsLedgerOf Form Share named texts cutter.ledger
 
 -- more bytes of the line that has not ended

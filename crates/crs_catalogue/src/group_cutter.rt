@@ -8,6 +8,7 @@ ghost use Rattle.crs_streams.specs.Lines.{HasNoFeed};
 
 use crate::adding::Adding;
 use crate::ledger::Ledger;
+use crs_streams::laws::lines_are_cut;
 use crs_streams::{MAX_LINE, RunFault, append_bytes, split_line, text_of};
 use crs_value::Level;
 use std::alloc::{AllocError, Global};
@@ -50,6 +51,7 @@ impl Cutter {
             IsCutFault (bytes ++ piece.now) fault) }
         ensures level { self.new.ledger.catalogue.level ≡ self.old.ledger.catalogue.level }
     {
+        lines_are_cut();
         let mut rest = piece;
         while let Some((line, left)) = split_line(rest) {
             self.end_line(adding, line)?;
@@ -66,6 +68,7 @@ impl Cutter {
             IsLedgerFor (A.Form adding.now) (A.Share adding.now) (A.named adding.now) bytes ledger) }
         ensures level { IfOk result (λ ledger. ledger.catalogue.level ≡ self.ledger.catalogue.level) }
     {
+        lines_are_cut();
         let mut ledger = self.ledger;
         if self.partial.is_empty() {
             return Ok(ledger);
@@ -87,6 +90,7 @@ impl Cutter {
         ensures lines { OnOk result (self.new.ledger.lines ≡ self.old.ledger.lines + 1) }
         ensures level { self.new.ledger.catalogue.level ≡ self.old.ledger.catalogue.level }
     {
+        lines_are_cut();
         if self.is_over(line) {
             return Err(RunFault::TooLong(self.ledger.lines() + 1));
         }

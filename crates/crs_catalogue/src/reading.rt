@@ -8,6 +8,7 @@ ghost use Rattle.crs_streams.specs.Streams.{fresh_source};
 use crate::adding::Adding;
 use crate::group_cutter::Cutter;
 use crate::ledger::Ledger;
+use crs_streams::laws::lines_are_cut;
 use crs_streams::{MAX_READS, RunFault, Source, make_room};
 use crs_value::Level;
 use std::alloc::Global;
@@ -26,6 +27,7 @@ pub(crate) fn read_ledger<A: Adding, R: Read>(
     ensures past_end { source.new.past_end ≡ false }
     ensures err { IfErr result (IsReadingFault source.old source.new) }
 {
+    lines_are_cut();
     let mut room = make_room(alloc).map_err(|_| RunFault::Memory)?;
     let mut cutter = Cutter::new(alloc, level);
     read_into(adding, &mut cutter, source, room.as_mut_slice())?;
@@ -47,6 +49,7 @@ fn read_into<A: Adding, R: Read>(
     ensures err { IfErr result (IsReadingFault source.old source.new) }
     ensures level { cutter.new.ledger.catalogue.level ≡ cutter.old.ledger.catalogue.level }
 {
+    lines_are_cut();
     for turn in 0..MAX_READS {
         let count = source.read(room).map_err(|_| RunFault::ReadFailed)?;
         if count == 0 {

@@ -1,10 +1,8 @@
 -- Line feeds among bytes, and lines that aren't too long.
-use Rattle.std.proofs.Common.{◌≡◌, ◌⊎◌, ◌+◌, ◌≤◌, ◌++◌, ◌∷◌, [], ℕ, List, true, false, true≢false, length, inl, inr, ap, sym, refl, ◌∙◌, arith, append_assoc, length-append, ◌==◌, cond}
-use Rattle.std.proofs.lemmas.Bool.{eqb-true, false≢true}
-use Rattle.std.proofs.lemmas.List.{nil_from_length}
-use Rattle.std.proofs.lemmas.List.Sums.{count_by-le-length, sum_by-append}
-use Rattle.crs_streams.specs.EndedLines.{AreEnded}
-use Rattle.crs_streams.specs.Lines.{AreLines, HasNoFeed, IsTextOf}
+use Rattle.std.proofs.Common.{◌≡◌, ◌⊎◌, ◌+◌, ◌≤◌, ◌++◌, ◌∷◌, [], ℕ, List, length, inl, inr, ap, sym, refl, ◌∙◌, arith, append_assoc, length-append, ◌==◌, cond}
+use Rattle.std.proofs.lemmas.Bool.{false≢true}
+use Rattle.std.proofs.lemmas.List.Sums.{sum_by-append}
+use Rattle.crs_streams.specs.Lines.{HasNoFeed}
 use Rattle.crs_streams.specs.LongLines.{EndsInFeed, HasShortLines, feeds}
 use Rattle.crs_streams.proofs.LineLemmas.{feed-rest, feed-test, head-tail, head-is, tail-is}
 
@@ -15,57 +13,6 @@ feeds-append a b = sum_by-append (λ x. cond (x == 10) 1 0) a b
 pub feeds-none : (bytes : List ℕ) → HasNoFeed bytes → feeds bytes ≡ 0
 feeds-none [] plain = refl
 feeds-none (b ∷ bs) plain = rw (feed-test b bs plain) (omega (arith, feeds-none bs (feed-rest b bs plain)))
-
-pub ended-feeds : (bytes : List ℕ) (texts : List (List ℕ)) → AreEnded bytes texts → feeds bytes ≡ length texts
-ended-feeds bytes [] none = ap feeds none
-ended-feeds bytes (text ∷ texts) (line, rest, e, plain, is, more) =
-    let behind : feeds (10 ∷ rest) ≡ 1 + feeds rest = feeds-append (10 ∷ []) rest in
-    ap feeds e ∙ omega (arith, feeds-append line (10 ∷ rest), behind, feeds-none line plain, ended-feeds rest texts more)
-
-pub ended-fits : (bytes : List ℕ) (texts : List (List ℕ)) → AreEnded bytes texts → length texts ≤ length bytes
-ended-fits bytes texts are = omega (arith, ended-feeds bytes texts are, count_by-le-length (λ b. b == 10) bytes)
-
--- one more line that has ended
-pub ended-more : (bytes : List ℕ) (texts : List (List ℕ)) (line text : List ℕ) → AreEnded bytes texts → HasNoFeed line
-    → IsTextOf line text → AreEnded (bytes ++ (line ++ 10 ∷ [])) (texts ++ text ∷ [])
-ended-more bytes [] line text none plain is =
-    (line, [], ap (λ b. b ++ (line ++ 10 ∷ [])) none, plain, is, refl)
-ended-more bytes (first ∷ texts) line text (front, rest, e, bare, word, more) plain is = (
-  front,
-  rest ++ (line ++ 10 ∷ []),
-  ap (λ b. b ++ (line ++ 10 ∷ [])) e ∙ append_assoc front (10 ∷ rest) (line ++ 10 ∷ []),
-  bare,
-  word,
-  ended-more rest texts line text more plain is,
-)
-
-pub ended-begins : (bytes : List ℕ) (texts : List (List ℕ)) → AreEnded bytes texts → (bytes ≡ []) ⊎ EndsInFeed bytes
-ended-begins bytes [] none = inl none
-ended-begins bytes (text ∷ texts) (line, rest, e, plain, is, more) = elim (ended-begins rest texts more) [
-  | inl none ↦ inr (line, e ∙ ap (λ r. line ++ 10 ∷ r) none)
-  | inr (front, ends) ↦
-      inr (line ++ 10 ∷ front, e ∙ (ap (λ r. line ++ 10 ∷ r) ends ∙ sym (append_assoc line (10 ∷ front) (10 ∷ []))))
-]
-
--- the lines of all bytes, where the last one has ended
-pub ended-lines : (bytes : List ℕ) (texts : List (List ℕ)) → AreEnded bytes texts → AreLines bytes texts
-ended-lines bytes [] none = none
-ended-lines bytes (text ∷ texts) (line, rest, e, plain, is, more) =
-    inl (line, rest, e, plain, is, ended-lines rest texts more)
-
--- and where it has not
-pub ended-last : (bytes : List ℕ) (texts : List (List ℕ)) (last : List ℕ) → AreEnded bytes texts → HasNoFeed last
-    → ¬ (last ≡ []) → AreLines (bytes ++ last) (texts ++ last ∷ [])
-ended-last bytes [] last none plain some =
-    rw none (inr (some, plain, refl, refl))
-ended-last bytes (text ∷ texts) last (line, rest, e, bare, is, more) plain some = inl (
-  line,
-  rest ++ last,
-  ap (λ b. b ++ last) e ∙ append_assoc line (10 ∷ rest) last,
-  bare,
-  is,
-  ended-last rest texts last more plain some,
-)
 
 -- a stretch at the start of the bytes that ends before their first feed
 stretch-before : (line rest a b : List ℕ) → line ++ rest ≡ a ++ 10 ∷ b → HasNoFeed line
@@ -119,10 +66,3 @@ pub short-ended : (ended line : List ℕ) → (ended ≡ []) ⊎ EndsInFeed ende
 short-ended ended line begins before fits =
     short-more ended (line ++ 10 ∷ []) begins before
     (short-feed line [] (short-line line fits) (short-line [] (omega arith)))
-
--- bytes that are none, and bytes that are some, as their number is tested
-pub none-kept : (bytes : List ℕ) → true ≡ (length bytes == 0) → bytes ≡ []
-none-kept bytes e = nil_from_length bytes (eqb-true (length bytes) 0 (sym e))
-
-pub some-kept : (bytes : List ℕ) → false ≡ (length bytes == 0) → ¬ (bytes ≡ [])
-some-kept bytes e none = true≢false (ap (λ b. length b == 0) (sym none) ∙ sym e)

@@ -1,5 +1,5 @@
+pub mod CutLemmas
 pub mod FeedLemmas
-pub mod GivenLemmas
 pub mod JsonLemmas
 pub mod LineLemmas
 pub mod SplitLemmas

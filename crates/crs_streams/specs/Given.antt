@@ -1,5 +1,5 @@
 -- What a source gave.
-use Rattle.std.specs.Prelude.{◌≡◌, ℕ, true, false, List, IfSome, length}
+use Rattle.std.specs.Prelude.{◌≡◌, ◌++◌, ℕ, true, false, List, IfSome, length}
 use Rattle.std.specs.Io.KnownBytes.{Consumes}
 use Rattle.crs_streams.specs.LongLines.{HasShortLines, IsTooLong}
 use Rattle.crs_streams.specs.Streams.{SourceState}
@@ -8,6 +8,11 @@ use Rattle.crs_streams.specs.Streams.{SourceState}
 pub record HasGiven (old new : SourceState) (bytes : List ℕ) : Type 0 where
   pub is_counted : length bytes ≡ new.taken
   pub is_first : Consumes old.remaining new.remaining bytes
+
+-- the source gave these bytes after all that it had given before
+abbrev pub GivesMore : SourceState → SourceState → List ℕ → Type 0
+GivesMore now new more =
+    (old : SourceState) (bytes : List ℕ) → HasGiven old now bytes → HasGiven old new (bytes ++ more)
 
 -- the source showed its end, and gave these bytes, which are all that it had, where all are known
 pub record HasGivenAll (old new : SourceState) (bytes : List ℕ) : Type 0 where

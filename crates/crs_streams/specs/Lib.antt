@@ -1,4 +1,4 @@
-pub mod EndedLines
+pub mod Cutting
 pub mod Escaped
 pub mod Filled
 pub mod Given

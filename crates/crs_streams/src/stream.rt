@@ -1,6 +1,7 @@
-ghost use Rattle.std.specs.Prelude.{◌≡◌, ◌≤◌, ◌<◌, ◌^◌, length};
+ghost use Rattle.std.specs.Prelude.{◌≡◌, ◌*◌, ◌≤◌, ◌<◌, ◌^◌, [], IfErr, IfOk, length, take};
 ghost use Rattle.std.specs.Io.{ReadsAtMost};
 ghost use Rattle.std.specs.Io.KnownBytes.{ReadConsumes};
+ghost use Rattle.crs_streams.specs.Given.{GivesMore};
 ghost use Rattle.crs_streams.specs.Streams.{CountsRead, fresh_source};
 
 use std::io;
@@ -64,6 +65,9 @@ impl<R: Read> Stream<R> {
         ensures bound { ReadsAtMost result room.new }
         ensures bytes { ReadConsumes self.old.remaining self.new.remaining result room.new }
         ensures counted { CountsRead self.old self.new result }
+        ensures few { self.new.taken ≤ 65536 * self.new.reads }
+        ensures given { IfOk result (λ count. GivesMore self.old self.new (take count room.new)) }
+        ensures kept { IfErr result (λ _. GivesMore self.old self.new []) }
     {
         self.reads += 1;
         self.past_end = self.past_end || self.ended;

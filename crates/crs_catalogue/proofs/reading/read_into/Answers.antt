@@ -1,7 +1,6 @@
-use Rattle.std.proofs.Common.{◌≡◌, ◌++◌, arith, false, length, length-take, refl, rules, take, Ok}
+use Rattle.std.proofs.Common.{◌≡◌, ◌++◌, arith, false, length-take, rules, take, Ok}
 use Rattle.crs_catalogue.specs.GroupRun.{IsReadingFault}
 use Rattle.crs_streams.specs.declared.fault.RunFault.TheVariants.{ReadFailed}
-use Rattle.crs_streams.proofs.GivenLemmas.{given-read, taken-read}
 use Rattle.crs_catalogue.proofs.FaultLemmas.{handed-on}
 use Rattle.crs_catalogue.proofs.GroupRunLemmas.{failed-read, fault-in-piece, gives-short, lines-fit}
 use Rattle.crs_catalogue.proofs.reading.read_into.Goals as goal
@@ -10,16 +9,16 @@ pub returns-in_err-count-clause-err : goal.returns-in_err-count-clause-err
 returns-in_err-count-clause-err g c =
     let cut = c.loop-turn.invariant.cut in
     handed-on c.from_residual.result ReadFailed (IsReadingFault c.args.source.now c.read.new.self) (search rules)
-    (failed-read (g.A.Adding.Form c.args.adding.now) (g.A.Adding.Share c.args.adding.now) (g.A.Adding.named c.args.adding.now) c.args.source.now c.loop-turn.source c.read.new.self cut.0 c.read.new.room c.loop-turn.cutter
-    c.read.result cut.1 cut.2 c.read.ensures.bytes c.read.ensures.counted (search rules))
+    (failed-read c.lines_are_cut.ensures (g.A.Adding.Form c.args.adding.now) (g.A.Adding.Share c.args.adding.now) (g.A.Adding.named c.args.adding.now) c.args.source.now c.loop-turn.source c.read.new.self cut.0 c.loop-turn.cutter
+    c.read.result cut.1 cut.2 c.read.ensures.kept c.read.ensures.counted (search rules))
 
 pub take-requires-clause-fits : goal.take-requires-clause-fits
 take-requires-clause-fits g c =
     let cut = c.loop-turn.invariant.cut in
-    lines-fit (g.A.Adding.Form c.args.adding.now) (g.A.Adding.Share c.args.adding.now) (g.A.Adding.named c.args.adding.now) cut.0 c.loop-turn.cutter c.args.source.now c.loop-turn.source
-    (length (take c.in_ok-count.count c.read.new.room)) cut.2 cut.1
-    (omega (arith, c.loop-turn.invariant.few, c.loop-turn-test.true))
-    (omega (arith, length-take c.in_ok-count.count c.read.new.room, c.read.auto.room, c.loop-turn.invariant.room))
+    let got : c.read.result ≡ Ok c.in_ok-count.count = search rules in
+    lines-fit c.lines_are_cut.ensures (g.A.Adding.Form c.args.adding.now) (g.A.Adding.Share c.args.adding.now) (g.A.Adding.named c.args.adding.now) cut.0 (take c.in_ok-count.count c.read.new.room) c.loop-turn.cutter
+    c.args.source.now c.read.new.self cut.2 ((rw got at c.read.ensures.given) c.args.source.now cut.0 cut.1)
+    (omega (arith, c.read.ensures.few, c.read.ensures.counted.one_more, c.loop-turn.invariant.reads, c.loop-turn-test.true))
 
 pub take-requires-clause-small : goal.take-requires-clause-small
 take-requires-clause-small g c =
@@ -30,9 +29,7 @@ returns-in_err-take-clause-err g c =
     let cut = c.loop-turn.invariant.cut in
     let got : c.read.result ≡ Ok c.in_ok-count.count = search rules in
     let healthy : c.read.new.self.failed ≡ false = search rules in
-    let given = given-read c.args.source.now c.loop-turn.source c.read.new.self cut.0 c.read.new.room
-    c.read.new.room c.read.result c.in_ok-count.count cut.1 c.read.ensures.bytes c.read.ensures.counted
-    c.read.ensures.bound got refl in
+    let given = (rw got at c.read.ensures.given) c.args.source.now cut.0 cut.1 in
     handed-on c.from_residual-in_err-take.result c.in_err-take.field-0.0 (IsReadingFault c.args.source.now c.read.new.self) (search rules)
     (fault-in-piece c.args.source.now c.read.new.self (cut.0 ++ take c.in_ok-count.count c.read.new.room)
     c.in_err-take.field-0.0 given healthy (c.in_err-take.ensures.fault cut.0 cut.2))
@@ -41,19 +38,9 @@ pub loop-turn-preserved : goal.loop-turn-preserved
 loop-turn-preserved g c =
     let cut = c.loop-turn.invariant.cut in
     let got : c.read.result ≡ Ok c.in_ok-count.count = search rules in
-    let given = given-read c.args.source.now c.loop-turn.source c.read.new.self cut.0 c.read.new.room
-    c.read.new.room c.read.result c.in_ok-count.count cut.1 c.read.ensures.bytes c.read.ensures.counted
-    c.read.ensures.bound got refl in record {
+    let given = (rw got at c.read.ensures.given) c.args.source.now cut.0 cut.1 in record {
       room = search rules;
       reads = search rules;
-      few = omega (
-        arith,
-        c.loop-turn.invariant.few,
-        c.loop-turn.invariant.room,
-        c.read.auto.room,
-        taken-read c.loop-turn.source c.read.new.self c.read.new.room c.read.result c.in_ok-count.count
-            c.read.ensures.counted c.read.ensures.bound got,
-      );
       unended = search rules;
       within = search rules;
       healthy = search rules;
@@ -67,5 +54,5 @@ returns-clause-err g c =
       c.loop-turn.invariant.healthy,
       omega (arith, c.loop-turn.invariant.reads, c.loop-turn-test.false, c.loop-turn.auto.turn-end),
       c.loop-turn.invariant.unended,
-      gives-short (g.A.Adding.Form c.args.adding.now) (g.A.Adding.Share c.args.adding.now) (g.A.Adding.named c.args.adding.now) c.args.source.now c.loop-turn.source cut.0 c.loop-turn.cutter cut.1 cut.2,
+      gives-short c.lines_are_cut.ensures (g.A.Adding.Form c.args.adding.now) (g.A.Adding.Share c.args.adding.now) (g.A.Adding.named c.args.adding.now) c.args.source.now c.loop-turn.source cut.0 c.loop-turn.cutter cut.1 cut.2,
     )

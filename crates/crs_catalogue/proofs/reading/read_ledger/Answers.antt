@@ -6,11 +6,11 @@ use Rattle.crs_catalogue.proofs.reading.read_ledger.Goals as goal
 
 pub read_into-requires-clause-cutter : goal.read_into-requires-clause-cutter
 read_into-requires-clause-cutter g c =
-    cut-fresh (g.A.Adding.Form c.args.adding.now) (g.A.Adding.Share c.args.adding.now) (g.A.Adding.named c.args.adding.now) c.args.level c.new-cutter.result c.new-cutter.ensures.empty
+    cut-fresh c.lines_are_cut.ensures (g.A.Adding.Form c.args.adding.now) (g.A.Adding.Share c.args.adding.now) (g.A.Adding.named c.args.adding.now) c.args.level c.new-cutter.result c.new-cutter.ensures.empty
 
 pub finish-requires : goal.finish-requires
 finish-requires g c =
-    read-fits (g.A.Adding.Form c.args.adding.now) (g.A.Adding.Share c.args.adding.now) (g.A.Adding.named c.args.adding.now) c.args.source.now c.read_into.new.source c.read_into.new.cutter c.in_ok-read_into.ensures.ok
+    read-fits c.lines_are_cut.ensures (g.A.Adding.Form c.args.adding.now) (g.A.Adding.Share c.args.adding.now) (g.A.Adding.named c.args.adding.now) c.args.source.now c.read_into.new.source c.read_into.new.cutter c.in_ok-read_into.ensures.ok
 
 pub returns-clause-ok : goal.returns-clause-ok
 returns-clause-ok g c =
@@ -22,5 +22,5 @@ returns-clause-ok g c =
     kept (λ ledger. (bytes : List ℕ) → IsCutTo Form Share named bytes c.read_into.new.cutter → IsLedgerFor Form Share named bytes ledger)
     _ c.finish.result c.map_err-2.result c.map_err-2.ensures.cases c.map_err-2.ensures.variant c.finish.ensures.lines in
     let level : IfOk c.map_err-2.result (λ ledger. ledger.catalogue.level ≡ c.args.level) = search rules in
-    whole-ledger Form Share named c.args.level c.args.source.now c.read_into.new.source c.read_into.new.cutter c.map_err-2.result
+    whole-ledger c.lines_are_cut.ensures Form Share named c.args.level c.args.source.now c.read_into.new.source c.read_into.new.cutter c.map_err-2.result
     c.in_ok-read_into.ensures.ok lines level

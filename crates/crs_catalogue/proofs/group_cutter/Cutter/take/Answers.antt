@@ -26,14 +26,14 @@ returns-in_err-end_line-clause-fault g c =
     let done = c.loop-line.invariant.done in
     handed-on c.from_residual.result c.in_err-end_line.field-0.0
     (λ fault. (bytes : List ℕ) → IsCutTo Form Share named bytes c.args.self.now → IsCutFault (bytes ++ c.args.piece.now) fault) (search rules)
-    (piece-fault Form Share named done.0 c.in-Some.line.now c.in-Some.left.now c.loop-line.rest.now c.args.piece.now
+    (piece-fault c.lines_are_cut.ensures Form Share named done.0 c.in-Some.line.now c.in-Some.left.now c.loop-line.rest.now c.args.piece.now
     c.args.self.now c.loop-line.self c.in_err-end_line.field-0.0 done.1 c.in-Some.ensures done.2 c.in_err-end_line.ensures.fault
     c.requires.small)
 
 pub loop-line-preserved : goal.loop-line-preserved
 loop-line-preserved g c =
     let done = c.loop-line.invariant.done in record {
-      done = piece-step (g.A.Adding.Form c.args.adding.now) (g.A.Adding.Share c.args.adding.now) (g.A.Adding.named c.args.adding.now) done.0 c.in-Some.line.now c.in-Some.left.now c.loop-line.rest.now c.args.piece.now
+      done = piece-step c.lines_are_cut.ensures (g.A.Adding.Form c.args.adding.now) (g.A.Adding.Share c.args.adding.now) (g.A.Adding.named c.args.adding.now) done.0 c.in-Some.line.now c.in-Some.left.now c.loop-line.rest.now c.args.piece.now
           c.args.self.now c.loop-line.self c.end_line.new.self done.1 c.in-Some.ensures done.2
           c.in_ok-end_line.ensures.cut;
       lines = omega (
@@ -57,7 +57,7 @@ returns-clause-cut g c =
     let done = c.loop-line.invariant.done in
     let plain : HasNoFeed c.loop-line.rest.now = search rules in
     IfOk-weaker c.keep.result _ _
-    (λ _ kept. piece-kept (g.A.Adding.Form c.args.adding.now) (g.A.Adding.Share c.args.adding.now) (g.A.Adding.named c.args.adding.now) done.0
+    (λ _ kept. piece-kept c.lines_are_cut.ensures (g.A.Adding.Form c.args.adding.now) (g.A.Adding.Share c.args.adding.now) (g.A.Adding.named c.args.adding.now) done.0
     c.loop-line.rest.now c.args.piece.now c.args.self.now c.loop-line.self c.keep.new.self done.1 done.2 plain kept)
     c.keep.ensures.kept
 
@@ -69,8 +69,8 @@ returns-clause-fault g c =
     let done = c.loop-line.invariant.done in
     let plain : HasNoFeed c.loop-line.rest.now = search rules in
     IfErr-weaker c.keep.result _ _
-    (λ fault why. piece-end-fault Form Share named done.0 c.loop-line.rest.now c.args.piece.now c.args.self.now c.loop-line.self
+    (λ fault why. piece-end-fault c.lines_are_cut.ensures Form Share named done.0 c.loop-line.rest.now c.args.piece.now c.args.self.now c.loop-line.self
     fault done.1 done.2
-    (keep-fault Form Share named c.loop-line.rest.now c.loop-line.self fault plain
+    (keep-fault c.lines_are_cut.ensures Form Share named c.loop-line.rest.now c.loop-line.self fault plain
     (omega (arith, c.loop-line.invariant.small, c.requires.small)) why))
     c.keep.ensures.fault
