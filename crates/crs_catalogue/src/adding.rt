@@ -1,5 +1,5 @@
 //! How a line is added to a catalogue: by its canonical text, or by its form under rules.
-ghost use Rattle.std.specs.Prelude.{◌≡◌, ℕ, Bool, List, IfOk};
+ghost use Rattle.std.specs.Prelude.{◌≡◌, ℕ, List, IfOk};
 ghost use Rattle.crs_value.specs.declared.values.level.Level.{Level};
 ghost use Rattle.crs_catalogue.specs.GroupTexts.{IsCatalogueBy, then_line};
 ghost use Rattle.crs_catalogue.specs.Partition.{PlacedLine};
@@ -9,19 +9,13 @@ use crs_placed::Placed;
 use crs_rules::Rules;
 use std::alloc::AllocError;
 
-/// A way to add a line.
+/// How the text of a line is added.
 pub trait Adding {
     // The text that a line's text has in its group.
     ghost Form: { Self → Level → List ℕ → List ℕ → Type 0 };
 
     // When two lines share a group.
     ghost Share: { Self → Level → PlacedLine → PlacedLine → Type 0 };
-
-    // Whether lines have names.
-    ghost named: { Self → Bool };
-
-    fn are_named(&self) -> bool
-        ensures { result ≡ named self.now };
 
     fn add(&self, catalogue: &mut Catalogue, line: u64, text: &[u8]) -> Result<Placed, AllocError>
         ensures catalogue { IfOk result (λ place. (placed : List PlacedLine) →
@@ -35,19 +29,12 @@ pub trait Adding {
 pub struct ByCanon;
 
 impl Adding for ByCanon {
-    ghost use Rattle.std.specs.Prelude.{false};
     ghost use Rattle.crs_writer.specs.Canonical.{IsCanonicalOf};
     ghost use Rattle.crs_catalogue.specs.Partition.{ShareWhereSame};
 
     ghost Form = { λ s level text bytes. IsCanonicalOf level text bytes };
 
     ghost Share = { λ s level p q. ShareWhereSame level p q };
-
-    ghost named = { λ s. false };
-
-    fn are_named(&self) -> bool {
-        false
-    }
 
     fn add(&self, catalogue: &mut Catalogue, line: u64, text: &[u8]) -> Result<Placed, AllocError> {
         catalogue.add(line, text)
@@ -61,7 +48,6 @@ pub struct ByForm<'r> {
 }
 
 impl Adding for ByForm<'_> {
-    ghost use Rattle.std.specs.Prelude.{false};
     ghost use Rattle.crs_rules.specs.Under.{IsForm};
     ghost use Rattle.crs_catalogue.specs.UnderRules.{ShareWhereSameUnder};
 
@@ -69,36 +55,14 @@ impl Adding for ByForm<'_> {
 
     ghost Share = { λ s level p q. ShareWhereSameUnder s.rules.now level p q };
 
-    ghost named = { λ s. false };
-
-    fn are_named(&self) -> bool {
-        false
-    }
-
     fn add(&self, catalogue: &mut Catalogue, line: u64, text: &[u8]) -> Result<Placed, AllocError> {
         catalogue.add_under(line, text, self.rules)
     }
 }
 
-/// In such a way, where lines have names or not.
+// A way to add lines: as their texts are added, and where lines have names or not.
 #[derive(Drop)]
-pub struct WithNames<A: Adding> {
-    pub adding: A,
-    pub named: bool,
-}
-
-impl<A: Adding> Adding for WithNames<A> {
-    ghost Form = { λ s level text bytes. A.Form s.adding level text bytes };
-
-    ghost Share = { λ s level p q. A.Share s.adding level p q };
-
-    ghost named = { λ s. s.named };
-
-    fn are_named(&self) -> bool {
-        self.named
-    }
-
-    fn add(&self, catalogue: &mut Catalogue, line: u64, text: &[u8]) -> Result<Placed, AllocError> {
-        self.adding.add(catalogue, line, text)
-    }
+pub(crate) struct Way<A: Adding> {
+    pub(crate) adding: A,
+    pub(crate) named: bool,
 }

@@ -6,7 +6,7 @@ ghost use Rattle.crs_catalogue.specs.GroupCutting.{IsCutFault, IsCutTo, IsKept, 
 ghost use Rattle.crs_catalogue.specs.GroupCutting.{no_lines};
 ghost use Rattle.crs_streams.specs.Lines.{HasNoFeed};
 
-use crate::adding::Adding;
+use crate::adding::{Adding, Way};
 use crate::ledger::Ledger;
 use crs_streams::laws::lines_are_cut;
 use crs_streams::{MAX_LINE, RunFault, append_bytes, split_line, text_of};
@@ -40,32 +40,32 @@ impl Cutter {
     }
 
     // The next piece of the bytes.
-    pub(crate) fn take<A: Adding>(&mut self, adding: &A, piece: &[u8]) -> Result<(), RunFault>
+    pub(crate) fn take<A: Adding>(&mut self, way: &Way<A>, piece: &[u8]) -> Result<(), RunFault>
         requires fits { self.old.ledger.lines + length piece.now + 1 < 2 ^ 64 }
         requires small { length piece.now ≤ 65536 }
         ensures cut { OnOk result ((bytes : List ℕ) →
-            IsCutTo (A.Form adding.now) (A.Share adding.now) (A.named adding.now) bytes self.old →
-            IsCutTo (A.Form adding.now) (A.Share adding.now) (A.named adding.now) (bytes ++ piece.now) self.new) }
+            IsCutTo (A.Form way.now.adding) (A.Share way.now.adding) way.now.named bytes self.old →
+            IsCutTo (A.Form way.now.adding) (A.Share way.now.adding) way.now.named (bytes ++ piece.now) self.new) }
         ensures fault { IfErr result (λ fault. (bytes : List ℕ) →
-            IsCutTo (A.Form adding.now) (A.Share adding.now) (A.named adding.now) bytes self.old →
+            IsCutTo (A.Form way.now.adding) (A.Share way.now.adding) way.now.named bytes self.old →
             IsCutFault (bytes ++ piece.now) fault) }
         ensures level { self.new.ledger.catalogue.level ≡ self.old.ledger.catalogue.level }
     {
         lines_are_cut();
         let mut rest = piece;
         while let Some((line, left)) = split_line(rest) {
-            self.end_line(adding, line)?;
+            self.end_line(way, line)?;
             rest = left;
         }
         self.keep(rest)
     }
 
     // The ledger of all lines: what follows the last line feed is one, if it has a byte.
-    pub(crate) fn finish<A: Adding>(self, adding: &A) -> Result<Ledger, AllocError>
+    pub(crate) fn finish<A: Adding>(self, way: &Way<A>) -> Result<Ledger, AllocError>
         requires { self.ledger.lines + 1 < 2 ^ 64 }
         ensures lines { IfOk result (λ ledger. (bytes : List ℕ) →
-            IsCutTo (A.Form adding.now) (A.Share adding.now) (A.named adding.now) bytes self →
-            IsLedgerFor (A.Form adding.now) (A.Share adding.now) (A.named adding.now) bytes ledger) }
+            IsCutTo (A.Form way.now.adding) (A.Share way.now.adding) way.now.named bytes self →
+            IsLedgerFor (A.Form way.now.adding) (A.Share way.now.adding) way.now.named bytes ledger) }
         ensures level { IfOk result (λ ledger. ledger.catalogue.level ≡ self.ledger.catalogue.level) }
     {
         lines_are_cut();
@@ -73,19 +73,19 @@ impl Cutter {
         if self.partial.is_empty() {
             return Ok(ledger);
         }
-        ledger.add(adding, &self.partial)?;
+        ledger.add(way, &self.partial)?;
         Ok(ledger)
     }
 
     // The bytes before a line feed: after what was kept they complete a line.
-    fn end_line<A: Adding>(&mut self, adding: &A, line: &[u8]) -> Result<(), RunFault>
+    fn end_line<A: Adding>(&mut self, way: &Way<A>, line: &[u8]) -> Result<(), RunFault>
         requires one { HasNoFeed line.now }
         requires fits { self.old.ledger.lines + 1 < 2 ^ 64 }
         ensures cut { OnOk result ((bytes : List ℕ) →
-            IsCutTo (A.Form adding.now) (A.Share adding.now) (A.named adding.now) bytes self.old →
-            IsCutTo (A.Form adding.now) (A.Share adding.now) (A.named adding.now) (bytes ++ (line.now ++ 10 ∷ [])) self.new) }
+            IsCutTo (A.Form way.now.adding) (A.Share way.now.adding) way.now.named bytes self.old →
+            IsCutTo (A.Form way.now.adding) (A.Share way.now.adding) way.now.named (bytes ++ (line.now ++ 10 ∷ [])) self.new) }
         ensures fault { IfErr result (λ fault. (bytes rest : List ℕ) → length line.now + length rest ≤ 65536 →
-            IsCutTo (A.Form adding.now) (A.Share adding.now) (A.named adding.now) bytes self.old →
+            IsCutTo (A.Form way.now.adding) (A.Share way.now.adding) way.now.named bytes self.old →
             IsCutFault (bytes ++ (line.now ++ rest)) fault) }
         ensures lines { OnOk result (self.new.ledger.lines ≡ self.old.ledger.lines + 1) }
         ensures level { self.new.ledger.catalogue.level ≡ self.old.ledger.catalogue.level }
@@ -95,10 +95,10 @@ impl Cutter {
             return Err(RunFault::TooLong(self.ledger.lines() + 1));
         }
         if self.partial.is_empty() {
-            return add_line(&mut self.ledger, adding, line);
+            return add_line(&mut self.ledger, way, line);
         }
         append_bytes(&mut self.partial, line)?;
-        add_line(&mut self.ledger, adding, &self.partial)?;
+        add_line(&mut self.ledger, way, &self.partial)?;
         self.partial.clear();
         Ok(())
     }
@@ -125,14 +125,12 @@ impl Cutter {
     }
 }
 
-fn add_line<A: Adding>(ledger: &mut Ledger, adding: &A, line: &[u8]) -> Result<(), RunFault>
+fn add_line<A: Adding>(ledger: &mut Ledger, way: &Way<A>, line: &[u8]) -> Result<(), RunFault>
     requires { ledger.old.lines + 1 < 2 ^ 64 }
-    ensures added { OnOk result (IsNextLine (A.Form adding.now) (A.Share adding.now) (A.named adding.now) line.now ledger.old ledger.new) }
+    ensures added { OnOk result (IsNextLine (A.Form way.now.adding) (A.Share way.now.adding) way.now.named line.now ledger.old ledger.new) }
     ensures fault { IfErr result (λ fault. fault ≡ RunFault.Memory) }
     ensures lines { OnOk result (ledger.new.lines ≡ ledger.old.lines + 1) }
     ensures level { ledger.new.catalogue.level ≡ ledger.old.catalogue.level }
 {
-    ledger
-        .add(adding, text_of(line))
-        .map_err(|_| RunFault::Memory)
+    ledger.add(way, text_of(line)).map_err(|_| RunFault::Memory)
 }

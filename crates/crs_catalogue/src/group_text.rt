@@ -2,7 +2,7 @@
 ghost use Rattle.std.specs.Prelude.{◌≡◌, ◌++◌, OnOk, Some};
 ghost use Rattle.std.specs.List.{flat_map};
 ghost use Rattle.crs_placed.specs.Catalogue.{GroupParts, nth};
-ghost use Rattle.crs_catalogue.specs.GroupOutput.{catalogue_text, group_line, group_lines, group_written, is_listed};
+ghost use Rattle.crs_catalogue.specs.GroupOutput.{catalogue_text, group_line, group_lines, is_listed};
 ghost use Rattle.crs_catalogue.specs.GroupOutput.{label, labelled, labels_text, listed_line, refused_written};
 
 use crate::Listing;
@@ -46,13 +46,14 @@ impl Listed<'_> {
     {
         let catalogue = self.ledger.catalogue();
         match (catalogue.lines(number), catalogue.text(number)) {
-            (Some(lines), Some(text)) => self.write_if_listed(out, number, lines, text),
+            (Some(lines), Some(text)) => self.write_group(out, number, lines, text),
             (None, _) => Ok(()),
             (Some(_), None) => Ok(()),
         }
     }
 
-    fn write_if_listed(
+    // The group of this number, which has these lines and this text, as an object or a line, if it is listed.
+    fn write_group(
         self,
         out: &mut Vec<u8>,
         number: usize,
@@ -63,25 +64,9 @@ impl Listed<'_> {
             OnOk result (out.new.items ≡ out.old.items
             ++ listed_line self.entry.listing self.entry.ledger.now.names number group) }
     {
-        if is_listed(self.listing, lines) {
-            self.write_group(out, number, lines, text)
-        } else {
-            Ok(())
+        if !is_listed(self.listing, lines) {
+            return Ok(());
         }
-    }
-
-    // The group of this number, which has these lines and this text, as an object or a line.
-    fn write_group(
-        self,
-        out: &mut Vec<u8>,
-        number: usize,
-        lines: &[u64],
-        text: &[u8],
-    ) -> Result<(), AllocError>
-        ensures { (group : GroupParts) → group.lines ≡ lines.now → group.canon.bytes ≡ text.now →
-            OnOk result (out.new.items ≡ out.old.items
-            ++ group_written self.entry.listing self.entry.ledger.now.names number group) }
-    {
         if self.listing.json {
             return self.write_group_object(out, number, lines, text);
         }

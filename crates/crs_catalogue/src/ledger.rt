@@ -2,7 +2,7 @@
 ghost use Rattle.std.specs.Prelude.{◌≡◌, ◌+◌, ◌^◌, ◌<◌, ◌≤◌, ◌++◌, ◌∷◌, [], ℕ, List, OnOk, length};
 ghost use Rattle.crs_catalogue.specs.GroupCutting.{IsLedgerOf, blank_count, no_lines};
 
-use crate::adding::Adding;
+use crate::adding::{Adding, Way};
 use crate::catalogue::Catalogue;
 use crate::names::{Names, text_in};
 use crate::summary::Summary;
@@ -49,16 +49,18 @@ impl Ledger {
     }
 
     // The next line.
-    pub(crate) fn add<A: Adding>(&mut self, adding: &A, line: &[u8]) -> Result<(), AllocError>
+    pub(crate) fn add<A: Adding>(&mut self, way: &Way<A>, line: &[u8]) -> Result<(), AllocError>
         requires { self.old.lines + 1 < 2 ^ 64 }
         ensures texts { OnOk result ((texts : List (List ℕ)) →
-            IsLedgerOf (A.Form adding.now) (A.Share adding.now) (A.named adding.now) texts self.old →
-            IsLedgerOf (A.Form adding.now) (A.Share adding.now) (A.named adding.now) (texts ++ line.now ∷ []) self.new) }
+            IsLedgerOf (A.Form way.now.adding) (A.Share way.now.adding) way.now.named texts self.old →
+            IsLedgerOf (A.Form way.now.adding) (A.Share way.now.adding) way.now.named (texts ++ line.now ∷ []) self.new) }
         ensures lines { OnOk result (self.new.lines ≡ self.old.lines + 1) }
         ensures level { self.new.catalogue.level ≡ self.old.catalogue.level }
     {
-        let named = adding.are_named();
-        let placed = adding.add(&mut self.catalogue, self.lines + 1, text_in(named, line))?;
+        let named = way.named;
+        let placed = way
+            .adding
+            .add(&mut self.catalogue, self.lines + 1, text_in(named, line))?;
         self.names.keep(named, self.lines + 1, line)?;
         self.lines += 1;
         self.blank += blank_count(placed);

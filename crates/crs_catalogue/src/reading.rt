@@ -5,7 +5,7 @@ ghost use Rattle.crs_catalogue.specs.GroupReading.{IsLedgerWhole, IsReadInto};
 ghost use Rattle.crs_catalogue.specs.GroupRun.{IsReadingFault};
 ghost use Rattle.crs_streams.specs.Streams.{fresh_source};
 
-use crate::adding::Adding;
+use crate::adding::{Adding, Way};
 use crate::group_cutter::Cutter;
 use crate::ledger::Ledger;
 use crs_streams::laws::lines_are_cut;
@@ -18,11 +18,11 @@ use std::io::Read;
 pub(crate) fn read_ledger<A: Adding, R: Read>(
     alloc: Global,
     level: Level,
-    adding: &A,
+    way: &Way<A>,
     source: &mut Source<R>,
 ) -> Result<Ledger, RunFault>
     requires { source.old ≡ fresh_source source.old.remaining }
-    ensures ok { IfOk result (IsLedgerWhole (A.Form adding.now) (A.Share adding.now) (A.named adding.now) level source.old source.new) }
+    ensures ok { IfOk result (IsLedgerWhole (A.Form way.now.adding) (A.Share way.now.adding) way.now.named level source.old source.new) }
     ensures reads { source.new.reads ≤ 1048576 }
     ensures past_end { source.new.past_end ≡ false }
     ensures err { IfErr result (IsReadingFault source.old source.new) }
@@ -30,20 +30,20 @@ pub(crate) fn read_ledger<A: Adding, R: Read>(
     lines_are_cut();
     let mut room = make_room(alloc).map_err(|_| RunFault::Memory)?;
     let mut cutter = Cutter::new(alloc, level);
-    read_into(adding, &mut cutter, source, room.as_mut_slice())?;
-    cutter.finish(adding).map_err(|_| RunFault::Memory)
+    read_into(way, &mut cutter, source, room.as_mut_slice())?;
+    cutter.finish(way).map_err(|_| RunFault::Memory)
 }
 
 fn read_into<A: Adding, R: Read>(
-    adding: &A,
+    way: &Way<A>,
     cutter: &mut Cutter,
     source: &mut Source<R>,
     room: &mut [u8],
 ) -> Result<(), RunFault>
     requires source { source.old ≡ fresh_source source.old.remaining }
-    requires cutter { IsCutTo (A.Form adding.now) (A.Share adding.now) (A.named adding.now) [] cutter.old }
+    requires cutter { IsCutTo (A.Form way.now.adding) (A.Share way.now.adding) way.now.named [] cutter.old }
     requires room { length room.old ≡ 65536 }
-    ensures ok { OnOk result (IsReadInto (A.Form adding.now) (A.Share adding.now) (A.named adding.now) source.old source.new cutter.new) }
+    ensures ok { OnOk result (IsReadInto (A.Form way.now.adding) (A.Share way.now.adding) way.now.named source.old source.new cutter.new) }
     ensures reads { source.new.reads ≤ 1048576 }
     ensures past_end { source.new.past_end ≡ false }
     ensures err { IfErr result (IsReadingFault source.old source.new) }
@@ -55,7 +55,7 @@ fn read_into<A: Adding, R: Read>(
         if count == 0 {
             return Ok(());
         }
-        cutter.take(adding, &room[..count])?;
+        cutter.take(way, &room[..count])?;
     }
     Err(RunFault::TooManyReads)
 }

@@ -2,14 +2,15 @@
 use Rattle.std.proofs.Common.{◌≡◌, ◌⊎◌, ◌+◌, ◌<◌, ◌≤◌, ◌++◌, ◌∷◌, [], ℕ, List, Bool, true, false, length, inl, inr, ap, subst, sym, refl, ◌∙◌, arith, append_assoc, append-nil, length-append, ◌==◌}
 use Rattle.std.specs.Io.KnownBytes.{Appends}
 use Rattle.std.proofs.KnownBytes.{Appends-trans}
-use Rattle.crs_streams.specs.Prelude.{AreLines, HasNoFeed, IsSplit, IsTextOf, EndsInFeed, HasShortLines, feeds, SinkState}
+use Rattle.std.proofs.lemmas.Bool.{eqb-true, false≢true}
+use Rattle.std.proofs.lemmas.List.{nil_from_length}
+use Rattle.std.proofs.lemmas.List.Folds.{list_all-append}
+use Rattle.crs_streams.specs.Prelude.{AreLines, CutsLines, HasNoFeed, IsSplit, IsTextOf, EndsInFeed, SinkState}
 use Rattle.crs_streams.specs.declared.fault.RunFault.{RunFault}
 use Rattle.crs_streams.specs.declared.fault.RunFault.TheVariants.{WriteFailed, TooLong, Memory}
-use Rattle.crs_streams.proofs.FeedLemmas.{feeds-append, feeds-none, none-kept, short-ended, short-line, short-more, some-kept}
-use Rattle.crs_streams.proofs.SplitLemmas.{plain-append}
 use Rattle.crs_desk.specs.LinesRun.{AreOutputs, AreWholeLines, HasSent, HasSentAll, IsFrontOutput, Outputs}
 use Rattle.crs_desk.specs.LineCutting.{CutterParts, IsCut, IsEmptied, IsFlushed, IsHealthy, IsKept, IsLinesCut, IsNotKept, IsOver, IsPut, IsPutOut, IsStopped, IsWrittenOut, PutsLine, WriterParts}
-use Rattle.crs_desk.proofs.LineOutputLemmas.{appends-none, front-none, whole-front, lines-append, outputs-append}
+use Rattle.crs_desk.proofs.LineOutputLemmas.{appends-none, front-none, whole-front, outputs-append}
 
 -- some whole lines of bytes are some of more bytes
 front-more : {Output : Outputs} {bytes written : List ℕ} (more : List ℕ) (end : Bool) → IsFrontOutput Output bytes false written
@@ -46,10 +47,6 @@ stopped-more Output before after bytes more fault is stopped =
     let (failed, first, (unsent, sent)) = subst (IsStopped Output false before bytes after) is stopped in
     rw is (failed, first, (unsent, sent-more Output before after bytes more unsent false sent))
 
-feeds-fit : (bytes : List ℕ) → feeds bytes ≤ length bytes
-feeds-fit [] = omega arith
-feeds-fit (b ∷ bytes) = grind (arith, feeds-append (b ∷ []) bytes, feeds-fit bytes)
-
 abbrev pub cutter_of : WriterParts → List ℕ → ℕ → CutterParts
 cutter_of writer partial lines = record { writer = writer; partial = partial; lines = lines }
 
@@ -70,28 +67,6 @@ module _ {Output : Outputs} {before : SinkState} where
   put-begins : {after : SinkState} {bytes : List ℕ} {writer : WriterParts}
       → IsPutOut Output false before bytes writer after → (bytes ≡ []) ⊎ EndsInFeed bytes
   put-begins put = grind (arith, put.are_whole)
-
-  -- one more line
-  put-more : {after : SinkState} {bytes : List ℕ} {old : WriterParts} (end : Bool) (more text : List ℕ) (new : WriterParts)
-      → IsPutOut Output false before bytes old after → AreLines more (text ∷ []) → EndsInFeed (bytes ++ more) ⊎ (end ≡ true)
-      → IsPut Output text old new → IsPutOut Output end before (bytes ++ more) new after
-  put-more {bytes = bytes} {old = old} end more text new put line ends is = record {
-    texts = put.texts ++ text ∷ [];
-    are_texts = lines-append bytes more put.texts (text ∷ []) (put-begins put) put.are_texts line;
-    are_whole = inr ends;
-    sent = put.sent;
-    are_outputs = outputs-more Output put.texts text put.sent old new put.are_outputs is;
-    is_front = front-more more end put.is_front;
-    is_sent = put.is_sent;
-    is_healthy = put.is_healthy;
-  }
-
-  put-ended : {after : SinkState} {bytes : List ℕ} {old : WriterParts} (line text : List ℕ) (new : WriterParts)
-      → IsPutOut Output false before bytes old after → HasNoFeed line → IsTextOf line text
-      → IsPut Output text old new → IsPutOut Output false before (bytes ++ (line ++ 10 ∷ [])) new after
-  put-ended {bytes = bytes} line text new put plain of-line is =
-      put-more false (line ++ 10 ∷ []) text new put (inl (line, [], refl, plain, of-line, refl))
-      (inl (bytes ++ line, sym (append_assoc bytes line (10 ∷ [])))) is
 
   -- what was kept is sent
   put-emptied : {end : Bool} {now after : SinkState} {bytes : List ℕ} {old new : WriterParts}
@@ -135,108 +110,21 @@ module _ {Output : Outputs} {before : SinkState} where
         ),
       )
 
-  -- ---- cutting
-
-  -- no byte was cut
-  pub cut-none : (cutter : CutterParts) → IsHealthy before
-      → cutter ≡ record { writer = record { out = []; status = 0 }; partial = []; lines = 0 }
-      → IsLinesCut Output before [] cutter before
-  cut-none cutter healthy is = subst (λ (c : CutterParts). IsLinesCut Output before [] c before) (sym is) (record {
-    ended = [];
-    are_bytes = refl;
-    is_put = record {
-      texts = [];
-      are_texts = refl;
-      are_whole = inl refl;
-      sent = [];
-      are_outputs = (refl, refl);
-      is_front = front-none Output;
-      is_sent = appends-none before.contents;
-      is_healthy = healthy;
-    };
-    are_short = short-line [] (omega arith);
-    is_one = refl;
-    is_short = omega arith;
-    is_counted = refl;
-  })
-
-  -- a line ends
-  pub cut-line : {now : SinkState} {bytes : List ℕ} {old : CutterParts} (line text : List ℕ) (new : CutterParts) (put : WriterParts) (after : SinkState)
-      → IsLinesCut Output before bytes old now → HasNoFeed line
-      → length old.partial + length line ≤ 1048576 → IsTextOf (old.partial ++ line) text
-      → IsPut Output text old.writer put → IsFlushed put new.writer now after
-      → new.partial ≡ [] → new.lines ≡ old.lines + 1
-      → IsLinesCut Output before (bytes ++ (line ++ 10 ∷ [])) new after
-  cut-line {old = old} line text new put after cut plain fits of-line is flushed none counted =
-      let whole = old.partial ++ line in
-      let bare = plain-append old.partial line cut.is_one plain in record {
-        ended = cut.ended ++ (whole ++ 10 ∷ []);
-        are_bytes = rw (cut.are_bytes, none) (simp (append_assoc, append-nil));
-        is_put = put-flushed new.writer after (put-ended whole text put cut.is_put bare of-line is) flushed;
-        are_short = short-ended cut.ended whole (put-begins cut.is_put) cut.are_short
-            (omega (arith, length-append old.partial line));
-        is_one = subst HasNoFeed (sym none) refl;
-        is_short = omega (arith, ap length none);
-        is_counted = omega (
-          arith,
-          counted,
-          cut.is_counted,
-          feeds-append cut.ended (whole ++ 10 ∷ []),
-          feeds-append whole (10 ∷ []),
-          feeds-none whole bare,
-          one-feed,
-        );
-      }
-    where
-      one-feed : feeds (10 ∷ []) ≡ 1
-      one-feed = refl
-
-  -- the line's output can't be sent
-  pub cut-unsent : {now after : SinkState} {bytes : List ℕ} {old : CutterParts} {put : WriterParts} {fault : RunFault} (line rest text : List ℕ)
-      → IsLinesCut Output before bytes old now → HasNoFeed line
-      → IsTextOf (old.partial ++ line) text → IsPut Output text old.writer put → IsCut put now after fault
-      → IsStopped Output false before (bytes ++ (line ++ 10 ∷ rest)) after fault
-  cut-unsent {after = after} {bytes = bytes} {old = old} {put = put} {fault = fault} line rest text cut plain of-line is sent =
-      let whole = old.partial ++ line in
-      let ended = cut.ended ++ (whole ++ 10 ∷ []) in
-      let same : ended ++ rest ≡ bytes ++ (line ++ 10 ∷ rest) = rw cut.are_bytes (simp append_assoc) in
-      subst (λ b. IsStopped Output false before b after fault) same
-      (stopped-more Output before after ended rest fault sent.is_fault
-      (put-cut (put-ended whole text put cut.is_put (plain-append old.partial line cut.is_one plain) of-line is) sent))
-
-  -- bytes of a line that goes on
-  pub cut-kept : {after : SinkState} {bytes : List ℕ} {old : CutterParts} (more : List ℕ) (new : CutterParts)
-      → IsLinesCut Output before bytes old after → HasNoFeed more → IsKept more old new
-      → IsLinesCut Output before (bytes ++ more) new after
-  cut-kept {after = after} {old = old} more new cut plain kept = record {
-    ended = cut.ended;
-    are_bytes = rw (cut.are_bytes, kept.are_more) (append_assoc cut.ended old.partial more);
-    is_put = subst (λ w. IsPutOut Output false before cut.ended w after) (sym kept.is_put) cut.is_put;
-    are_short = cut.are_short;
-    is_one = subst HasNoFeed (sym kept.are_more) (plain-append old.partial more cut.is_one plain);
-    is_short = omega (arith, kept.are_few, ap length kept.are_more, length-append old.partial more);
-    is_counted = kept.is_counted ∙ cut.is_counted;
-  }
-
   -- what was kept is sent
   pub cut-emptied : {now after : SinkState} {bytes : List ℕ} {old : CutterParts} (new : CutterParts)
       → IsLinesCut Output before bytes old now → IsEmptied old.writer new.writer now after → new.partial ≡ old.partial
       → new.lines ≡ old.lines → IsLinesCut Output before bytes new after
   cut-emptied new cut emptied partial lines = record {
     ended = cut.ended;
-    are_bytes = cut.are_bytes ∙ ap (λ l. cut.ended ++ l) (sym partial);
+    is_cut = rw (partial, lines) cut.is_cut;
     is_put = put-emptied cut.is_put emptied;
-    are_short = cut.are_short;
-    is_one = subst HasNoFeed (sym partial) cut.is_one;
-    is_short = omega (arith, ap length partial, cut.is_short);
-    is_counted = lines ∙ cut.is_counted;
   }
 
   -- whole lines of the bytes that were cut were sent
   pub cut-sent : {after : SinkState} {bytes : List ℕ} {cutter : CutterParts} (more : List ℕ) (end : Bool)
       → IsLinesCut Output before bytes cutter after → HasSent Output (bytes ++ more) end before after []
   cut-sent {after = after} {cutter = cutter} more end cut =
-      rw (cut.are_bytes, append_assoc cut.ended cutter.partial more)
+      rw (cut.is_cut.are_bytes, append_assoc cut.ended cutter.partial more)
       (sent-more Output before after cut.ended (cutter.partial ++ more) [] end (put-sent cut.is_put))
 
   -- and all of what is written for the lines that have ended, where none of it is kept
@@ -255,67 +143,23 @@ module _ {Output : Outputs} {before : SinkState} where
         is_sent = cut.is_put.is_sent;
       }
 
-  -- a line is too long
-  pub cut-long : {after : SinkState} {bytes : List ℕ} {cutter : CutterParts} (line rest : List ℕ)
-      → IsLinesCut Output before bytes cutter after → cutter.writer.out ≡ [] → HasNoFeed line
-      → 1048576 < length cutter.partial + length line → length line + length rest ≤ 65536
-      → IsStopped Output false before (bytes ++ (line ++ rest)) after (TooLong (cutter.lines + 1))
-  cut-long {cutter = cutter} line rest cut none plain long small = (
-    cut.is_put.is_healthy,
-    (
-      record {
-        front = cut.ended;
-        long = cutter.partial ++ line;
-        rest = rest;
-        are_bytes = rw cut.are_bytes (simp append_assoc);
-        begins = put-begins cut.is_put;
-        is_one = plain-append cutter.partial line cut.is_one plain;
-        is_long = omega (arith, length-append cutter.partial line);
-        is_soon = omega (arith, length-append cutter.partial line, cut.is_short);
-        before = cut.are_short;
-        is_number = ap (λ n. n + 1) cut.is_counted;
-      },
-      cut-all cut none,
-    ),
-  )
-
   -- what is written for the lines before can't be sent
   pub cut-unsendable : {now after : SinkState} {bytes : List ℕ} {cutter : CutterParts} {fault : RunFault} (more : List ℕ)
       → IsLinesCut Output before bytes cutter now → IsCut cutter.writer now after fault
       → IsStopped Output false before (bytes ++ more) after fault
   cut-unsendable {after = after} {cutter = cutter} {fault = fault} more cut unsent =
-      rw (cut.are_bytes, append_assoc cut.ended cutter.partial more)
+      rw (cut.is_cut.are_bytes, append_assoc cut.ended cutter.partial more)
       (stopped-more Output before after cut.ended (cutter.partial ++ more) fault unsent.is_fault (put-cut cut.is_put unsent))
 
   -- the lines that have ended are all whole lines of the bytes that were cut
   pub cut-whole : {after : SinkState} {bytes : List ℕ} {cutter : CutterParts}
       (cut : IsLinesCut Output before bytes cutter after) → AreWholeLines bytes cut.ended
-  cut-whole {cutter = cutter} cut = (cutter.partial, cut.are_bytes, put-begins cut.is_put, cut.is_one)
-
-  -- so far no line is too long
-  pub cut-short : {after : SinkState} {bytes : List ℕ} {cutter : CutterParts} → IsLinesCut Output before bytes cutter after → HasShortLines bytes
-  cut-short {cutter = cutter} cut =
-      subst HasShortLines (sym cut.are_bytes)
-      (short-more cut.ended cutter.partial (put-begins cut.is_put) cut.are_short (short-line cutter.partial cut.is_short))
-
-  pub cut-fits : {after : SinkState} {bytes : List ℕ} {cutter : CutterParts} → IsLinesCut Output before bytes cutter after → cutter.lines ≤ length bytes
-  cut-fits {cutter = cutter} cut =
-      omega (arith, cut.is_counted, feeds-fit cut.ended, ap length cut.are_bytes, length-append cut.ended cutter.partial)
+  cut-whole {cutter = cutter} cut = (cutter.partial, cut.is_cut.are_bytes, cut.is_cut.begins, cut.is_cut.is_one)
 
   pub cut-sent-all : {after : SinkState} {bytes : List ℕ} {cutter : CutterParts} (end : Bool)
       → IsLinesCut Output before bytes cutter after → HasSent Output bytes end before after []
   cut-sent-all {after = after} {bytes = bytes} end cut =
       subst (λ b. HasSent Output b end before after []) (append-nil bytes) (cut-sent [] end cut)
-
-  -- ---- the end
-
-  -- the open line is the last
-  cut-last : {after : SinkState} {bytes : List ℕ} {cutter : CutterParts} (new : WriterParts)
-      → IsLinesCut Output before bytes cutter after → ¬ (cutter.partial ≡ [])
-      → IsPut Output cutter.partial cutter.writer new → IsPutOut Output true before bytes new after
-  cut-last {after = after} {cutter = cutter} new cut some is =
-      subst (λ b. IsPutOut Output true before b new after) (sym cut.are_bytes)
-      (put-more true cutter.partial cutter.partial new cut.is_put (inr (some, cut.is_one, refl, refl)) (inr refl) is)
 
   -- all is sent
   pub end-sent : {now after : SinkState} {bytes : List ℕ} {old new : WriterParts}
@@ -330,15 +174,6 @@ module _ {Output : Outputs} {before : SinkState} where
         is_healthy = all.is_healthy;
       }
 
-  -- ---- as the code cuts
-
-  pub last-put : {after : SinkState} {bytes : List ℕ} {now : CutterParts} {writer : WriterParts} {partial last : List ℕ} {lines : ℕ} (new : WriterParts)
-      → cutter_of writer partial lines ≡ now → false ≡ (length partial == 0) → last ≡ partial → IsPut Output last writer new
-      → IsLinesCut Output before bytes now after → IsPutOut Output true before bytes new after
-  last-put {after = after} {bytes = bytes} {writer = writer} {partial = partial} new is some same put cut =
-      cut-last new (subst (λ (k : CutterParts). IsLinesCut Output before bytes k after) (sym is) cut) (some-kept partial some)
-      (subst (λ t. IsPut Output t writer new) same put)
-
   pub line-starved : {after : SinkState} {bytes : List ℕ} {cutter : CutterParts} {fault : RunFault} (more : List ℕ)
       → fault ≡ Memory → IsLinesCut Output before bytes cutter after → IsStopped Output false before (bytes ++ more) after fault
   line-starved more is cut = rw is (cut.is_put.is_healthy, cut-sent more false cut)
@@ -347,29 +182,136 @@ module _ {Output : Outputs} {before : SinkState} where
       → fault ≡ Memory → IsLinesCut Output before bytes cutter after → IsStopped Output true before bytes after fault
   end-starved is cut = rw is (cut.is_put.is_healthy, cut-sent-all true cut)
 
+plain-append : (a b : List ℕ) → HasNoFeed a → HasNoFeed b → HasNoFeed (a ++ b)
+plain-append a b p q = rw (list_all-append, p, q) refl
+
+module _ (lines : CutsLines) {Output : Outputs} {before : SinkState} where
+  -- one more line
+  put-more : {after : SinkState} {bytes : List ℕ} {old : WriterParts} (end : Bool) (more text : List ℕ) (new : WriterParts)
+      → IsPutOut Output false before bytes old after → AreLines more (text ∷ []) → EndsInFeed (bytes ++ more) ⊎ (end ≡ true)
+      → IsPut Output text old new → IsPutOut Output end before (bytes ++ more) new after
+  put-more {bytes = bytes} {old = old} end more text new put line ends is = record {
+    texts = put.texts ++ text ∷ [];
+    are_texts = lines.joined bytes more put.texts (text ∷ []) (put-begins put) put.are_texts line;
+    are_whole = inr ends;
+    sent = put.sent;
+    are_outputs = outputs-more Output put.texts text put.sent old new put.are_outputs is;
+    is_front = front-more more end put.is_front;
+    is_sent = put.is_sent;
+    is_healthy = put.is_healthy;
+  }
+
+  put-ended : {after : SinkState} {bytes : List ℕ} {old : WriterParts} (line text : List ℕ) (new : WriterParts)
+      → IsPutOut Output false before bytes old after → HasNoFeed line → IsTextOf line text
+      → IsPut Output text old new → IsPutOut Output false before (bytes ++ (line ++ 10 ∷ [])) new after
+  put-ended {bytes = bytes} line text new put plain of-line is =
+      put-more false (line ++ 10 ∷ []) text new put (inl (line, [], refl, plain, of-line, refl))
+      (inl (bytes ++ line, sym (append_assoc bytes line (10 ∷ [])))) is
+
+  -- no byte was cut
+  pub cut-none : (cutter : CutterParts) → IsHealthy before
+      → cutter ≡ record { writer = record { out = []; status = 0 }; partial = []; lines = 0 }
+      → IsLinesCut Output before [] cutter before
+  cut-none cutter healthy is = subst (λ (c : CutterParts). IsLinesCut Output before [] c before) (sym is) (record {
+    ended = [];
+    is_cut = lines.none;
+    is_put = record {
+      texts = [];
+      are_texts = refl;
+      are_whole = inl refl;
+      sent = [];
+      are_outputs = (refl, refl);
+      is_front = front-none Output;
+      is_sent = appends-none before.contents;
+      is_healthy = healthy;
+    };
+  })
+
+  -- a line ends
+  pub cut-line : {now : SinkState} {bytes : List ℕ} {old : CutterParts} (line text : List ℕ) (new : CutterParts) (put : WriterParts) (after : SinkState)
+      → IsLinesCut Output before bytes old now → HasNoFeed line
+      → length old.partial + length line ≤ 1048576 → IsTextOf (old.partial ++ line) text
+      → IsPut Output text old.writer put → IsFlushed put new.writer now after
+      → new.partial ≡ [] → new.lines ≡ old.lines + 1
+      → IsLinesCut Output before (bytes ++ (line ++ 10 ∷ [])) new after
+  cut-line {old = old} line text new put after cut plain fits of-line is flushed none counted =
+      let whole = old.partial ++ line in record {
+        ended = cut.ended ++ (whole ++ 10 ∷ []);
+        is_cut = rw (none, counted) (lines.line line cut.is_cut plain fits);
+        is_put = put-flushed new.writer after
+            (put-ended whole text put cut.is_put (plain-append old.partial line cut.is_cut.is_one plain) of-line is) flushed;
+      }
+
+  -- the line's output can't be sent
+  pub cut-unsent : {now after : SinkState} {bytes : List ℕ} {old : CutterParts} {put : WriterParts} {fault : RunFault} (line rest text : List ℕ)
+      → IsLinesCut Output before bytes old now → HasNoFeed line
+      → IsTextOf (old.partial ++ line) text → IsPut Output text old.writer put → IsCut put now after fault
+      → IsStopped Output false before (bytes ++ (line ++ 10 ∷ rest)) after fault
+  cut-unsent {after = after} {bytes = bytes} {old = old} {put = put} {fault = fault} line rest text cut plain of-line is sent =
+      let whole = old.partial ++ line in
+      let ended = cut.ended ++ (whole ++ 10 ∷ []) in
+      let same : ended ++ rest ≡ bytes ++ (line ++ 10 ∷ rest) = rw cut.is_cut.are_bytes (simp append_assoc) in
+      subst (λ b. IsStopped Output false before b after fault) same
+      (stopped-more Output before after ended rest fault sent.is_fault
+      (put-cut (put-ended whole text put cut.is_put (plain-append old.partial line cut.is_cut.is_one plain) of-line is) sent))
+
+  -- bytes of a line that goes on
+  pub cut-kept : {after : SinkState} {bytes : List ℕ} {old : CutterParts} (more : List ℕ) (new : CutterParts)
+      → IsLinesCut Output before bytes old after → HasNoFeed more → IsKept more old new
+      → IsLinesCut Output before (bytes ++ more) new after
+  cut-kept {after = after} {old = old} more new cut plain kept = record {
+    ended = cut.ended;
+    is_cut = rw (kept.are_more, kept.is_counted) (lines.more more cut.is_cut plain kept.are_few);
+    is_put = subst (λ w. IsPutOut Output false before cut.ended w after) (sym kept.is_put) cut.is_put;
+  }
+
+  -- a line is too long
+  pub cut-long : {after : SinkState} {bytes : List ℕ} {cutter : CutterParts} (line rest : List ℕ)
+      → IsLinesCut Output before bytes cutter after → cutter.writer.out ≡ [] → HasNoFeed line
+      → 1048576 < length cutter.partial + length line → length line + length rest ≤ 65536
+      → IsStopped Output false before (bytes ++ (line ++ rest)) after (TooLong (cutter.lines + 1))
+  cut-long {after = after} line rest cut none plain long small =
+      let found = lines.long line rest cut.is_cut plain long small in
+      (cut.is_put.is_healthy, (found.0, subst (λ front. HasSentAll Output front before after) (sym found.1) (cut-all cut none)))
+
+  -- the open line is the last
+  cut-last : {after : SinkState} {bytes : List ℕ} {cutter : CutterParts} (new : WriterParts)
+      → IsLinesCut Output before bytes cutter after → ¬ (cutter.partial ≡ [])
+      → IsPut Output cutter.partial cutter.writer new → IsPutOut Output true before bytes new after
+  cut-last {after = after} {cutter = cutter} new cut some is =
+      subst (λ b. IsPutOut Output true before b new after) (sym cut.is_cut.are_bytes)
+      (put-more true cutter.partial cutter.partial new cut.is_put (inr (some, cut.is_cut.is_one, refl, refl)) (inr refl) is)
+
+  pub last-put : {after : SinkState} {bytes : List ℕ} {now : CutterParts} {writer : WriterParts} {partial last : List ℕ} {count : ℕ} (new : WriterParts)
+      → cutter_of writer partial count ≡ now → false ≡ (length partial == 0) → last ≡ partial → IsPut Output last writer new
+      → IsLinesCut Output before bytes now after → IsPutOut Output true before bytes new after
+  last-put {after = after} {bytes = bytes} {writer = writer} {partial = partial} new is some same put cut =
+      cut-last new (subst (λ (k : CutterParts). IsLinesCut Output before bytes k after) (sym is) cut) (λ none. false≢true (rw none at some))
+      (subst (λ t. IsPut Output t writer new) same put)
+
   pub over-end : {now after : SinkState} {bytes : List ℕ} {old : CutterParts} (line rest : List ℕ) (new : CutterParts) (fault : RunFault)
       → HasNoFeed line → 1048576 < length old.partial + length line → IsOver old new now after fault
       → length line + length rest ≤ 65536 → IsLinesCut Output before bytes old now
       → IsStopped Output false before (bytes ++ (line ++ rest)) after fault
-  over-end {after = after} {bytes = bytes} line rest new fault plain over (inl (is, emptied, partial, lines)) small cut =
-      subst (IsStopped Output false before (bytes ++ (line ++ rest)) after) (ap (λ n. TooLong (n + 1)) lines ∙ sym is)
-      (cut-long line rest (cut-emptied new cut emptied partial lines) emptied.is_empty plain
+  over-end {after = after} {bytes = bytes} line rest new fault plain over (inl (is, emptied, partial, counted)) small cut =
+      subst (IsStopped Output false before (bytes ++ (line ++ rest)) after) (ap (λ n. TooLong (n + 1)) counted ∙ sym is)
+      (cut-long line rest (cut-emptied new cut emptied partial counted) emptied.is_empty plain
       (omega (arith, over, ap length partial)) small)
   over-end line rest new fault plain over (inr unsent) small cut = cut-unsendable (line ++ rest) cut unsent
 
-  pub line-ended : {now next : CutterParts} {sink after : SinkState} {bytes partial : List ℕ} {writer new : WriterParts} {lines : ℕ} (line : List ℕ)
-      → PutsLine Output line now next → cutter_of writer partial lines ≡ next → HasNoFeed line
+  pub line-ended : {now next : CutterParts} {sink after : SinkState} {bytes partial : List ℕ} {writer new : WriterParts} {count : ℕ} (line : List ℕ)
+      → PutsLine Output line now next → cutter_of writer partial count ≡ next → HasNoFeed line
       → length now.partial + length line ≤ 1048576 → IsFlushed writer new sink after → IsLinesCut Output before bytes now sink
-      → IsLinesCut Output before (bytes ++ (line ++ 10 ∷ [])) (cutter_of new partial (lines + 1)) after
-  line-ended {now = now} {after = after} {partial = partial} {writer = writer} {new = new} {lines = lines}
+      → IsLinesCut Output before (bytes ++ (line ++ 10 ∷ [])) (cutter_of new partial (count + 1)) after
+  line-ended {now = now} {after = after} {partial = partial} {writer = writer} {new = new} {count = count}
       line (text, of-line, put, none, counted) is plain fits flushed cut =
-      cut-line line text (cutter_of new partial (lines + 1)) writer after cut plain fits of-line
+      cut-line line text (cutter_of new partial (count + 1)) writer after cut plain fits of-line
       (subst (IsPut Output text now.writer) (sym (ap (λ (k : CutterParts). k.writer) is)) put) flushed
       (ap (λ (k : CutterParts). k.partial) is ∙ none)
       (ap (λ n. n + 1) (ap (λ (k : CutterParts). k.lines) is ∙ counted))
 
-  pub line-unsent : {now next : CutterParts} {sink after : SinkState} {bytes partial : List ℕ} {writer : WriterParts} {lines : ℕ} {fault : RunFault}
-      (line rest : List ℕ) → PutsLine Output line now next → cutter_of writer partial lines ≡ next
+  pub line-unsent : {now next : CutterParts} {sink after : SinkState} {bytes partial : List ℕ} {writer : WriterParts} {count : ℕ} {fault : RunFault}
+      (line rest : List ℕ) → PutsLine Output line now next → cutter_of writer partial count ≡ next
       → HasNoFeed line → IsCut writer sink after fault → IsLinesCut Output before bytes now sink
       → IsStopped Output false before (bytes ++ (line ++ 10 ∷ rest)) after fault
   line-unsent {now = now} line rest (text, of-line, put, none, counted) is plain unsent cut =
@@ -388,7 +330,7 @@ pub puts-straight : (Output : Outputs) (line text partial : List ℕ) (now : Cut
     → cutter_of writer partial lines ≡ now → true ≡ (length partial == 0) → IsTextOf line text → IsPut Output text writer new
     → PutsLine Output line now (cutter_of new partial lines)
 puts-straight Output line text partial now writer new lines is empty of-line put =
-    let none = none-kept partial empty in
+    let none = nil_from_length partial (eqb-true (length partial) 0 (sym empty)) in
     subst (λ (k : CutterParts). PutsLine Output line k (cutter_of new partial lines)) is
     (text, subst (λ p. IsTextOf (p ++ line) text) (sym none) of-line, put, none, refl)
 

@@ -1,14 +1,13 @@
 -- What the source of a run over lines has given, and what the two halves of the run say of the
 -- whole.
-use Rattle.std.proofs.Common.{◌≡◌, ◌+◌, ◌<◌, ◌≤◌, ◌*◌, ◌^◌, [], ℕ, Bool, List, Option, Some, None, true, false, ap, subst, sym, refl, arith, Result, Ok, Err, IfErr, IfOk, IsErr}
-use Rattle.std.specs.Io.KnownBytes.{Consumes, ReadConsumes}
-use Rattle.crs_streams.specs.Prelude.{HasGiven, CountsRead, SinkState, SourceState, fresh_source}
+use Rattle.std.proofs.Common.{◌≡◌, ◌+◌, ◌<◌, ◌≤◌, ◌++◌, ◌*◌, ◌^◌, [], ℕ, Bool, List, Option, Some, None, true, false, ap, append-nil, length, length-append, subst, sym, refl, arith, Result, Ok, Err, IfErr, IfOk, IsErr}
+use Rattle.std.specs.Io.KnownBytes.{Consumes}
+use Rattle.crs_streams.specs.Prelude.{CountsRead, CutsLines, GivesMore, HasGiven, SinkState, SourceState, fresh_source}
 use Rattle.crs_streams.specs.declared.fault.RunFault.{RunFault}
 use Rattle.crs_streams.specs.declared.fault.RunFault.TheVariants.{ReadFailed, WriteFailed, TooLong, TooManyReads, Memory}
 use Rattle.crs_desk.specs.LinesRun.{HasBegun, HasSent, IsLinesAnswered, IsLinesFault, Outputs}
 use Rattle.crs_desk.specs.LineCutting.{CutterParts, IsHealthy, IsLinesCut, IsReadThrough, IsStopped, IsWrittenOut}
-use Rattle.crs_desk.proofs.LineCutLemmas.{cut-all, cut-fits, cut-none, cut-sent-all, cut-short, cut-whole, cutter_of, sent-end, stopped-first}
-use Rattle.crs_streams.proofs.GivenLemmas.{given-kept}
+use Rattle.crs_desk.proofs.LineCutLemmas.{cut-all, cut-none, cut-sent-all, cut-whole, cutter_of, sent-end, stopped-first}
 
 consumes-none : (remaining : Option (List ℕ)) → Consumes remaining remaining []
 consumes-none None = tt
@@ -21,12 +20,12 @@ given-none source fresh = record {
   is_first = consumes-none source.remaining;
 }
 
-pub none-begun : (Output : Outputs) (source : SourceState) (sink : SinkState) → source ≡ fresh_source source.remaining
+pub none-begun : CutsLines → (Output : Outputs) (source : SourceState) (sink : SinkState) → source ≡ fresh_source source.remaining
     → IsHealthy sink → IsLinesFault Output source source sink sink Memory
-none-begun Output source sink given healthy = (
+none-begun lines Output source sink given healthy = (
   ap (λ (s : SourceState). s.failed) given,
   healthy.0,
-  ([], given-none source given, cut-sent-all source.ended (cut-none {before = sink} (cutter_of (record { out = []; status = 0 }) [] 0) healthy refl)),
+  ([], given-none source given, cut-sent-all source.ended (cut-none lines {before = sink} (cutter_of (record { out = []; status = 0 }) [] 0) healthy refl)),
 )
 
 -- a piece that can't be cut, or the last line
@@ -46,22 +45,21 @@ pub stopped-fault : {old new : SourceState} {bytes : List ℕ} (Output : Outputs
 stopped-fault {new = new} {bytes = bytes} Output before after fault given healthy =
     stopped-by Output before after false fault given healthy (λ unsent. sent-end Output before after bytes unsent new.ended)
 
-module _ {Output : Outputs} {old : SourceState} {before : SinkState} where
+module _ (lines : CutsLines) {Output : Outputs} {old : SourceState} {before : SinkState} where
   -- so far lines were cut, and what is written for them was sent
   cut-begun : {new : SourceState} {after : SinkState} {bytes : List ℕ} {cutter : CutterParts}
       → HasGiven old new bytes → IsLinesCut Output before bytes cutter after → cutter.writer.out ≡ []
       → HasBegun Output old new before after
-  cut-begun {bytes = bytes} given cut none = (bytes, cut.ended, given, cut-short cut, cut-whole cut, cut-all cut none)
+  cut-begun {bytes = bytes} given cut none = (bytes, cut.ended, given, lines.short cut.is_cut, cut-whole cut, cut-all cut none)
 
   -- a read that fails
-  pub failed-read : {E : Type 0} {now : SourceState} {after : SinkState} {bytes : List ℕ} {cutter : CutterParts} (new : SourceState) (room : List ℕ)
+  pub failed-read : {E : Type 0} {now : SourceState} {after : SinkState} {bytes : List ℕ} {cutter : CutterParts} (new : SourceState)
       (answer : Result ℕ E) → HasGiven old now bytes → IsLinesCut Output before bytes cutter after
-      → cutter.writer.out ≡ [] → ReadConsumes now.remaining new.remaining answer room → CountsRead now new answer → IsErr answer
+      → cutter.writer.out ≡ [] → IfErr answer (λ _. GivesMore now new []) → CountsRead now new answer → IsErr answer
       → IsLinesFault Output old new before after ReadFailed
-  failed-read new room (Ok count) given cut none consumed counted bad = cc
-  failed-read {now = now} {bytes = bytes} new room (Err error) given cut none consumed counted bad =
-      let kept = counted.bytes in
-      (kept.2, cut.is_put.is_healthy.0, cut-begun (given-kept old now new bytes given consumed kept.0) cut none)
+  failed-read new (Ok count) given cut none kept counted bad = cc
+  failed-read {bytes = bytes} new (Err error) given cut none kept counted bad =
+      (counted.bytes.2, cut.is_put.is_healthy.0, cut-begun (rw append-nil at (kept old bytes given)) cut none)
 
   -- the reads have shown no end
   pub many-reads : {now : SourceState} {after : SinkState} {bytes : List ℕ} {cutter : CutterParts}
@@ -70,10 +68,11 @@ module _ {Output : Outputs} {old : SourceState} {before : SinkState} where
   many-reads given cut none healthy unended reads = (healthy, cut.is_put.is_healthy.0, reads, unended, cut-begun given cut none)
 
   -- lines are counted within 64 bits
-  pub lines-fit : {now : SourceState} {after : SinkState} {bytes : List ℕ} {cutter : CutterParts} (more : ℕ)
-      → IsLinesCut Output before bytes cutter after → HasGiven old now bytes → now.taken ≤ 65536 * 2 ^ 47
-      → more ≤ 65536 → cutter.lines + more + 1 < 2 ^ 64
-  lines-fit more cut given few piece = omega (arith, few, piece, cut-fits cut, given.is_counted)
+  pub lines-fit : {new : SourceState} {after : SinkState} {bytes : List ℕ} {cutter : CutterParts} (more : List ℕ)
+      → IsLinesCut Output before bytes cutter after → HasGiven old new (bytes ++ more) → new.taken ≤ 65536 * 2 ^ 47
+      → cutter.lines + length more + 1 < 2 ^ 64
+  lines-fit {bytes = bytes} more cut given few =
+      omega (arith, lines.fits cut.is_cut, given.is_counted, length-append bytes more)
 
   -- ---- the end
 
@@ -85,7 +84,7 @@ module _ {Output : Outputs} {old : SourceState} {before : SinkState} where
       let written = finish before through.bytes through.is_cut in record {
         bytes = through.bytes;
         is_whole = through.is_whole;
-        are_short = cut-short through.is_cut;
+        are_short = lines.short through.is_cut.is_cut;
         written = written.written;
         is_output = written.is_output;
         is_sent = written.is_sent;

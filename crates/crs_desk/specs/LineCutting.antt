@@ -1,9 +1,10 @@
 -- A bridge: bytes that are cut into lines piece by piece, and what is written for them.
 use Rattle.std.specs.Prelude.{◌≡◌, ◌+◌, ◌<◌, ◌≤◌, ◌⊎◌, ◌++◌, [], ℕ, List, Bool, true, false, length, max}
 use Rattle.std.specs.Io.KnownBytes.{Appends}
+use Rattle.crs_streams.specs.Cutting.{AreCut}
 use Rattle.crs_streams.specs.Given.{HasGivenAll}
-use Rattle.crs_streams.specs.Lines.{AreLines, HasNoFeed, IsTextOf}
-use Rattle.crs_streams.specs.LongLines.{EndsInFeed, HasShortLines, feeds}
+use Rattle.crs_streams.specs.Lines.{AreLines, IsTextOf}
+use Rattle.crs_streams.specs.LongLines.{EndsInFeed}
 use Rattle.crs_streams.specs.Streams.{AppendsFront, SinkState, SourceState}
 use Rattle.crs_streams.specs.declared.fault.RunFault.{RunFault}
 use Rattle.crs_streams.specs.declared.fault.RunFault.TheVariants.{ReadFailed, WriteFailed, TooLong}
@@ -95,12 +96,8 @@ pub record IsPutOut (Output : Outputs) (end : Bool) (before : SinkState) (bytes 
 pub record IsLinesCut (Output : Outputs) (before : SinkState) (bytes : List ℕ)
     (cutter : CutterParts) (after : SinkState) : Type 0 where
   pub ended : List ℕ
-  pub are_bytes : bytes ≡ ended ++ cutter.partial
+  pub is_cut : AreCut bytes ended cutter.partial cutter.lines
   pub is_put : IsPutOut Output false before ended cutter.writer after
-  pub are_short : HasShortLines ended
-  pub is_one : HasNoFeed cutter.partial
-  pub is_short : length cutter.partial ≤ 1048576
-  pub is_counted : cutter.lines ≡ feeds ended
 
 -- all the bytes of the source are cut
 pub record IsReadThrough (Output : Outputs) (old new : SourceState) (before : SinkState)

@@ -12,7 +12,8 @@ use crs_explain::{
     StepWord, difference_objects, ordered_differences_text, refusal_object, refusal_text,
 };
 use crs_runs::{
-    Answer, Telling, accepted_line, kind_of_text, kind_word, pair_output, read_text, write_answer,
+    ForText, PairAnswer, Telling, TextCommand, accepted_line, kind_of_text, kind_word, read_text,
+    write_answer,
 };
 use crs_text::Refusal;
 use crs_value::{Crs, Kind, laws};
@@ -42,7 +43,7 @@ pub fn run_explain<R: Read, W: Write>(
     ensures too_long { IsErrOf result (RunFault.TooLong 0) ↔ (1048576 < r.new.taken) × (r.new.failed ≡ false) }
 {
     let text = read_text(alloc, r)?;
-    write_answer(alloc, &TextAnswer { how, text: &text }, w)
+    run_explain_text(alloc, how, &text, w)
 }
 
 /// Writes what a text is, as `run_explain` does. `WriteFailed` where the sink has failed, `Memory` where memory ran
@@ -59,7 +60,8 @@ pub fn run_explain_text<W: Write>(
     ensures write_failed { IsErrOf result RunFault.WriteFailed ↔ (w.new.failed ≡ true) }
     ensures past_failure { w.new.past_failure ≡ false }
 {
-    write_answer(alloc, &TextAnswer { how, text }, w)
+    let command = ExplainText { how };
+    write_answer(alloc, &ForText { command, text }, w)
 }
 
 /// Writes whether two texts spell the same CRS at a level: `same`, with status 0; or, with status 1, a line for each
@@ -86,35 +88,25 @@ pub fn run_explain_pair<W: Write>(
     write_answer(alloc, &PairAnswer { told, level, a, b }, w)
 }
 
-// What a text is.
+// `explain`.
 #[derive(Drop)]
-struct TextAnswer<'t> {
-    how: Manner,
-    text: &'t [u8],
+pub(crate) struct ExplainText {
+    pub(crate) how: Manner,
 }
 
-impl Answer for TextAnswer<'_> {
+impl TextCommand for ExplainText {
     ghost use Rattle.crs_desk.specs.ExplainOutput.{IsExplainOutput};
 
-    ghost Output = { λ s written status. IsExplainOutput s.how s.text.now written status };
+    ghost Output = { λ s text written status. IsExplainOutput s.how text written status };
 
-    fn output(&self, alloc: Global) -> Result<(Vec<u8>, u8), AllocError> {
-        text_output(alloc, self.how, self.text)
-    }
-}
-
-pub(crate) fn text_output(
-    alloc: Global,
-    how: Manner,
-    text: &[u8],
-) -> Result<(Vec<u8>, u8), AllocError>
-    ensures { IfOk result (λ output. IsExplainOutput how text.now output.0.items output.1) }
-{
-    match kind_of_text(alloc, text)? {
-        Ok(kind) => Ok((kind_line(alloc, how, kind)?, 0)),
-        Err(refusal) => {
-            let told = Told { how, words: &[] };
-            Ok((told.refusal(alloc, b"", text, refusal)?, 1))
+    fn output(&self, alloc: Global, text: &[u8]) -> Result<(Vec<u8>, u8), AllocError> {
+        let how = self.how;
+        match kind_of_text(alloc, text)? {
+            Ok(kind) => Ok((kind_line(alloc, how, kind)?, 0)),
+            Err(refusal) => {
+                let told = Told { how, words: &[] };
+                Ok((told.refusal(alloc, b"", text, refusal)?, 1))
+            }
         }
     }
 }
@@ -151,26 +143,6 @@ fn refusal_lines(
     let mut whole = Vec::from_slice(alloc, which)?;
     whole.extend_from_slice(&told)?;
     Ok(whole)
-}
-
-// What two texts are, at this level.
-#[derive(Drop)]
-struct PairAnswer<'t> {
-    told: Told<'t>,
-    level: Level,
-    a: &'t [u8],
-    b: &'t [u8],
-}
-
-impl Answer for PairAnswer<'_> {
-    ghost use Rattle.crs_desk.specs.ExplainOutput.{IsExplainPairOutput};
-
-    ghost Output = { λ s written status.
-        IsExplainPairOutput s.told.how s.told.words.now s.level s.a.now s.b.now written status };
-
-    fn output(&self, alloc: Global) -> Result<(Vec<u8>, u8), AllocError> {
-        pair_output(alloc, self.told, self.level, self.a, self.b)
-    }
 }
 
 // Explains a refusal, and of two CRSs all parts that differ, in the order of words.

@@ -1,21 +1,22 @@
 //! The answer for one file.
 ghost use Rattle.std.specs.Prelude.{◌≡◌, ◌==◌, ℕ, List, IfErr, IfOk, IfSome, OnOk, false, if◌then◌else◌};
 ghost use Rattle.std.specs.Io.KnownBytes.{Appends};
+ghost use Rattle.crs_catalogue.specs.GroupOutput.{IsGroupOutputBy};
 ghost use Rattle.crs_desk.specs.FileAnswers.{Ends, IsAnswerSent, IsFileFault, IsNoWriteFault, IsSendFault, NoFront};
 ghost use Rattle.crs_desk.specs.FilesRun.{IsGroupedOutput, IsTaskFront, IsTaskOutput};
 ghost use Rattle.crs_desk.specs.LineCutting.{IsHealthy};
 ghost use Rattle.crs_desk.specs.LinesRun.{IsFrontOutput, IsLineOutput, IsLinesOutput};
 ghost use Rattle.crs_desk.specs.Prefixed.{prefixed};
 
+use crate::explain_run::ExplainText;
 use crate::file_task::FileTask;
 use crate::forms::Under;
-use crate::grouping::{FormGroups, Grouping, Groups};
-use crate::line_output::{CanonText, CheckText, ExplainText, OfLine, Prefixed, TextCommand};
+use crate::line_output::{OfLine, Prefixed};
 use crate::lines_run::run_lines;
 use crate::prefixed::{Prefix, prefixed};
-use crate::{Filling, RunFault, Sink, Source, Stream};
-use crs_group::Summary;
-use crs_runs::read_text;
+use crate::{Filling, Level, Listing, RunFault, Sink, Source, Stream, Summary};
+use crs_catalogue::pieces::{Adding, ByCanon, ByForm, run_adding};
+use crs_runs::{CanonText, CheckText, TextCommand, read_text};
 use std::alloc::Global;
 use std::io::{Read, Write};
 
@@ -35,7 +36,7 @@ pub(crate) fn answer_input<R: Read + Drop, W: Write>(
         FileTask::Check => answer_text(&CheckText, prefix, reader, sink),
         FileTask::Explain(how) => answer_text(&ExplainText { how }, prefix, reader, sink),
         FileTask::Group(level, listing) => {
-            answer_group(&Groups { level, listing }, prefix, reader, sink)
+            answer_group(level, ByCanon, listing, prefix, reader, sink)
         }
         FileTask::CanonLines(level) => answer_lines(CanonText { level }, prefix, reader, sink),
         FileTask::CheckLines => answer_lines(CheckText, prefix, reader, sink),
@@ -43,8 +44,7 @@ pub(crate) fn answer_input<R: Read + Drop, W: Write>(
             answer_text(&Under { level, rules }, prefix, reader, sink)
         }
         FileTask::FormGroup(level, listing, rules) => {
-            let under = Under { level, rules };
-            answer_group(&FormGroups { under, listing }, prefix, reader, sink)
+            answer_group(level, ByForm { rules }, listing, prefix, reader, sink)
         }
         FileTask::FormLines(level, rules) => {
             answer_lines(Under { level, rules }, prefix, reader, sink)
@@ -70,36 +70,41 @@ fn answer_text<C: TextCommand, R: Read + Drop, W: Write>(
     Ok(status)
 }
 
-// The groups of the lines.
-fn answer_group<G: Grouping, R: Read + Drop, W: Write>(
-    grouping: &G,
+// The groups of the lines, which are added in this way.
+fn answer_group<A: Adding + Drop, R: Read + Drop, W: Write>(
+    level: Level,
+    adding: A,
+    listing: Listing,
     prefix: &Prefix,
     reader: R,
     sink: &mut Sink<W>,
 ) -> Result<u8, RunFault>
     requires { IsHealthy sink.old }
-    ensures answered { IfOk result (IsAnswerSent (IsGroupedOutput (G.Output grouping.now)) prefix.now
-        (R.remaining reader) sink.old sink.new) }
+    ensures answered { IfOk result (IsAnswerSent (IsGroupedOutput (IsGroupOutputBy (A.Form adding) (A.Share adding) listing level))
+        prefix.now (R.remaining reader) sink.old sink.new) }
     ensures fault { IfErr result (IsFileFault NoFront prefix.now (R.remaining reader) sink.old sink.new) }
 {
-    let (plain, status) = grouped(prefix.alloc(), grouping, reader)?;
+    let (plain, status) = grouped(prefix.alloc(), level, adding, listing, reader)?;
     send(prefix, &plain, sink)?;
     Ok(status)
 }
 
 // What is written for the groups of all that a reader gives, and the status.
-fn grouped<G: Grouping, R: Read + Drop>(
+fn grouped<A: Adding + Drop, R: Read + Drop>(
     alloc: Global,
-    grouping: &G,
+    level: Level,
+    adding: A,
+    listing: Listing,
     reader: R,
 ) -> Result<(Vec<u8>, u8), RunFault>
     ensures grouped { IfOk result (λ output. (bytes : List ℕ) × IfSome (R.remaining reader) (λ all. bytes ≡ all)
-        × IsGroupedOutput (G.Output grouping.now) bytes output.0.items output.1) }
+        × IsGroupedOutput (IsGroupOutputBy (A.Form adding) (A.Share adding) listing level) bytes
+        output.0.items output.1) }
     ensures fault { IfErr result IsNoWriteFault }
 {
     let mut source = Source::new(Filling::new(reader));
     let mut sink = Sink::new(Vec::new(alloc));
-    match grouping.run(alloc, &mut source, &mut sink) {
+    match run_adding(alloc, level, adding, listing, &mut source, &mut sink) {
         Ok(summary) => Ok((sink.into_inner(), status_of(&summary))),
         Err(RunFault::WriteFailed) => Err(RunFault::Memory),
         Err(fault) => Err(fault),

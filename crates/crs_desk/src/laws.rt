@@ -25,7 +25,9 @@ pub fn lines_joined()
         IsLinesOutput (IsLineOutput (IsFormOutput rules level)) a v m →
         IsLinesOutput (IsLineOutput (IsFormOutput rules level)) b w n →
         IsLinesOutput (IsLineOutput (IsFormOutput rules level)) (a ++ b) (v ++ w) (max m n) }
-{}
+{
+    crs_streams::laws::lines_are_cut();
+}
 
 /// The CRSs that two forms spell are the same at the level exactly where the texts are the same under the rules: so
 /// `same` under rules tells whether they are. Profile.

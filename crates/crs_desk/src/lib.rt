@@ -25,7 +25,6 @@ mod file_answer;
 mod file_task;
 mod files_run;
 mod forms;
-mod grouping;
 pub mod laws;
 mod line_cutter;
 mod line_output;

@@ -7,9 +7,10 @@ ghost use Rattle.crs_streams.specs.Streams.{SinkState};
 ghost use Rattle.crs_desk.specs.LineCutting.{IsKept, IsLinesCut, IsNotKept, IsOver, IsPutOut, IsStopped};
 ghost use Rattle.crs_desk.specs.LineCutting.{IsWrittenOut, PutsLine};
 
-use crate::line_output::TextCommand;
 use crate::line_writer::LineWriter;
 use crate::{RunFault, Sink};
+use crs_runs::TextCommand;
+use crs_streams::laws::lines_are_cut;
 use crs_streams::{MAX_LINE, append_bytes, split_line, text_of};
 use std::alloc::Global;
 use std::io::Write;
@@ -63,6 +64,7 @@ impl LineCutter {
             IsStopped (C.Output command.now) false before (bytes ++ piece.now) sink.new fault) }
         ensures sent { OnOk result (self.new.writer.out ≡ []) }
     {
+        lines_are_cut();
         let mut rest = piece;
         while let Some((line, left)) = split_line(rest) {
             self.end_line(alloc, command, line, sink)?;
@@ -110,6 +112,7 @@ impl LineCutter {
             IsStopped (C.Output command.now) false before (bytes ++ (line.now ++ 10 ∷ rest)) sink.new fault) }
         ensures lines { OnOk result (self.new.lines ≡ self.old.lines + 1) }
     {
+        lines_are_cut();
         if self.is_over(line) {
             return Err(self.over(sink));
         }
@@ -167,6 +170,7 @@ impl LineCutter {
             IsPutOut (C.Output command.now) true before bytes self.new.writer after) }
         ensures fault { IfErr result (λ fault. fault ≡ RunFault.Memory) }
     {
+        lines_are_cut();
         if self.partial.is_empty() {
             return Ok(());
         }

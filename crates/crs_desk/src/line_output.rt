@@ -1,38 +1,11 @@
 //! What commands write for a text, and for the text of a line.
-ghost use Rattle.std.specs.Prelude.{ℕ, List, IfOk};
 
-use crate::explain_run::text_output;
 use crate::forms::Under;
 use crate::prefixed::{Prefix, prefixed};
-use crate::{Level, Manner};
 use crs_group::is_blank;
 use crs_rules::canon_under;
-use crs_runs::{canon_output, check_output, line_of, refusal_in, refused_line};
+use crs_runs::{TextCommand, line_of, refusal_in, refused_line};
 use std::alloc::{AllocError, Global};
-
-// A command that answers a text by some bytes and a status.
-pub(crate) trait TextCommand {
-    ghost Output: { Self → List ℕ → List ℕ → ℕ → Type 0 };
-
-    fn output(&self, alloc: Global, text: &[u8]) -> Result<(Vec<u8>, u8), AllocError>
-        ensures { IfOk result (λ output. Output self.now text.now output.0.items output.1) };
-}
-
-// `canon`, at this level.
-#[derive(Drop)]
-pub(crate) struct CanonText {
-    pub(crate) level: Level,
-}
-
-impl TextCommand for CanonText {
-    ghost use Rattle.crs_runs.specs.Output.{IsCanonOutput};
-
-    ghost Output = { λ s text written status. IsCanonOutput s.level text written status };
-
-    fn output(&self, alloc: Global, text: &[u8]) -> Result<(Vec<u8>, u8), AllocError> {
-        canon_output(alloc, self.level, text)
-    }
-}
 
 // `canon` under rules.
 impl TextCommand for Under<'_> {
@@ -45,36 +18,6 @@ impl TextCommand for Under<'_> {
             Ok(form) => Ok((line_of(alloc, form.bytes())?, 0)),
             Err(fault) => Ok((refused_line(alloc, b"", refusal_in(fault)?)?, 1)),
         }
-    }
-}
-
-// `check`.
-#[derive(Drop)]
-pub(crate) struct CheckText;
-
-impl TextCommand for CheckText {
-    ghost use Rattle.crs_runs.specs.Output.{IsCheckOutput};
-
-    ghost Output = { λ s text written status. IsCheckOutput text written status };
-
-    fn output(&self, alloc: Global, text: &[u8]) -> Result<(Vec<u8>, u8), AllocError> {
-        check_output(alloc, text)
-    }
-}
-
-// `explain`.
-#[derive(Drop)]
-pub(crate) struct ExplainText {
-    pub(crate) how: Manner,
-}
-
-impl TextCommand for ExplainText {
-    ghost use Rattle.crs_desk.specs.ExplainOutput.{IsExplainOutput};
-
-    ghost Output = { λ s text written status. IsExplainOutput s.how text written status };
-
-    fn output(&self, alloc: Global, text: &[u8]) -> Result<(Vec<u8>, u8), AllocError> {
-        text_output(alloc, self.how, text)
     }
 }
 

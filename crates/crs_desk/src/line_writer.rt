@@ -2,8 +2,8 @@
 ghost use Rattle.std.specs.Prelude.{◌≡◌, [], IfErr, OnOk};
 ghost use Rattle.crs_desk.specs.LineCutting.{IsCut, IsEmptied, IsFlushed, IsPut};
 
-use crate::line_output::TextCommand;
 use crate::{RunFault, Sink};
+use crs_runs::TextCommand;
 use crs_streams::append_bytes;
 use std::alloc::Global;
 use std::io::Write;

@@ -6,8 +6,10 @@ ghost use Rattle.crs_desk.specs.LinesRun.{IsLineOutput, IsLinesAnswered, IsLines
 ghost use Rattle.crs_runs.specs.Output.{IsCanonOutput, IsCheckOutput};
 
 use crate::line_cutter::LineCutter;
-use crate::line_output::{CanonText, CheckText, OfLine, TextCommand};
+use crate::line_output::OfLine;
 use crate::{Level, RunFault, Sink, Stream};
+use crs_runs::{CanonText, CheckText, TextCommand};
+use crs_streams::laws::lines_are_cut;
 use crs_streams::{MAX_STREAM_READS, make_room};
 use std::alloc::Global;
 use std::io::{Read, Write};
@@ -72,6 +74,7 @@ pub(crate) fn run_lines<C: TextCommand, R: Read, W: Write>(
     ensures fault { IfErr result (IsLinesFault (C.Output command.now) source.old source.new sink.old sink.new) }
     ensures past_failure { sink.new.past_failure ≡ false }
 {
+    lines_are_cut();
     let mut room = make_room(alloc).map_err(|_| RunFault::Memory)?;
     let mut cutter = LineCutter::new(alloc);
     let room = room.as_mut_slice();
@@ -97,6 +100,7 @@ fn read_through<C: TextCommand, R: Read, W: Write>(
     ensures err { IfErr result (IsLinesFault (C.Output command.now) source.old source.new sink.old sink.new) }
     ensures past_failure { sink.new.past_failure ≡ false }
 {
+    lines_are_cut();
     for turn in 0..MAX_STREAM_READS {
         let count = source.read(room).map_err(|_| RunFault::ReadFailed)?;
         if count == 0 {

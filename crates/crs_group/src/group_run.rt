@@ -4,7 +4,7 @@ ghost use Rattle.crs_catalogue.specs.GroupRun.{IsGroupFault, IsGrouped, IsGroupe
 ghost use Rattle.crs_streams.specs.Streams.{fresh_sink, fresh_source};
 
 use crate::{Listing, PLAIN, RunFault, Sink, Source, Summary};
-use crs_catalogue::pieces::{ByCanon, ByForm, WithNames, run_adding};
+use crs_catalogue::pieces::{ByCanon, ByForm, run_adding};
 use crs_rules::Rules;
 use crs_value::Level;
 use std::alloc::Global;
@@ -32,7 +32,7 @@ pub fn run_group<R: Read, W: Write>(
     ensures write_failed { IsErrOf result RunFault.WriteFailed ↔ (w.new.failed ≡ true) }
     ensures past_failure { w.new.past_failure ≡ false }
 {
-    run_adding(alloc, level, &ByCanon, PLAIN, r, w)
+    run_adding(alloc, level, ByCanon, PLAIN, r, w)
 }
 
 /// Writes what `run_group` writes, without the groups that aren't listed: the others have their numbers among all, and
@@ -57,11 +57,7 @@ pub fn run_group_listing<R: Read, W: Write>(
     ensures write_failed { IsErrOf result RunFault.WriteFailed ↔ (w.new.failed ≡ true) }
     ensures past_failure { w.new.past_failure ≡ false }
 {
-    let adding = WithNames {
-        adding: ByCanon,
-        named: listing.names,
-    };
-    run_adding(alloc, level, &adding, listing, r, w)
+    run_adding(alloc, level, ByCanon, listing, r, w)
 }
 
 /// As `run_group_listing`, under rules: lines are in one group exactly where their texts are the same under the rules.
@@ -84,9 +80,5 @@ pub fn run_group_under<R: Read, W: Write>(
     ensures write_failed { IsErrOf result RunFault.WriteFailed ↔ (w.new.failed ≡ true) }
     ensures past_failure { w.new.past_failure ≡ false }
 {
-    let adding = WithNames {
-        adding: ByForm { rules },
-        named: listing.names,
-    };
-    run_adding(alloc, level, &adding, listing, r, w)
+    run_adding(alloc, level, ByForm { rules }, listing, r, w)
 }

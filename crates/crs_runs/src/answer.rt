@@ -16,6 +16,30 @@ pub trait Answer {
         ensures { IfOk result (λ output. Output self.now output.0.items output.1) };
 }
 
+/// A command that answers a text by some bytes and a status. Profile.
+pub trait TextCommand {
+    ghost Output: { Self → List ℕ → List ℕ → ℕ → Type 0 };
+
+    /// The bytes and the status for a text. `AllocError`: memory ran out.
+    fn output(&self, alloc: Global, text: &[u8]) -> Result<(Vec<u8>, u8), AllocError>
+        ensures { IfOk result (λ output. Output self.now text.now output.0.items output.1) };
+}
+
+/// The answer of a command for a text. Profile.
+#[derive(Drop)]
+pub struct ForText<'t, C: TextCommand> {
+    pub command: C,
+    pub text: &'t [u8],
+}
+
+impl<C: TextCommand> Answer for ForText<'_, C> {
+    ghost Output = { λ s written status. C.Output s.command s.text.now written status };
+
+    fn output(&self, alloc: Global) -> Result<(Vec<u8>, u8), AllocError> {
+        self.command.output(alloc, self.text)
+    }
+}
+
 /// Writes the answer, and gives its status. `WriteFailed` where the sink has failed, `Memory` where memory ran out, and
 /// then nothing was written. Profile.
 pub fn write_answer<A: Answer, W: Write>(

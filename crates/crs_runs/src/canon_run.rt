@@ -3,7 +3,7 @@ ghost use Rattle.crs_runs.specs.Ending.{IsAnswered, IsRunFault};
 ghost use Rattle.crs_runs.specs.Output.{IsCanonOutput};
 ghost use Rattle.crs_streams.specs.Streams.{fresh_sink, fresh_source};
 
-use crate::answer::{Answer, write_answer};
+use crate::answer::{ForText, TextCommand, write_answer};
 use crate::judging::refusal_in;
 use crate::print::{line_of, refused_line};
 use crate::text::read_text;
@@ -33,33 +33,27 @@ pub fn run_canon<R: Read, W: Write>(
     ensures past_failure { w.new.past_failure ≡ false }
     ensures too_long { IsErrOf result (RunFault.TooLong 0) ↔ (1048576 < r.new.taken) × (r.new.failed ≡ false) }
 {
-    let text = read_text(alloc, r)?;
-    write_answer(alloc, &CanonAnswer { level, text: &text }, w)
+    let bytes = read_text(alloc, r)?;
+    let command = CanonText { level };
+    let text = bytes.as_slice();
+    write_answer(alloc, &ForText { command, text }, w)
 }
 
-// The canonical text of a text, at this level.
+/// `canon`, at this level. Profile.
 #[derive(Drop)]
-struct CanonAnswer<'t> {
-    level: Level,
-    text: &'t [u8],
+pub struct CanonText {
+    pub level: Level,
 }
 
-impl Answer for CanonAnswer<'_> {
+impl TextCommand for CanonText {
     ghost use Rattle.crs_runs.specs.Output.{IsCanonOutput};
 
-    ghost Output = { λ s written status. IsCanonOutput s.level s.text.now written status };
+    ghost Output = { λ s text written status. IsCanonOutput s.level text written status };
 
-    fn output(&self, alloc: Global) -> Result<(Vec<u8>, u8), AllocError> {
-        canon_output(alloc, self.level, self.text)
-    }
-}
-
-/// What `canon` writes for a text at a level, and the status. `AllocError`: memory ran out. Profile.
-pub fn canon_output(alloc: Global, level: Level, text: &[u8]) -> Result<(Vec<u8>, u8), AllocError>
-    ensures { IfOk result (λ output. IsCanonOutput level text.now output.0.items output.1) }
-{
-    match canon(alloc, text, level) {
-        Ok(canon) => Ok((line_of(alloc, canon.bytes())?, 0)),
-        Err(fault) => Ok((refused_line(alloc, b"", refusal_in(fault)?)?, 1)),
+    fn output(&self, alloc: Global, text: &[u8]) -> Result<(Vec<u8>, u8), AllocError> {
+        match canon(alloc, text, self.level) {
+            Ok(canon) => Ok((line_of(alloc, canon.bytes())?, 0)),
+            Err(fault) => Ok((refused_line(alloc, b"", refusal_in(fault)?)?, 1)),
+        }
     }
 }

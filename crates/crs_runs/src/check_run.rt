@@ -3,7 +3,7 @@ ghost use Rattle.crs_runs.specs.Ending.{IsAnswered, IsRunFault};
 ghost use Rattle.crs_runs.specs.Output.{IsCheckOutput, WritesFound, kind_word};
 ghost use Rattle.crs_streams.specs.Streams.{fresh_sink, fresh_source};
 
-use crate::answer::{Answer, write_answer};
+use crate::answer::{Answer, TextCommand, write_answer};
 use crate::judging::{judged, kind_of_text};
 use crate::pieces::read_pieces;
 use crate::print::refused_line;
@@ -54,12 +54,19 @@ impl Answer for CheckAnswer {
     }
 }
 
-/// What `check` writes for a text, and the status. `AllocError`: memory ran out. Profile.
-pub fn check_output(alloc: Global, text: &[u8]) -> Result<(Vec<u8>, u8), AllocError>
-    ensures { IfOk result (λ output. IsCheckOutput text.now output.0.items output.1) }
-{
-    let found = kind_of_text(alloc, text)?;
-    found_output(alloc, &found)
+/// `check`. Profile.
+#[derive(Drop)]
+pub struct CheckText;
+
+impl TextCommand for CheckText {
+    ghost use Rattle.crs_runs.specs.Output.{IsCheckOutput};
+
+    ghost Output = { λ s text written status. IsCheckOutput text written status };
+
+    fn output(&self, alloc: Global, text: &[u8]) -> Result<(Vec<u8>, u8), AllocError> {
+        let found = kind_of_text(alloc, text)?;
+        found_output(alloc, &found)
+    }
 }
 
 // The line of a kind or of a refusal, and the status.

@@ -2,13 +2,13 @@
 //! them.
 #![tactic(auto)]
 
-pub use answer::{Answer, write_answer};
-pub use canon_run::{canon_output, run_canon};
-pub use check_run::{accepted_line, check_output, kind_word, run_check};
+pub use answer::{Answer, ForText, TextCommand, write_answer};
+pub use canon_run::{CanonText, run_canon};
+pub use check_run::{CheckText, accepted_line, kind_word, run_check};
 use crs_streams::{RunFault, Sink, Source};
 use crs_value::Level;
 pub use judging::{kind_of_text, refusal_in};
-pub use pair::{Telling, pair_output};
+pub use pair::{PairAnswer, Telling, pair_output};
 pub use print::{line_of, refused_line};
 pub use text::read_text;
 

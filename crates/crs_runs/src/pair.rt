@@ -6,6 +6,7 @@ ghost use Rattle.crs_value.specs.SpellsText.{IsFaultOfText, Refuses};
 ghost use Rattle.crs_runs.specs.PairOutput.{IsPairOutput, IsSecondOutput};
 
 use crate::Level;
+use crate::answer::Answer;
 use crate::judging::refusal_in;
 use crs_text::{Fault, Refusal};
 use crs_value::{Crs, read};
@@ -39,6 +40,26 @@ pub trait Telling: Copy {
         b: &Crs<'t>,
     ) -> Result<(Vec<u8>, u8), AllocError>
         ensures { IfOk result (λ output. Compared self level a.now b.now output.0.items output.1) };
+}
+
+/// What is written for two texts, told so, at this level. Profile.
+#[derive(Drop)]
+pub struct PairAnswer<'t, T: Telling> {
+    pub told: T,
+    pub level: Level,
+    pub a: &'t [u8],
+    pub b: &'t [u8],
+}
+
+impl<T: Telling> Answer for PairAnswer<'_, T> {
+    ghost use Rattle.crs_runs.specs.PairOutput.{IsPairOutput};
+
+    ghost Output = { λ s written status.
+        IsPairOutput (T.Refused s.told) (T.Compared s.told s.level) s.a.now s.b.now written status };
+
+    fn output(&self, alloc: Global) -> Result<(Vec<u8>, u8), AllocError> {
+        pair_output(alloc, self.told, self.level, self.a, self.b)
+    }
 }
 
 /// What is written for two texts at a level, and the status. `AllocError`: memory ran out. Profile.

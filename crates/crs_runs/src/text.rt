@@ -1,6 +1,7 @@
-ghost use Rattle.std.specs.Prelude.{◌≡◌, ◌≤◌, ◌<◌, [], IfOk, IfErr, false, length};
+ghost use Rattle.std.specs.Prelude.{◌≡◌, ◌≤◌, ◌<◌, [], IfOk, IfErr, false, length, take};
 ghost use Rattle.std.specs.Io.{ReadsAtMost};
 ghost use Rattle.std.specs.Io.KnownBytes.{ReadConsumes};
+ghost use Rattle.crs_streams.specs.Given.{GivesMore};
 ghost use Rattle.crs_streams.specs.Streams.{CountsRead, fresh_source};
 ghost use Rattle.crs_runs.specs.Whole.{IsWhole, IsReadFault};
 
@@ -60,6 +61,7 @@ pub(crate) fn read_next<R: Read>(source: &mut Source<R>, room: &mut [u8]) -> Res
     ensures bound { ReadsAtMost result room.new }
     ensures bytes { ReadConsumes source.old.remaining source.new.remaining result room.new }
     ensures counted { CountsRead source.old source.new result }
+    ensures given { IfOk result (λ count. GivesMore source.old source.new (take count room.new)) }
     ensures fault { IfErr result (λ fault. fault ≡ RunFault.ReadFailed) }
 {
     source.read(room).map_err(|_| RunFault::ReadFailed)

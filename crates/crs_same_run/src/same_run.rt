@@ -4,7 +4,7 @@ ghost use Rattle.crs_runs.specs.Ending.{IsWritten, IsWriteFault};
 ghost use Rattle.crs_same_run.specs.SameOutput.{IsSameOutput, WritesPart};
 ghost use Rattle.crs_streams.specs.Streams.{fresh_sink};
 
-use crs_runs::{Answer, Telling, pair_output, refused_line, write_answer};
+use crs_runs::{PairAnswer, Telling, refused_line, write_answer};
 use crs_same::{Path, first_part};
 use crs_streams::{RunFault, Sink};
 use crs_text::Refusal;
@@ -28,25 +28,8 @@ pub fn run_same<W: Write>(
     ensures write_failed { IsErrOf result RunFault.WriteFailed ↔ (w.new.failed ≡ true) }
     ensures past_failure { w.new.past_failure ≡ false }
 {
-    write_answer(alloc, &SameAnswer { level, a, b }, w)
-}
-
-// Whether two texts spell the same CRS, at this level.
-#[derive(Drop)]
-struct SameAnswer<'t> {
-    level: Level,
-    a: &'t [u8],
-    b: &'t [u8],
-}
-
-impl Answer for SameAnswer<'_> {
-    ghost use Rattle.crs_same_run.specs.SameOutput.{IsSameOutput};
-
-    ghost Output = { λ s written status. IsSameOutput s.level s.a.now s.b.now written status };
-
-    fn output(&self, alloc: Global) -> Result<(Vec<u8>, u8), AllocError> {
-        pair_output(alloc, InALine, self.level, self.a, self.b)
-    }
+    let told = InALine;
+    write_answer(alloc, &PairAnswer { told, level, a, b }, w)
 }
 
 /// A refusal, and the first part in which two CRSs differ, are a line each. Profile.

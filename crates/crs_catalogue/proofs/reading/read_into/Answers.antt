@@ -9,14 +9,14 @@ pub returns-in_err-count-clause-err : goal.returns-in_err-count-clause-err
 returns-in_err-count-clause-err g c =
     let cut = c.loop-turn.invariant.cut in
     handed-on c.from_residual.result ReadFailed (IsReadingFault c.args.source.now c.read.new.self) (search rules)
-    (failed-read c.lines_are_cut.ensures (g.A.Adding.Form c.args.adding.now) (g.A.Adding.Share c.args.adding.now) (g.A.Adding.named c.args.adding.now) c.args.source.now c.loop-turn.source c.read.new.self cut.0 c.loop-turn.cutter
+    (failed-read c.lines_are_cut.ensures (g.A.Adding.Form c.args.way.now.adding) (g.A.Adding.Share c.args.way.now.adding) c.args.way.now.named c.args.source.now c.loop-turn.source c.read.new.self cut.0 c.loop-turn.cutter
     c.read.result cut.1 cut.2 c.read.ensures.kept c.read.ensures.counted (search rules))
 
 pub take-requires-clause-fits : goal.take-requires-clause-fits
 take-requires-clause-fits g c =
     let cut = c.loop-turn.invariant.cut in
     let got : c.read.result ≡ Ok c.in_ok-count.count = search rules in
-    lines-fit c.lines_are_cut.ensures (g.A.Adding.Form c.args.adding.now) (g.A.Adding.Share c.args.adding.now) (g.A.Adding.named c.args.adding.now) cut.0 (take c.in_ok-count.count c.read.new.room) c.loop-turn.cutter
+    lines-fit c.lines_are_cut.ensures (g.A.Adding.Form c.args.way.now.adding) (g.A.Adding.Share c.args.way.now.adding) c.args.way.now.named cut.0 (take c.in_ok-count.count c.read.new.room) c.loop-turn.cutter
     c.args.source.now c.read.new.self cut.2 ((rw got at c.read.ensures.given) c.args.source.now cut.0 cut.1)
     (omega (arith, c.read.ensures.few, c.read.ensures.counted.one_more, c.loop-turn.invariant.reads, c.loop-turn-test.true))
 
@@ -54,5 +54,5 @@ returns-clause-err g c =
       c.loop-turn.invariant.healthy,
       omega (arith, c.loop-turn.invariant.reads, c.loop-turn-test.false, c.loop-turn.auto.turn-end),
       c.loop-turn.invariant.unended,
-      gives-short c.lines_are_cut.ensures (g.A.Adding.Form c.args.adding.now) (g.A.Adding.Share c.args.adding.now) (g.A.Adding.named c.args.adding.now) c.args.source.now c.loop-turn.source cut.0 c.loop-turn.cutter cut.1 cut.2,
+      gives-short c.lines_are_cut.ensures (g.A.Adding.Form c.args.way.now.adding) (g.A.Adding.Share c.args.way.now.adding) c.args.way.now.named c.args.source.now c.loop-turn.source cut.0 c.loop-turn.cutter cut.1 cut.2,
     )

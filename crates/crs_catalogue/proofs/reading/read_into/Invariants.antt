@@ -12,6 +12,6 @@ invariant-loop-turn g l =
       within : l.source.past_end ≡ false;
       healthy : l.source.failed ≡ false;
       cut : (bytes : List ℕ) × HasGiven l.fn.source l.source bytes
-          × IsCutTo (g.A.Adding.Form l.fn.adding) (g.A.Adding.Share l.fn.adding) (g.A.Adding.named l.fn.adding) bytes l.cutter;
+          × IsCutTo (g.A.Adding.Form l.fn.way.adding) (g.A.Adding.Share l.fn.way.adding) l.fn.way.named bytes l.cutter;
       level : l.cutter.ledger.catalogue.level ≡ l.fn.cutter.ledger.catalogue.level;
     }

@@ -1,6 +1,6 @@
-use Rattle.std.proofs.Common.{◌≡◌, rules, subst, sym, IfErr}
-use Rattle.crs_desk.specs.FileAnswers.{IsFileFault}
-use Rattle.crs_desk.specs.FilesRun.{IsTaskFront}
+use Rattle.std.proofs.Common.{◌≡◌, rules, subst, sym, IfErr, IfOk}
+use Rattle.crs_desk.specs.FileAnswers.{IsAnswerSent, IsFileFault}
+use Rattle.crs_desk.specs.FilesRun.{IsTaskFront, IsTaskOutput}
 use Rattle.crs_desk.specs.declared.file_task.FileTask.{FileTask}
 use Rattle.crs_desk.specs.declared.file_task.FileTask.TheVariants as task
 use Rattle.crs_desk.proofs.PrefixedLemmas.{canon-ends, check-ends, form-ends}
@@ -14,6 +14,13 @@ answer_lines-requires-in-CheckLines-clause-ends g c = check-ends
 
 pub answer_lines-requires-in-FormLines-clause-ends : goal.answer_lines-requires-in-FormLines-clause-ends
 answer_lines-requires-in-FormLines-clause-ends g c = form-ends c.in-FormLines.rules.now c.in-FormLines.level
+
+pub returns-in-FormGroup-clause-answered : goal.returns-in-FormGroup-clause-answered
+returns-in-FormGroup-clause-answered g c =
+    let asked : c.args.task ≡ task.FormGroup c.in-FormGroup.level c.in-FormGroup.listing c.in-FormGroup.rules = search rules in
+    subst (λ (t : FileTask). IfOk c.answer_group-in-FormGroup.result
+    (IsAnswerSent (IsTaskOutput t) c.args.prefix.now (g.R.Read.remaining c.args.reader) c.args.sink.now
+    c.answer_group-in-FormGroup.new.sink)) (sym asked) c.answer_group-in-FormGroup.ensures.answered
 
 pub returns-in-FormLines-clause-fault : goal.returns-in-FormLines-clause-fault
 returns-in-FormLines-clause-fault g c =

@@ -6,7 +6,7 @@ use Rattle.crs_desk.proofs.laws.lines_joined.Goals as goal
 
 pub returns : goal.returns
 returns c = record {
-  canon = λ level. output-append (IsLineOutput (IsCanonOutput level));
-  check = output-append (IsLineOutput IsCheckOutput);
-  form = λ rules level. output-append (IsLineOutput (IsFormOutput rules level));
+  canon = λ level. output-append c.lines_are_cut.ensures (IsLineOutput (IsCanonOutput level));
+  check = output-append c.lines_are_cut.ensures (IsLineOutput IsCheckOutput);
+  form = λ rules level. output-append c.lines_are_cut.ensures (IsLineOutput (IsFormOutput rules level));
 }

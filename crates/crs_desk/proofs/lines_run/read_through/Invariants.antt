@@ -1,4 +1,4 @@
-use Rattle.std.proofs.Common.{◌≡◌, [], ◌*◌, ◌≤◌, ℕ, List, length, false}
+use Rattle.std.proofs.Common.{◌≡◌, [], ℕ, List, length, false}
 use Rattle.crs_streams.specs.Prelude.{HasGiven}
 use Rattle.crs_desk.specs.LineCutting.{IsLinesCut}
 use Rattle.crs_desk.proofs.lines_run.read_through.Given as goal
@@ -8,7 +8,6 @@ invariant-loop-turn g l =
     record {
       room : length l.room ≡ 65536;
       reads : l.source.reads ≡ l.turn;
-      few : l.source.taken ≤ 65536 * l.turn;
       unended : l.source.ended ≡ false;
       within : l.source.past_end ≡ false;
       healthy : l.source.failed ≡ false;

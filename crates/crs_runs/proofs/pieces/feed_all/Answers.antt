@@ -1,5 +1,4 @@
-use Rattle.std.proofs.Common.{◌++◌, arith, refl, rules, take}
-use Rattle.crs_streams.proofs.GivenLemmas.{given-read}
+use Rattle.std.proofs.Common.{◌++◌, arith, rules, take}
 use Rattle.crs_runs.proofs.KnownText.{read_whole}
 use Rattle.crs_runs.proofs.PieceLemmas.{whole-held}
 use Rattle.crs_runs.proofs.pieces.feed_all.Goals as goal
@@ -18,10 +17,7 @@ returns-then-count-eq0-clause-ok g c =
 
 pub loop-turn-preserved : goal.loop-turn-preserved
 loop-turn-preserved g c =
-    let held = c.loop-turn.invariant.held in
-    let given = given-read c.args.source.now c.loop-turn.source c.read_next.new.source held.0 c.read_next.new.room c.read_next.new.room
-    c.read_next.result c.in_ok-count.count held.1 c.read_next.ensures.bytes c.read_next.ensures.counted c.read_next.ensures.bound
-    c.in_ok-count.was refl in record {
+    let held = c.loop-turn.invariant.held in record {
       room = search rules;
       reads = search rules;
       taken = search rules;
@@ -31,7 +27,7 @@ loop-turn-preserved g c =
       healthy = search rules;
       held = (
         held.0 ++ take c.in_ok-count.count c.read_next.new.room,
-        given,
+        c.in_ok-count.ensures.given c.args.source.now held.0 held.1,
         c.in_ok-refused.ensures.ok held.0 held.2,
       );
     }

@@ -20,9 +20,9 @@ loop-line-init g c = record {
 
 pub returns-in_err-end_line-clause-fault : goal.returns-in_err-end_line-clause-fault
 returns-in_err-end_line-clause-fault g c =
-    let Form = g.A.Adding.Form c.args.adding.now in
-    let Share = g.A.Adding.Share c.args.adding.now in
-    let named = g.A.Adding.named c.args.adding.now in
+    let Form = g.A.Adding.Form c.args.way.now.adding in
+    let Share = g.A.Adding.Share c.args.way.now.adding in
+    let named = c.args.way.now.named in
     let done = c.loop-line.invariant.done in
     handed-on c.from_residual.result c.in_err-end_line.field-0.0
     (λ fault. (bytes : List ℕ) → IsCutTo Form Share named bytes c.args.self.now → IsCutFault (bytes ++ c.args.piece.now) fault) (search rules)
@@ -33,7 +33,7 @@ returns-in_err-end_line-clause-fault g c =
 pub loop-line-preserved : goal.loop-line-preserved
 loop-line-preserved g c =
     let done = c.loop-line.invariant.done in record {
-      done = piece-step c.lines_are_cut.ensures (g.A.Adding.Form c.args.adding.now) (g.A.Adding.Share c.args.adding.now) (g.A.Adding.named c.args.adding.now) done.0 c.in-Some.line.now c.in-Some.left.now c.loop-line.rest.now c.args.piece.now
+      done = piece-step c.lines_are_cut.ensures (g.A.Adding.Form c.args.way.now.adding) (g.A.Adding.Share c.args.way.now.adding) c.args.way.now.named done.0 c.in-Some.line.now c.in-Some.left.now c.loop-line.rest.now c.args.piece.now
           c.args.self.now c.loop-line.self c.end_line.new.self done.1 c.in-Some.ensures done.2
           c.in_ok-end_line.ensures.cut;
       lines = omega (
@@ -57,15 +57,15 @@ returns-clause-cut g c =
     let done = c.loop-line.invariant.done in
     let plain : HasNoFeed c.loop-line.rest.now = search rules in
     IfOk-weaker c.keep.result _ _
-    (λ _ kept. piece-kept c.lines_are_cut.ensures (g.A.Adding.Form c.args.adding.now) (g.A.Adding.Share c.args.adding.now) (g.A.Adding.named c.args.adding.now) done.0
+    (λ _ kept. piece-kept c.lines_are_cut.ensures (g.A.Adding.Form c.args.way.now.adding) (g.A.Adding.Share c.args.way.now.adding) c.args.way.now.named done.0
     c.loop-line.rest.now c.args.piece.now c.args.self.now c.loop-line.self c.keep.new.self done.1 done.2 plain kept)
     c.keep.ensures.kept
 
 pub returns-clause-fault : goal.returns-clause-fault
 returns-clause-fault g c =
-    let Form = g.A.Adding.Form c.args.adding.now in
-    let Share = g.A.Adding.Share c.args.adding.now in
-    let named = g.A.Adding.named c.args.adding.now in
+    let Form = g.A.Adding.Form c.args.way.now.adding in
+    let Share = g.A.Adding.Share c.args.way.now.adding in
+    let named = c.args.way.now.named in
     let done = c.loop-line.invariant.done in
     let plain : HasNoFeed c.loop-line.rest.now = search rules in
     IfErr-weaker c.keep.result _ _

@@ -7,8 +7,8 @@ invariant-loop-line g l =
     record {
       done : (front : List ℕ) × (l.fn.piece ≡ front ++ l.rest)
           × ((bytes : List ℕ)
-          → IsCutTo (g.A.Adding.Form l.fn.adding) (g.A.Adding.Share l.fn.adding) (g.A.Adding.named l.fn.adding) bytes l.fn.self
-          → IsCutTo (g.A.Adding.Form l.fn.adding) (g.A.Adding.Share l.fn.adding) (g.A.Adding.named l.fn.adding) (bytes ++ front) l.self);
+          → IsCutTo (g.A.Adding.Form l.fn.way.adding) (g.A.Adding.Share l.fn.way.adding) l.fn.way.named bytes l.fn.self
+          → IsCutTo (g.A.Adding.Form l.fn.way.adding) (g.A.Adding.Share l.fn.way.adding) l.fn.way.named (bytes ++ front) l.self);
       lines : l.self.ledger.lines + length l.rest ≤ l.fn.self.ledger.lines + length l.fn.piece;
       small : length l.rest ≤ length l.fn.piece;
       level : l.self.ledger.catalogue.level ≡ l.fn.self.ledger.catalogue.level;

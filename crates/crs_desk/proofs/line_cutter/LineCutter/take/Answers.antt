@@ -1,7 +1,6 @@
-use Rattle.std.proofs.Common.{◌∙◌, ◌++◌, ◌∷◌, [], ap, append-nil, append_assoc, arith, length, length-append, refl, rules, subst, sym}
+use Rattle.std.proofs.Common.{◌≡◌, ◌∙◌, ◌++◌, ◌∷◌, [], ap, append-nil, append_assoc, arith, length, length-append, refl, rules, subst, sym}
 use Rattle.std.proofs.lemmas.Result.{IfErr-weaker, IfOk-weaker}
 use Rattle.crs_streams.specs.Prelude.{HasNoFeed}
-use Rattle.crs_catalogue.proofs.FaultLemmas.{handed-on}
 use Rattle.crs_desk.specs.LineCutting.{CutterParts, IsLinesCut, WriterParts}
 use Rattle.crs_desk.proofs.LineCutLemmas.{cut-emptied, cut-kept, cut-unsendable, cutter_of, keep-stopped, piece-step, split-small}
 use Rattle.crs_desk.proofs.line_cutter.LineCutter.take.Goals as goal
@@ -22,11 +21,11 @@ loop-line-init g c = record {
 pub returns-in_err-end_line-clause-fault : goal.returns-in_err-end_line-clause-fault
 returns-in_err-end_line-clause-fault g c =
     let done = c.loop-line.invariant.done in
-    handed-on c.from_residual.result c.in_err-end_line.field-0.0 _ (search rules)
+    IfErr-weaker c.from_residual.result (λ error. error ≡ c.in_err-end_line.field-0.0) _ (λ error is. rw is
     (λ before bytes cut. rw (done.1, c.in-Some.ensures.0, ← append_assoc bytes done.0 (c.in-Some.line.now ++ 10 ∷ c.in-Some.left.now))
     (c.in_err-end_line.ensures.fault before (bytes ++ done.0) c.in-Some.left.now
     (split-small done.0 c.in-Some.line.now c.in-Some.left.now c.loop-line.rest.now c.args.piece.now done.1
-    c.in-Some.ensures c.requires.small) (done.2 before bytes cut)))
+    c.in-Some.ensures c.requires.small) (done.2 before bytes cut)))) (search rules)
 
 pub loop-line-preserved : goal.loop-line-preserved
 loop-line-preserved g c =
@@ -46,11 +45,11 @@ pub returns-in_err-send-clause-fault : goal.returns-in_err-send-clause-fault
 returns-in_err-send-clause-fault g c =
     let Output = g.C.TextCommand.Output c.args.command.now in
     let done = c.loop-line.invariant.done in
-    handed-on c.from_residual-in_err-send.result c.in_err-send.field-0.0 _ (search rules)
+    IfErr-weaker c.from_residual-in_err-send.result (λ error. error ≡ c.in_err-send.field-0.0) _ (λ error is. rw is
     (λ before bytes cut. rw (done.1, ← append_assoc bytes done.0 c.loop-line.rest.now)
     (cut-unsendable c.loop-line.rest.now
     (subst (λ (k : CutterParts). IsLinesCut Output before (bytes ++ done.0) k c.loop-line.sink) (sym c.self.view_is)
-    (done.2 before bytes cut)) c.in_err-send.ensures.cut))
+    (done.2 before bytes cut)) c.in_err-send.ensures.cut))) (search rules)
 
 pub returns-clause-cut : goal.returns-clause-cut
 returns-clause-cut g c =
@@ -60,7 +59,7 @@ returns-clause-cut g c =
     let plain : HasNoFeed c.loop-line.rest.now = search rules in
     IfOk-weaker c.keep.result _ _
     (λ _ kept before bytes cut. rw (done.1, ← append_assoc bytes done.0 c.loop-line.rest.now)
-    (cut-kept c.loop-line.rest.now c.keep.new.self
+    (cut-kept c.lines_are_cut.ensures c.loop-line.rest.now c.keep.new.self
     (cut-emptied next
     (subst (λ (k : CutterParts). IsLinesCut Output before (bytes ++ done.0) k c.loop-line.sink) (sym c.self.view_is)
     (done.2 before bytes cut)) c.in_ok-send.ensures.sent refl refl) plain kept))
@@ -74,7 +73,7 @@ returns-clause-fault g c =
     let plain : HasNoFeed c.loop-line.rest.now = search rules in
     IfErr-weaker c.keep.result _ _
     (λ fault why before bytes cut. rw (done.1, ← append_assoc bytes done.0 c.loop-line.rest.now)
-    (keep-stopped c.loop-line.rest.now fault c.in_ok-send.ensures.sent.is_empty plain
+    (keep-stopped c.lines_are_cut.ensures c.loop-line.rest.now fault c.in_ok-send.ensures.sent.is_empty plain
     (omega (arith, c.loop-line.invariant.small, c.requires.small)) why
     (cut-emptied next
     (subst (λ (k : CutterParts). IsLinesCut Output before (bytes ++ done.0) k c.loop-line.sink) (sym c.self.view_is)

@@ -1,6 +1,6 @@
 use Rattle.std.proofs.Common.{inl, inr, refl}
 use Rattle.crs_desk.specs.ExplainOutput.{IsExplainOutput}
-use Rattle.crs_desk.proofs.explain_run.text_output.Goals as goal
+use Rattle.crs_desk.proofs.explain_run.ExplainTextTextCommand.output.Goals as goal
 
 pub returns-in_ok-kind_line-in-Ok : goal.returns-in_ok-kind_line-in-Ok
 unfolding IsExplainOutput
