@@ -11,14 +11,14 @@ mod telling;
 mod under;
 
 use crs_desk::{
-    ExplainOptions, FileTask, GroupFlags, Level, LineWord, Listing, Manner, PLAIN, Request,
-    RequestFault, RunFault, Task, request,
+    ExplainOptions, GroupFlags, Level, LineWord, Listing, Manner, PLAIN, Request, RequestFault,
+    RunFault, Task, request,
 };
 use fault::Fault;
 use order::{WORDS, order_of};
 use runs::{
-    canon, canon_lines, check, check_lines, explain, explain_files, explain_pair, explain_text,
-    files, group, same, same_files,
+    canon, canon_lines, check, check_lines, explain, explain_text, explain_texts, files, group,
+    same_texts, text_of,
 };
 use std::alloc::{AllocError, Global};
 use std::process::ExitCode;
@@ -76,7 +76,10 @@ fn answer(rt: &HostRuntime, wanted: &Request) -> Result<u8, Fault> {
     match wanted {
         Request::Canon(level) => canon(rt, level_of(level)?),
         Request::Check => check(rt),
-        Request::Same(first, second, level) => same(rt, level_of(level)?, first, second),
+        Request::Same(first, second, level) => {
+            let level = level_of(level)?;
+            same_texts(rt, level, None, text_of(rt, first), text_of(rt, second))
+        }
         Request::Group(level) => group(rt, level_of(level)?, PLAIN),
         Request::GroupListed(level, flags) => group(rt, level_of(level)?, listing_of(flags)),
         Request::CanonLines(level) => canon_lines(rt, level_of(level)?),
@@ -89,8 +92,14 @@ fn answer(rt: &HostRuntime, wanted: &Request) -> Result<u8, Fault> {
             judge(rt, options)?;
             explain_text(rt, manner_of(options), text)
         }
-        Request::ExplainPair(first, second, options) => explain_pair(rt, options, first, second),
-        Request::Files(task, names) => answer_files(rt, task, names.as_slice()),
+        Request::ExplainPair(first, second, options) => {
+            let level = judge(rt, options)?;
+            let (first, second) = (text_of(rt, first), text_of(rt, second));
+            explain_texts(rt, options, level, None, first, second)
+        }
+        Request::Files(task, names) => {
+            files(rt, task, names.as_slice(), judged_level(rt, task)?, None)
+        }
         Request::FilesUnder(task, names, rules) => {
             files_under(rt, task, names.as_slice(), rules.as_slice())
         }
@@ -100,31 +109,24 @@ fn answer(rt: &HostRuntime, wanted: &Request) -> Result<u8, Fault> {
     }
 }
 
-fn answer_files(rt: &HostRuntime, task: &Task, names: &[LineWord]) -> Result<u8, Fault> {
+// The level of a task, of which the words are judged.
+pub(crate) fn judged_level(rt: &HostRuntime, task: &Task) -> Result<Level, Fault> {
     match task {
-        Task::Canon(level) => files(rt, FileTask::Canon(level_of(level)?), names),
-        Task::Check => files(rt, FileTask::Check, names),
-        Task::Group(level) => files(rt, FileTask::Group(level_of(level)?, PLAIN), names),
-        Task::GroupListed(level, flags) => {
-            let task = FileTask::Group(level_of(level)?, listing_of(flags));
-            files(rt, task, names)
-        }
-        Task::CanonLines(level) => files(rt, FileTask::CanonLines(level_of(level)?), names),
-        Task::CheckLines => files(rt, FileTask::CheckLines, names),
-        Task::Explain(options) => {
-            judge(rt, options)?;
-            files(rt, FileTask::Explain(manner_of(options)), names)
-        }
-        Task::Same(level) => same_files(rt, level_of(level)?, names),
-        Task::ExplainPair(options) => explain_files(rt, options, names),
+        Task::Canon(level)
+        | Task::CanonLines(level)
+        | Task::Group(level)
+        | Task::GroupListed(level, _)
+        | Task::Same(level) => level_of(level),
+        Task::Explain(options) | Task::ExplainPair(options) => judge(rt, options),
+        Task::Check | Task::CheckLines => Ok(Level::Full),
     }
 }
 
-// Judges the words that have no bearing on one text.
-pub(crate) fn judge(rt: &HostRuntime, options: &ExplainOptions) -> Result<(), Fault> {
-    level_of(&options.level)?;
+// Judges the words that have no bearing on one text, and answers the level among them.
+fn judge(rt: &HostRuntime, options: &ExplainOptions) -> Result<Level, Fault> {
+    let level = level_of(&options.level)?;
     order_of(rt.alloc(), options)?;
-    Ok(())
+    Ok(level)
 }
 
 pub(crate) fn listing_of(flags: &GroupFlags) -> Listing {

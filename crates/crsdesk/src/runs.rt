@@ -1,100 +1,104 @@
-//! The runs of the commands, over standard input and output, and over files.
+//! The runs of the commands, over standard input and output, over texts, and over files.
 use crate::fault::Fault;
 use crate::input::{Input, Opener, tell_fault};
 use crate::order::order_of;
 use crate::output::Output;
 use crate::telling::tell_of;
-use crate::{judge, level_of, manner_of};
+use crate::{listing_of, manner_of};
 use crs_desk::{
-    ExplainOptions, FileTask, Filling, Level, LineWord, Listing, Manner, RunFault, Sink, Source,
-    Stream, read_text, run_canon, run_canon_lines, run_check, run_check_lines, run_explain,
-    run_explain_pair, run_explain_text, run_files, run_group_listing, run_same,
+    ExplainOptions, FileTask, Filling, Level, LineWord, Listing, Manner, PLAIN, Rules, RunFault,
+    Sink, Source, Stream, Summary, Task, read_text, run_canon, run_canon_lines, run_check,
+    run_check_lines, run_explain, run_explain_pair, run_explain_pair_under, run_explain_text,
+    run_files, run_group_listing, run_same, run_same_under,
 };
 use std::path::Path;
 
+// What a run of these words comes to that reads standard input, as one text or line by line, and writes standard output.
+macro_rules! over_standard {
+    ($rt:ident, $from:ident => $run:ident($($word:expr),*) $(.map($status:expr))?) => {{
+        let mut input = Input::standard($rt);
+        let mut output = Output::new($rt);
+        let answer = $run(
+            $rt.alloc(),
+            $($word,)*
+            &mut reader!($from input),
+            &mut Sink::new(&mut output),
+        );
+        answered(answer$(.map($status))?, &input, &output)
+    }};
+}
+
+macro_rules! reader {
+    (text $input:ident) => { Source::new(Filling::new(&mut $input)) };
+    (lines $input:ident) => { Stream::new(&mut $input) };
+}
+
 /// The canonical text of standard input.
 pub fn canon(rt: &HostRuntime, level: Level) -> Result<u8, Fault> {
-    let mut input = Input::standard(rt);
-    let mut output = Output::new(rt);
-    let answer = run_canon(
-        rt.alloc(),
-        level,
-        &mut Source::new(Filling::new(&mut input)),
-        &mut Sink::new(&mut output),
-    );
-    answered(answer, &input, &output)
+    over_standard!(rt, text => run_canon(level))
 }
 
 /// The canonical text of each line of standard input.
 pub fn canon_lines(rt: &HostRuntime, level: Level) -> Result<u8, Fault> {
-    let mut input = Input::standard(rt);
-    let mut output = Output::new(rt);
-    let answer = run_canon_lines(
-        rt.alloc(),
-        level,
-        &mut Stream::new(&mut input),
-        &mut Sink::new(&mut output),
-    );
-    answered(answer, &input, &output)
+    over_standard!(rt, lines => run_canon_lines(level))
 }
 
 /// What standard input spells.
 pub fn check(rt: &HostRuntime) -> Result<u8, Fault> {
-    let mut input = Input::standard(rt);
-    let mut output = Output::new(rt);
-    let answer = run_check(
-        rt.alloc(),
-        &mut Source::new(Filling::new(&mut input)),
-        &mut Sink::new(&mut output),
-    );
-    answered(answer, &input, &output)
+    over_standard!(rt, text => run_check())
 }
 
 /// What each line of standard input spells.
 pub fn check_lines(rt: &HostRuntime) -> Result<u8, Fault> {
-    let mut input = Input::standard(rt);
-    let mut output = Output::new(rt);
-    let answer = run_check_lines(
-        rt.alloc(),
-        &mut Stream::new(&mut input),
-        &mut Sink::new(&mut output),
-    );
-    answered(answer, &input, &output)
+    over_standard!(rt, lines => run_check_lines())
 }
 
 /// The catalogue of the lines of standard input, with these groups. Status 1 where a line was refused.
 pub fn group(rt: &HostRuntime, level: Level, listing: Listing) -> Result<u8, Fault> {
-    let mut input = Input::standard(rt);
-    let mut output = Output::new(rt);
-    let answer = run_group_listing(
-        rt.alloc(),
-        level,
-        listing,
-        &mut Source::new(Filling::new(&mut input)),
-        &mut Sink::new(&mut output),
-    );
-    answered(
-        answer.map(|summary| u8::from(summary.refused > 0)),
-        &input,
-        &output,
-    )
+    over_standard!(rt, text => run_group_listing(level, listing).map(status_of))
+}
+
+fn status_of(summary: Summary) -> u8 {
+    u8::from(summary.refused > 0)
 }
 
 /// What standard input spells, or why it is refused, explained.
 pub fn explain(rt: &HostRuntime, how: Manner) -> Result<u8, Fault> {
-    let mut input = Input::standard(rt);
-    let mut output = Output::new(rt);
-    let answer = run_explain(
-        rt.alloc(),
-        how,
-        &mut Source::new(Filling::new(&mut input)),
-        &mut Sink::new(&mut output),
-    );
-    answered(answer, &input, &output)
+    over_standard!(rt, text => run_explain(how))
 }
 
-/// What is asked of each of these files.
-pub fn files(rt: &HostRuntime, task: FileTask<'_>, names: &[LineWord]) -> Result<u8, Fault> {
+/// What a task asks of files, at its level, under rules where there are some. They are lent: a function that owns rules is
+/// slow to prove.
+pub fn files(
+    rt: &HostRuntime,
+    task: &Task,
+    names: &[LineWord],
+    level: Level,
+    rules: Option<&Rules>,
+) -> Result<u8, Fault> {
+    let each = match (task, rules) {
+        (Task::Same(_), _) => return same_files(rt, level, rules, names),
+        (Task::ExplainPair(options), _) => {
+            return explain_files(rt, options, level, rules, names);
+        }
+        (Task::Explain(options), _) => FileTask::Explain(manner_of(options)),
+        (Task::Check, _) => FileTask::Check,
+        (Task::CheckLines, _) => FileTask::CheckLines,
+        (Task::Canon(_), None) => FileTask::Canon(level),
+        (Task::Canon(_), Some(rules)) => FileTask::Form(level, rules),
+        (Task::CanonLines(_), None) => FileTask::CanonLines(level),
+        (Task::CanonLines(_), Some(rules)) => FileTask::FormLines(level, rules),
+        (Task::Group(_), None) => FileTask::Group(level, PLAIN),
+        (Task::Group(_), Some(rules)) => FileTask::FormGroup(level, PLAIN, rules),
+        (Task::GroupListed(_, flags), None) => FileTask::Group(level, listing_of(flags)),
+        (Task::GroupListed(_, flags), Some(rules)) => {
+            FileTask::FormGroup(level, listing_of(flags), rules)
+        }
+    };
+    each_file(rt, each, names)
+}
+
+fn each_file(rt: &HostRuntime, task: FileTask<'_>, names: &[LineWord]) -> Result<u8, Fault> {
     let mut output = Output::new(rt);
     let answer = run_files(
         rt.alloc(),
@@ -106,25 +110,31 @@ pub fn files(rt: &HostRuntime, task: FileTask<'_>, names: &[LineWord]) -> Result
     written(answer, &output)
 }
 
-/// Whether two texts spell the same CRS.
-pub fn same(
+// Whether the texts of two files spell the same CRS.
+fn same_files(
     rt: &HostRuntime,
     level: Level,
-    first: &LineWord,
-    second: &LineWord,
+    rules: Option<&Rules>,
+    names: &[LineWord],
 ) -> Result<u8, Fault> {
-    same_texts(rt, level, text_of(rt, first), text_of(rt, second))
-}
-
-/// Whether the texts of two files spell the same CRS.
-pub fn same_files(rt: &HostRuntime, level: Level, names: &[LineWord]) -> Result<u8, Fault> {
     let (first, second) = two_texts(rt, names)?;
-    same_texts(rt, level, &first, &second)
+    same_texts(rt, level, rules, &first, &second)
 }
 
-fn same_texts(rt: &HostRuntime, level: Level, a: &[u8], b: &[u8]) -> Result<u8, Fault> {
+/// Whether two texts spell the same CRS, or the same under rules.
+pub fn same_texts(
+    rt: &HostRuntime,
+    level: Level,
+    rules: Option<&Rules>,
+    a: &[u8],
+    b: &[u8],
+) -> Result<u8, Fault> {
     let mut output = Output::new(rt);
-    let answer = run_same(rt.alloc(), level, a, b, &mut Sink::new(&mut output));
+    let mut sink = Sink::new(&mut output);
+    let answer = match rules {
+        Some(rules) => run_same_under(rt.alloc(), level, rules, a, b, &mut sink),
+        None => run_same(rt.alloc(), level, a, b, &mut sink),
+    };
     written(answer, &output)
 }
 
@@ -136,52 +146,43 @@ pub fn explain_text(rt: &HostRuntime, how: Manner, word: &LineWord) -> Result<u8
     written(answer, &output)
 }
 
-/// All parts in which two texts differ.
-pub fn explain_pair(
+// All parts in which the texts of two files differ.
+fn explain_files(
     rt: &HostRuntime,
     options: &ExplainOptions,
-    first: &LineWord,
-    second: &LineWord,
-) -> Result<u8, Fault> {
-    judge(rt, options)?;
-    explain_texts(rt, options, text_of(rt, first), text_of(rt, second))
-}
-
-/// All parts in which the texts of two files differ.
-pub fn explain_files(
-    rt: &HostRuntime,
-    options: &ExplainOptions,
+    level: Level,
+    rules: Option<&Rules>,
     names: &[LineWord],
 ) -> Result<u8, Fault> {
-    judge(rt, options)?;
     let (first, second) = two_texts(rt, names)?;
-    explain_texts(rt, options, &first, &second)
+    explain_texts(rt, options, level, rules, &first, &second)
 }
 
-fn explain_texts(
+/// All parts in which two texts differ, or differ under rules.
+pub fn explain_texts(
     rt: &HostRuntime,
     options: &ExplainOptions,
+    level: Level,
+    rules: Option<&Rules>,
     a: &[u8],
     b: &[u8],
 ) -> Result<u8, Fault> {
-    let level = level_of(&options.level)?;
+    let how = manner_of(options);
     let order = order_of(rt.alloc(), options)?;
     let mut output = Output::new(rt);
-    let answer = run_explain_pair(
-        rt.alloc(),
-        manner_of(options),
-        &order,
-        level,
-        a,
-        b,
-        &mut Sink::new(&mut output),
-    );
+    let mut sink = Sink::new(&mut output);
+    let answer = match rules {
+        Some(rules) => {
+            run_explain_pair_under(rt.alloc(), how, &order, level, rules, a, b, &mut sink)
+        }
+        None => run_explain_pair(rt.alloc(), how, &order, level, a, b, &mut sink),
+    };
     written(answer, &output)
 }
 
-/// The texts of two files: a request for two names two. The faults of both are told.
-pub fn two_texts(rt: &HostRuntime, names: &[LineWord]) -> Result<(Vec<u8>, Vec<u8>), Fault> {
-    let (Some(first), Some(second)) = (names.first(), names.get(1)) else {
+// The texts of two files: a request for two names two. The faults of both are told.
+fn two_texts(rt: &HostRuntime, names: &[LineWord]) -> Result<(Vec<u8>, Vec<u8>), Fault> {
+    let [first, second, ..] = names else {
         return Err(Fault::Told);
     };
     let first = file_text(rt, first.as_str());
@@ -217,8 +218,8 @@ fn answered(answer: Result<u8, RunFault>, input: &Input, output: &Output) -> Res
     }
 }
 
-/// The answer of a run over standard output.
-pub fn written(answer: Result<u8, RunFault>, output: &Output) -> Result<u8, Fault> {
+// The answer of a run over standard output.
+fn written(answer: Result<u8, RunFault>, output: &Output) -> Result<u8, Fault> {
     match (answer, output.failure()) {
         (Err(RunFault::WriteFailed), Some(error)) => {
             if output.is_closed() {
