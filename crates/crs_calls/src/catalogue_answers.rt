@@ -33,21 +33,13 @@ pub(crate) fn standing_of(place: Placed) -> Standing
     ensures { result ≡ standing_of place }
 {
     match place {
-        Placed::Blank => Standing {
-            group: 0,
-            refused: no_refusal(),
-            code: OK,
-        },
+        Placed::Blank => in_group(0, OK),
         Placed::Refused(refusal) => Standing {
             group: 0,
             refused: place_and_number(refusal),
             code: REFUSED,
         },
-        Placed::Group(number) => Standing {
-            group: number,
-            refused: no_refusal(),
-            code: OK,
-        },
+        Placed::Group(number) => in_group(number, OK),
     }
 }
 
@@ -55,9 +47,15 @@ pub(crate) fn standing_of(place: Placed) -> Standing
 pub(crate) fn without_memory() -> Standing
     ensures { result ≡ without_memory }
 {
+    in_group(0, NO_MEMORY)
+}
+
+fn in_group(group: usize, code: u32) -> Standing
+    ensures { result ≡ record without_memory { group = group; code = code } }
+{
     Standing {
-        group: 0,
+        group,
         refused: no_refusal(),
-        code: NO_MEMORY,
+        code,
     }
 }

@@ -8,7 +8,6 @@ use crate::held_rules::HeldRules;
 use crate::letting_go::let_go_anywhere;
 use crate::piece::{Piece, piece_of};
 use crs_group::Catalogue;
-use crs_rules::Rules;
 use crs_value::Level;
 use std::alloc::Global;
 
@@ -24,25 +23,20 @@ pub fn made(alloc: Global, level: u32) -> (Catalogue, u32)
 }
 
 /// Adds a text.
+#[tactic(auto, unfolding(crate::specs::Catalogues::IsAdded))]
 pub fn added(held: Catalogue, number: u64, text: &[u8]) -> (Catalogue, Standing)
     ensures { IsAdded number text.now held result.0 result.1 }
 {
     let mut held = held;
-    let told = add(&mut held, number, text);
+    let told = match held.add(number, text) {
+        Ok(place) => standing_of(place),
+        Err(_) => without_memory(),
+    };
     (held, told)
 }
 
-#[tactic(auto, unfolding(crate::specs::Catalogues::IsAdded))]
-fn add(held: &mut Catalogue, number: u64, text: &[u8]) -> Standing
-    ensures { IsAdded number text.now held.old held.new result }
-{
-    match held.add(number, text) {
-        Ok(place) => standing_of(place),
-        Err(_) => without_memory(),
-    }
-}
-
 /// Adds a text under rules.
+#[tactic(auto, unfolding(crate::specs::Catalogues::IsAddedUnder))]
 pub fn added_under(
     held: Catalogue,
     rules: HeldRules,
@@ -52,18 +46,11 @@ pub fn added_under(
     ensures { (result.1 ≡ rules) × IsAddedUnder rules.reading.rules number text.now held result.0 result.2 }
 {
     let mut held = held;
-    let told = add_under(&mut held, rules.reader.rules(), number, text);
-    (held, rules, told)
-}
-
-#[tactic(auto, unfolding(crate::specs::Catalogues::IsAddedUnder))]
-fn add_under(held: &mut Catalogue, rules: &Rules, number: u64, text: &[u8]) -> Standing
-    ensures { IsAddedUnder rules.now number text.now held.old held.new result }
-{
-    match held.add_under(number, text, rules) {
+    let told = match held.add_under(number, text, rules.reader.rules()) {
         Ok(place) => standing_of(place),
         Err(_) => without_memory(),
-    }
+    };
+    (held, rules, told)
 }
 
 /// How many groups there are.
@@ -108,21 +95,15 @@ pub fn cut(held: Catalogue, group: usize, from: usize) -> (Catalogue, Piece)
     ensures same { result.0 ≡ held }
     ensures piece { IsPieceAt held group from result.1 }
 {
-    let piece = piece_at(&held, group, from);
-    (held, piece)
-}
-
-fn piece_at(catalogue: &Catalogue, group: usize, from: usize) -> Piece
-    ensures { IsPieceAt catalogue.now group from result }
-{
-    match catalogue.text(group) {
+    let piece = match held.text(group) {
         Some(text) => piece_of(text, from),
         None => Piece {
             bytes: [0; 240],
             length: 0,
             code: NO_NUMBER,
         },
-    }
+    };
+    (held, piece)
 }
 
 /// Drops a catalogue.

@@ -3,7 +3,7 @@ ghost use Rattle.std.specs.Prelude.{◌≡◌};
 ghost use Rattle.crs_text.specs.Fault.{refusal_of};
 ghost use Rattle.crs_calls.specs.RulesCalls.{file_fault, file_read, form_fault, form_without_level};
 
-use crate::codes::{NO_LEVEL, NO_MEMORY, OK, REFUSED};
+use crate::codes::{NO_MEMORY, OK, REFUSED};
 use crate::refused::{Refused, no_refusal, place_and_number};
 use crs_rules_file::RulesFault;
 use crs_text::Fault;
@@ -38,11 +38,18 @@ pub struct Form {
 pub(crate) fn file_read() -> RulesStanding
     ensures { result ≡ file_read }
 {
+    without_line(OK)
+}
+
+// What is answered with this code of a file in which no line is refused.
+fn without_line(code: u32) -> RulesStanding
+    ensures { result ≡ record file_read { code = code } }
+{
     RulesStanding {
         line: 0,
         place: 0,
         number: 0,
-        code: OK,
+        code,
     }
 }
 
@@ -57,12 +64,7 @@ pub(crate) fn file_fault(fault: RulesFault) -> RulesStanding
             number: refusal.number,
             code: REFUSED,
         },
-        RulesFault::Memory(_) => RulesStanding {
-            line: 0,
-            place: 0,
-            number: 0,
-            code: NO_MEMORY,
-        },
+        RulesFault::Memory(_) => without_line(NO_MEMORY),
     }
 }
 
@@ -76,21 +78,17 @@ pub(crate) fn form_fault(fault: Fault) -> Form
             refused: place_and_number(refusal),
             code: REFUSED,
         },
-        None => Form {
-            length: 0,
-            refused: no_refusal(),
-            code: NO_MEMORY,
-        },
+        None => without_form(NO_MEMORY),
     }
 }
 
-// What is answered where there is no such level.
-pub(crate) fn form_without_level() -> Form
-    ensures { result ≡ form_without_level }
+// What is answered with this code of a text that has no form, but isn't refused.
+pub(crate) fn without_form(code: u32) -> Form
+    ensures { result ≡ record form_without_level { code = code } }
 {
     Form {
         length: 0,
         refused: no_refusal(),
-        code: NO_LEVEL,
+        code,
     }
 }

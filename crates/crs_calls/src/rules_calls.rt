@@ -4,14 +4,12 @@ ghost use Rattle.crs_calls.specs.Held.{nothing_held};
 ghost use Rattle.crs_calls.specs.Pieces.{IsPiece};
 ghost use Rattle.crs_calls.specs.RulesCalls.{IsFileRead, IsFormAt, IsFormed};
 
-use crate::codes::{OK, level_numbered};
+use crate::codes::{NO_LEVEL, OK, level_numbered};
 use crate::held_rules::HeldRules;
 use crate::letting_go::let_go_anywhere;
 use crate::piece::{Piece, piece_of};
 use crate::refused::no_refusal;
-use crate::rules_answers::{
-    Form, RulesStanding, file_fault, file_read, form_fault, form_without_level,
-};
+use crate::rules_answers::{Form, RulesStanding, file_fault, file_read, form_fault, without_form};
 use crs_rules::canon_under;
 use crs_rules_file::RulesReader;
 use crs_value::Level;
@@ -29,44 +27,32 @@ pub fn no_rules(alloc: Global) -> HeldRules
 }
 
 /// Adds the rules of one more file.
+#[tactic(auto, unfolding(crate::specs::RulesCalls::IsFileRead))]
 pub fn with_file(held: HeldRules, text: &[u8]) -> (HeldRules, RulesStanding)
     ensures { IsFileRead text.now held result.0 result.1 }
 {
     let mut held = held;
-    let told = add_file(&mut held, text);
-    (held, told)
-}
-
-#[tactic(auto, unfolding(crate::specs::RulesCalls::IsFileRead))]
-fn add_file(held: &mut HeldRules, text: &[u8]) -> RulesStanding
-    ensures { IsFileRead text.now held.old held.new result }
-{
-    match held.reader.read(held.alloc, text) {
+    let told = match held.reader.read(held.alloc, text) {
         Ok(()) => {
             held.form = Vec::new(held.alloc);
             file_read()
         }
         Err(fault) => file_fault(fault),
-    }
+    };
+    (held, told)
 }
 
 /// Keeps the form of a text.
+#[tactic(auto, unfolding(crate::specs::RulesCalls::IsFormed))]
 pub fn formed(held: HeldRules, level: u32, text: &[u8]) -> (HeldRules, Form)
     ensures { IsFormed level text.now held result.0 result.1 }
 {
     let mut held = held;
-    let told = keep_form(&mut held, level, text);
+    let told = match level_numbered(level) {
+        Some(level) => keep_form_at(&mut held, level, text),
+        None => without_form(NO_LEVEL),
+    };
     (held, told)
-}
-
-#[tactic(auto, unfolding(crate::specs::RulesCalls::IsFormed))]
-fn keep_form(held: &mut HeldRules, level: u32, text: &[u8]) -> Form
-    ensures { IsFormed level text.now held.old held.new result }
-{
-    match level_numbered(level) {
-        Some(level) => keep_form_at(held, level, text),
-        None => form_without_level(),
-    }
 }
 
 #[tactic(auto, unfolding(crate::specs::RulesCalls::IsFormAt))]
