@@ -1,7 +1,7 @@
 //! Commands over texts in memory.
 use crs_desk::{
-    Level, Manner, RunFault, Sink, Source, Stream, run_canon, run_canon_lines, run_check,
-    run_check_lines, run_explain, run_explain_pair, run_same,
+    Level, Manner, RunFault, Sink, Source, Stream, Summary, run_canon, run_canon_lines, run_check,
+    run_check_lines, run_explain, run_explain_pair, run_group, run_same,
 };
 use std::alloc::Global;
 use std::io::Write;
@@ -15,7 +15,17 @@ pub enum Call<'t> {
     CheckLines(&'t [u8]),
     Explain(Manner, &'t [u8]),
     ExplainPair(Manner, &'t [u8], &'t [u8]),
+    Group(&'t [u8]),
     Same(&'t [u8], &'t [u8]),
+}
+
+/// What a command answers beside what it writes.
+#[derive(Clone, Copy)]
+pub enum Outcome {
+    /// Its status.
+    Status(u8),
+    /// What a catalogue has come to.
+    Groups(Summary),
 }
 
 impl Call<'_> {
@@ -30,9 +40,9 @@ impl Call<'_> {
         alloc: Global,
         level: Level,
         writer: W,
-    ) -> Result<u8, RunFault> {
+    ) -> Result<Outcome, RunFault> {
         let mut sink = Sink::new(writer);
-        match self {
+        let status = match self {
             Call::Canon(text) => run_canon(alloc, level, &mut Source::new(text), &mut sink),
             Call::CanonLines(text) => {
                 run_canon_lines(alloc, level, &mut Stream::new(text), &mut sink)
@@ -43,7 +53,12 @@ impl Call<'_> {
             Call::ExplainPair(how, a, b) => {
                 run_explain_pair(alloc, how, &[], level, a, b, &mut sink)
             }
+            Call::Group(text) => {
+                let groups = run_group(alloc, level, &mut Source::new(text), &mut sink);
+                return groups.map(Outcome::Groups);
+            }
             Call::Same(a, b) => run_same(alloc, level, a, b, &mut sink),
-        }
+        };
+        status.map(Outcome::Status)
     }
 }

@@ -1,5 +1,5 @@
 //! The runs of commands.
-use crate::calls::Call;
+use crate::calls::{Call, Outcome};
 use crate::streams::{Manner, Page, Pieces};
 use crs_desk::{
     Filling, Level, RunFault, Sink, Source, Stream, Summary, run_canon, run_canon_lines, run_check,
@@ -9,20 +9,11 @@ use crs_suite::{Answer, Row, split_line};
 use std::alloc::{AllocError, Global};
 use std::io::Read;
 
-// A command that reads its input.
-#[derive(Clone, Copy)]
-enum Command {
-    Canon,
-    CanonLines,
-    Check,
-    CheckLines,
-    Group,
-}
-
 /// A run of a command over an input that is read, and whose answer is written, in a manner.
 #[derive(Clone, Copy)]
 pub struct Run<'t> {
-    command: Command,
+    // one that reads its input
+    call: Call<'t>,
     level: Level,
     input: &'t [u8],
     pub manner: Manner,
@@ -42,25 +33,26 @@ impl<'t> Run<'t> {
     /// where a word says none.
     pub fn read(words: &str, row: &'t Row<'_>) -> Option<Run<'t>> {
         let (name, manner) = words.split_once(' ').unwrap_or((words, ""));
-        let command = match name {
-            "run_canon" => Command::Canon,
-            "run_canon_lines" => Command::CanonLines,
-            "run_check" => Command::Check,
-            "run_check_lines" => Command::CheckLines,
-            "run_group" => Command::Group,
+        let input = row.input.as_slice();
+        let call = match name {
+            "run_canon" => Call::Canon(input),
+            "run_canon_lines" => Call::CanonLines(input),
+            "run_check" => Call::Check(input),
+            "run_check_lines" => Call::CheckLines(input),
+            "run_group" => Call::Group(input),
             _ => return None,
         };
         Some(Run {
-            command,
+            call,
             level: row.level,
-            input: &row.input,
+            input,
             manner: Manner::read(manner)?,
         })
     }
 
     /// Whether each line is answered by itself.
     pub fn is_by_line(self) -> bool {
-        matches!(self.command, Command::CanonLines | Command::CheckLines)
+        self.call.is_by_line()
     }
 
     /// What the run does.
@@ -80,11 +72,11 @@ impl<'t> Run<'t> {
         let (alloc, level) = (out.alloc(), self.level);
         let mut stream = Stream::new(Pieces::new(self.input, self.manner));
         let mut sink = Sink::new(page);
-        let outcome = match self.command {
-            Command::CanonLines => run_canon_lines(alloc, level, &mut stream, &mut sink),
+        let status = match self.call {
+            Call::CanonLines(_) => run_canon_lines(alloc, level, &mut stream, &mut sink),
             _ => run_check_lines(alloc, &mut stream, &mut sink),
         };
-        put_outcome(out, &outcome);
+        put_outcome(out, &status.map(Outcome::Status));
         put_ended(out, stream.reads(), stream.failed(), sink.failed());
     }
 
@@ -92,11 +84,12 @@ impl<'t> Run<'t> {
         let (alloc, level) = (out.alloc(), self.level);
         let mut source = Source::new(Pieces::new(self.input, self.manner));
         let mut sink = Sink::new(page);
-        match self.command {
-            Command::Canon => put_outcome(out, &run_canon(alloc, level, &mut source, &mut sink)),
-            Command::Group => put_grouped(out, &run_group(alloc, level, &mut source, &mut sink)),
-            _ => put_outcome(out, &run_check(alloc, &mut source, &mut sink)),
-        }
+        let outcome = match self.call {
+            Call::Canon(_) => run_canon(alloc, level, &mut source, &mut sink).map(Outcome::Status),
+            Call::Group(_) => run_group(alloc, level, &mut source, &mut sink).map(Outcome::Groups),
+            _ => run_check(alloc, &mut source, &mut sink).map(Outcome::Status),
+        };
+        put_outcome(out, &outcome);
         put_ended(
             out,
             u64::from(source.reads()),
@@ -118,17 +111,10 @@ fn put_ended(out: &mut Answer, reads: u64, source_failed: bool, sink_failed: boo
 }
 
 /// How a run ended.
-pub fn put_outcome(out: &mut Answer, outcome: &Result<u8, RunFault>) {
+pub fn put_outcome(out: &mut Answer, outcome: &Result<Outcome, RunFault>) {
     match outcome {
-        Ok(status) => write!(out, "status {status}"),
-        Err(fault) => put_fault(out, fault),
-    }
-}
-
-/// How a run of `group` ended.
-pub fn put_grouped(out: &mut Answer, outcome: &Result<Summary, RunFault>) {
-    match outcome {
-        Ok(summary) => put_summary(out, *summary),
+        Ok(Outcome::Status(status)) => write!(out, "status {status}"),
+        Ok(Outcome::Groups(summary)) => put_summary(out, *summary),
         Err(fault) => put_fault(out, fault),
     }
 }

@@ -13,7 +13,6 @@ pub fn try_call(rt: &(impl Print + AllocGlobal), name: &str, parts: &[&[u8]]) ->
     let second = part_at(parts, 1);
     let call = match name {
         "Catalogue::add" => return catalogues::try_add(rt, parts),
-        "run_group" => return catalogues::try_run(rt, text),
         "request" => return commands::try_request(rt, parts),
         "run_canon" => Call::Canon(text),
         "run_canon_lines" => Call::CanonLines(text),
@@ -23,6 +22,7 @@ pub fn try_call(rt: &(impl Print + AllocGlobal), name: &str, parts: &[&[u8]]) ->
         "run_explain_objects" => Call::Explain(Manner::Objects, text),
         "run_explain_pair" => Call::ExplainPair(Manner::Lines, text, second),
         "run_explain_pair_objects" => Call::ExplainPair(Manner::Objects, text, second),
+        "run_group" => Call::Group(text),
         "run_same" => Call::Same(text, second),
         _ => return Err(unusable()),
     };

@@ -1,8 +1,6 @@
 //! Calls that make catalogues.
 use crate::catalogues::{put_all, put_placed};
-use crate::runs::{put_grouped, put_written};
-use crate::trials::commands::make_page;
-use crs_desk::{Level, Sink, Source, run_group};
+use crs_desk::Level;
 use crs_group::Catalogue;
 use crs_suite::{Answer, Trial, Turn, run_trial, unusable};
 use std::alloc::{AllocError, Global};
@@ -58,33 +56,4 @@ pub fn try_add(rt: &(impl Print + AllocGlobal), lines: &[&[u8]]) -> io::Result<(
         before,
     };
     run_trial(rt, &mut add)
-}
-
-// `run_group` of lines, into a vector that has room for what is written.
-#[derive(Drop)]
-struct Run<'t> {
-    text: &'t [u8],
-    written: Vec<u8>,
-}
-
-impl Trial for Run<'_> {
-    fn call<R: Print + AllocGlobal>(&mut self, turn: &mut Turn<'_, R>) -> io::Result<()> {
-        let mut source = Source::new(self.text);
-        let mut sink = Sink::new(&mut self.written);
-        let outcome = run_group(turn.alloc(), Level::Full, &mut source, &mut sink);
-        let out = turn.end()?;
-        put_grouped(out, &outcome);
-        put_written(out, &self.written);
-        Ok(())
-    }
-
-    fn is_kept(&self, _alloc: Global) -> Result<bool, AllocError> {
-        Ok(self.written.is_empty())
-    }
-}
-
-/// `run_group` of lines.
-pub fn try_run(rt: &(impl Print + AllocGlobal), text: &[u8]) -> io::Result<()> {
-    let written = make_page(rt.alloc())?;
-    run_trial(rt, &mut Run { text, written })
 }

@@ -33,14 +33,9 @@ impl Trial for Run<'_> {
     }
 }
 
-/// A vector for what is written, with room for it.
-pub fn make_page(alloc: Global) -> Result<Vec<u8>, AllocError> {
-    Vec::with_capacity(alloc, ROOM)
-}
-
 /// The run of a command over its text or texts.
 pub fn try_command(rt: &(impl Print + AllocGlobal), call: Call<'_>) -> io::Result<()> {
-    let written = make_page(rt.alloc())?;
+    let written = Vec::with_capacity(rt.alloc(), ROOM)?;
     run_trial(rt, &mut Run { call, written })
 }
 
