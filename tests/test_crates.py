@@ -14,5 +14,5 @@ MADE = ("Met", "TheLaws")
 def test_contracts_alone(crate: str) -> None:
     for path in (ROOT / "crates" / crate / "proofs").rglob("*.antt"):
         for owner, module in CITED.findall(path.read_text(encoding="utf-8")):
-            own = owner == crate or owner not in CRATES
-            assert own or module.rpartition(".")[2] in MADE, f"{path.relative_to(ROOT)} cites a lemma of {owner}: {module}"
+            another = owner != crate and owner in CRATES and module.rpartition(".")[2] not in MADE
+            assert not another, f"{path.relative_to(ROOT)} cites a lemma of {owner}: {module}"
