@@ -1,6 +1,6 @@
 //! Questions about the CRS of a text.
 use crate::canonical::{has_text, identifiers_of, set_is_same, set_is_written};
-use crate::values::{is_kind, is_text_of};
+use crate::values::{is_text_of, kind_word};
 use crs_suite::{AboutCrs, about_crs};
 use crs_value::Crs;
 use std::alloc::Global;
@@ -25,7 +25,7 @@ impl AboutCrs for Asked<'_> {
 
     fn answer(self, alloc: Global, crs: &Crs<'_>) -> bool {
         match self {
-            Asked::Kind(name) => is_kind(crs.kind(), name),
+            Asked::Kind(name) => kind_word(crs.kind()) == name,
             Asked::Written(text) => is_text_of(alloc, crs, text),
             Asked::Canonical(text) => has_text(alloc, text, crs),
             Asked::SameSet => set_is_same(identifiers_of(crs)),

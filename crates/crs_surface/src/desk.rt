@@ -63,30 +63,24 @@ fn is_refused(alloc: Global) -> bool {
     asks(alloc, &["crsdesk", "frob"], "none", &[]) && !is_line(&RequestFault::Memory(AllocError))
 }
 
-// What is claimed of a value.
-trait Claim<T> {
-    fn holds(self, of: &T) -> bool;
+// What the words of a line ask for, or why they ask for nothing.
+trait Asked {
+    // Whether it is a command with these words, or the command `none`, where the line is wrong.
+    fn is(&self, command: &str, words: &[&str]) -> bool;
+}
+
+impl Asked for Result<Request, RequestFault> {
+    fn is(&self, command: &str, words: &[&str]) -> bool {
+        match self {
+            Ok(asked) => is_request(asked, command, words),
+            Err(fault) => command == "none" && is_line(fault),
+        }
+    }
 }
 
 // It alone owns a request, whose type it doesn't know: a function that owns one is slow to prove.
-fn is_so<T: Drop, C: Claim<T>>(of: T, claim: C) -> bool {
-    claim.holds(&of)
-}
-
-// A command with these words is asked for, or the command `none`, where the line is wrong.
-#[derive(Clone, Copy)]
-struct AskedFor<'w> {
-    command: &'w str,
-    words: &'w [&'w str],
-}
-
-impl Claim<Result<Request, RequestFault>> for AskedFor<'_> {
-    fn holds(self, of: &Result<Request, RequestFault>) -> bool {
-        match of {
-            Ok(asked) => is_request(asked, self.command, self.words),
-            Err(fault) => self.command == "none" && is_line(fault),
-        }
-    }
+fn is_asked<T: Asked + Drop>(asked: T, command: &str, words: &[&str]) -> bool {
+    asked.is(command, words)
 }
 
 fn is_line(fault: &RequestFault) -> bool {
@@ -101,8 +95,8 @@ fn is_of_clap(_error: &clap::Error) -> bool {
 }
 
 // Whether a command line asks for a command with these words.
-fn asks<'w>(alloc: Global, line: &[&str], command: &'w str, words: &'w [&'w str]) -> bool {
-    is_so(request(alloc, line), AskedFor { command, words })
+fn asks(alloc: Global, line: &[&str], command: &str, words: &[&str]) -> bool {
+    is_asked(request(alloc, line), command, words)
 }
 
 // The last nine variants are additions.

@@ -8,10 +8,10 @@ mod faults;
 mod key;
 mod pieces;
 
+use crate::values::kind_word;
 use bstr::ByteSlice;
 use crs_canon::Canon;
 use crs_text::Fault;
-use crs_value::Kind;
 use indexmap::IndexMap;
 use std::alloc::Global;
 use std::io;
@@ -75,18 +75,8 @@ fn print_kinds(rt: &(impl Print + AllocGlobal), lines: &[&[u8]]) -> io::Result<(
 
 fn kind_told(alloc: Global, line: &[u8]) -> io::Result<String> {
     match pieces::kind_in_pieces(alloc, line) {
-        Ok(kind) => Ok(String::from_str(alloc, word_of(kind))?),
+        Ok(kind) => Ok(String::from_str(alloc, kind_word(kind))?),
         Err(fault) => Ok(faults::told(alloc, line, &fault)?),
-    }
-}
-
-fn word_of(kind: Kind) -> &'static str {
-    match kind {
-        Kind::Geodetic => "geodetic",
-        Kind::Geographic => "geographic",
-        Kind::Projected => "projected",
-        Kind::Vertical => "vertical",
-        Kind::Compound => "compound",
     }
 }
 

@@ -12,7 +12,7 @@ pub fn check(alloc: Global, tally: &mut Tally, texts: Texts<'_>) {
     tally.count("crs_shape::Slot", has_slot());
     tally.count("crs_shape::class_of", has_class());
     tally.count("crs_shape::root_class", has_root_class());
-    tally.count("crs_shape::known", is_known());
+    tally.count("crs_shape::known", known(b"DATUM") && !known(b"BOUNDCRS"));
     let text = texts.named("height");
     tally.count("crs_shape::fit", fits(alloc, text));
     tally.count("crs_shape::fit_root", fits_root(alloc, text));
@@ -100,10 +100,6 @@ fn has_class() -> bool {
 
 fn has_root_class() -> bool {
     root_class(b"VERTICALCRS") == Some(Class::VerticalCrs) && root_class(b"DATUM").is_none()
-}
-
-fn is_known() -> bool {
-    known(b"DATUM") && !known(b"BOUNDCRS")
 }
 
 fn fits(alloc: Global, text: &[u8]) -> bool {

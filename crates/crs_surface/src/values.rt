@@ -33,7 +33,10 @@ pub fn check(alloc: Global, tally: &mut Tally, texts: Texts<'_>) {
 }
 
 fn check_words(tally: &mut Tally) {
-    tally.count("crs_value::Level", has_levels());
+    tally.count(
+        "crs_value::Level",
+        is_whole(Level::Full) && !is_whole(Level::Definition),
+    );
     tally.count("crs_value::SystemType", has_types());
     tally.count("crs_value::Direction", has_directions());
 }
@@ -56,7 +59,7 @@ fn has_value(alloc: Global, texts: Texts<'_>) -> bool {
 }
 
 fn is_vertical(alloc: Global, items: &Items<'_>) -> bool {
-    matches!(kind_in(value_of(alloc, items)), Ok(kind) if is_kind(kind, "vertical"))
+    matches!(kind_in(value_of(alloc, items)), Ok(kind) if kind_word(kind) == "vertical")
 }
 
 // It alone owns a CRS here: a function that owns one is slow to prove.
@@ -74,19 +77,15 @@ fn has_kinds(alloc: Global, texts: Texts<'_>) -> bool {
         && holds(alloc, texts.named("compound"), Asked::Kind("compound"))
 }
 
-/// Whether a kind has this name.
-pub fn is_kind(kind: Kind, name: &str) -> bool {
+/// The name of a kind.
+pub fn kind_word(kind: Kind) -> &'static str {
     match kind {
-        Kind::Geodetic => name == "geodetic",
-        Kind::Geographic => name == "geographic",
-        Kind::Projected => name == "projected",
-        Kind::Vertical => name == "vertical",
-        Kind::Compound => name == "compound",
+        Kind::Geodetic => "geodetic",
+        Kind::Geographic => "geographic",
+        Kind::Projected => "projected",
+        Kind::Vertical => "vertical",
+        Kind::Compound => "compound",
     }
-}
-
-fn has_levels() -> bool {
-    is_whole(Level::Full) && !is_whole(Level::Definition)
 }
 
 fn is_whole(level: Level) -> bool {

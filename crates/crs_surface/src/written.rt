@@ -1,27 +1,27 @@
 //! Values taken apart, field by field, and written as they stood in a text without white space, with first keywords and
 //! plain numbers.
 
-// Takes a value apart by a pattern of all its fields, and writes each in the way that is named behind it.
+// Takes a value apart by a pattern of all its fields, and puts each, in the way that is named behind it where one is.
 macro_rules! put_fields {
-    ($value:ident, $out:ident => $kind:ident { $($field:ident: $how:ident $(($word:literal))?,)+ }) => {
+    ($value:ident, $out:ident => $kind:ident { $($field:ident $(: $how:ident $(($word:literal))?)?),+ }) => {
         let $kind { $($field),+ } = $value;
-        $(put_field!($out, $field, $how $(($word))?);)+
+        $(put_field!($out, $field $(, $how $(($word))?)?);)+
     };
 }
 
 // The same as a node with this keyword, which may depend on a field.
 macro_rules! put_node {
-    ($value:ident, $out:ident, $keyword:expr => $kind:ident { $($field:ident: $how:ident $(($word:literal))?,)+ }) => {
+    ($value:ident, $out:ident, $keyword:expr => $kind:ident { $($field:ident $(: $how:ident $(($word:literal))?)?),+ }) => {
         let $kind { $($field),+ } = $value;
         $out.open($keyword);
-        $(put_field!($out, $field, $how $(($word))?);)+
+        $(put_field!($out, $field $(, $how $(($word))?)?);)+
         $out.close();
     };
 }
 
 macro_rules! put_field {
+    ($out:ident, $field:ident) => { $field.put($out) };
     ($out:ident, $field:ident, in_keyword) => {};
-    ($out:ident, $field:ident, put) => { $field.put($out) };
     ($out:ident, $field:ident, $how:ident) => { $out.$how($field) };
     ($out:ident, $field:ident, $how:ident ($word:literal)) => { $out.$how($word, $field) };
 }
@@ -91,18 +91,6 @@ impl Text {
         self.append(word);
     }
 
-    fn quoted(&mut self, text: &[u8]) {
-        self.word(b"\"");
-        self.append(text);
-        self.append(b"\"");
-    }
-
-    fn number(&mut self, number: &Decimal) {
-        self.begin_part();
-        let appended = number.write(&mut self.bytes);
-        self.note(appended);
-    }
-
     // A node's keyword and its bracket.
     fn open(&mut self, keyword: &str) {
         self.word(keyword.as_bytes());
@@ -115,43 +103,56 @@ impl Text {
         self.is_first = false;
     }
 
-    // A node that holds a text, where there is one.
-    fn text(&mut self, keyword: &str, text: &Option<&[u8]>) {
-        if let Some(text) = text {
-            self.open(keyword);
-            self.quoted(text);
-            self.close();
-        }
-    }
-
-    // A node that holds a number.
-    fn numbered(&mut self, keyword: &str, number: &Decimal) {
+    // A node that holds this alone.
+    fn node<T: Written>(&mut self, keyword: &str, part: &T) {
         self.open(keyword);
-        self.number(number);
+        part.put(self);
         self.close();
     }
 
-    fn optional_number(&mut self, keyword: &str, number: &Option<Decimal>) {
-        if let Some(number) = number {
-            self.numbered(keyword, number);
-        }
-    }
-
-    fn each<T: Written>(&mut self, list: &List<T>) {
-        let members: &[T] = list.as_slice();
-        for member in members {
-            member.put(self);
-        }
-    }
-
-    fn optional<T: Written>(&mut self, part: &Option<T>) {
+    // The same, where there is something to hold.
+    fn optional_node<T: Written>(&mut self, keyword: &str, part: &Option<T>) {
         if let Some(part) = part {
-            part.put(self);
+            self.node(keyword, part);
         }
     }
 
     // A part that is of its own type, and in no box.
     fn part<T: Written>(&mut self, part: &T) {
         part.put(self);
+    }
+}
+
+// A text, in quotes.
+impl Written for &[u8] {
+    fn put(&self, out: &mut Text) {
+        out.word(b"\"");
+        out.append(self);
+        out.append(b"\"");
+    }
+}
+
+impl Written for Decimal {
+    fn put(&self, out: &mut Text) {
+        out.begin_part();
+        let appended = self.write(&mut out.bytes);
+        out.note(appended);
+    }
+}
+
+impl<T: Written> Written for List<T> {
+    fn put(&self, out: &mut Text) {
+        let members: &[T] = self.as_slice();
+        for member in members {
+            member.put(out);
+        }
+    }
+}
+
+impl<T: Written> Written for Option<T> {
+    fn put(&self, out: &mut Text) {
+        if let Some(part) = self {
+            part.put(out);
+        }
     }
 }

@@ -8,15 +8,15 @@ use crs_same::parts::{
     same_method, same_parameter, same_projected, same_unit, same_usage, same_vertical,
 };
 use crs_value::{
-    Axis, Base, Compound, Conversion, Datum, Dynamic, Ensemble, Frame, Geodetic, Horizontal, Level,
-    Method, Parameter, Projected, Usage, Vertical,
+    Base, Compound, Conversion, Dynamic, Frame, Geodetic, Horizontal, Level, Method, Projected,
+    Usage, Vertical,
 };
 use std::alloc::Global;
 
 // What was found, and the answers of a node's two items: the call that compares nodes of its kind, and what its type
 // implements.
 macro_rules! node {
-    ($found:ident, $alloc:ident, $same:ident, $node:ident) => {
+    ($found:ident, $alloc:ident, $same:ident, $node:expr) => {
         $found.node($same($node, $node, Level::Full), is_own($alloc, $node))
     };
 }
@@ -45,13 +45,9 @@ fn walk_base(found: Found, alloc: Global, base: &Base<'_>) -> Found {
 
 fn walk_frame(found: Found, alloc: Global, frame: &Frame<'_>) -> Found {
     let found = node!(found, alloc, same_frame, frame);
-    match frame {
-        Frame::Datum(datum) => walk_datum(found, alloc, datum),
-        Frame::Ensemble(_) => found,
-    }
-}
-
-fn walk_datum(found: Found, alloc: Global, datum: &Datum<'_>) -> Found {
+    let Frame::Datum(datum) = frame else {
+        return found;
+    };
     let found = node!(found, alloc, same_datum, datum);
     optional_node!(found, alloc, same_ellipsoid, &datum.ellipsoid)
 }
@@ -59,10 +55,11 @@ fn walk_datum(found: Found, alloc: Global, datum: &Datum<'_>) -> Found {
 fn walk_conversion(found: Found, alloc: Global, conversion: &Conversion<'_>) -> Found {
     let found = node!(found, alloc, same_conversion, conversion);
     let found = walk_method(found, alloc, &conversion.method);
-    match conversion.parameters.as_slice() {
-        [parameter, ..] => walk_parameter(found, alloc, parameter),
-        [] => found,
-    }
+    let [parameter, ..] = conversion.parameters.as_slice() else {
+        return found;
+    };
+    let found = node!(found, alloc, same_parameter, parameter);
+    optional_node!(found, alloc, same_unit, &parameter.unit)
 }
 
 fn walk_method(found: Found, alloc: Global, method: &Method<'_>) -> Found {
@@ -71,19 +68,10 @@ fn walk_method(found: Found, alloc: Global, method: &Method<'_>) -> Found {
     optional_node!(found, alloc, same_ident, first)
 }
 
-fn walk_parameter(found: Found, alloc: Global, parameter: &Parameter<'_>) -> Found {
-    let found = node!(found, alloc, same_parameter, parameter);
-    optional_node!(found, alloc, same_unit, &parameter.unit)
-}
-
 pub fn walk_polar(found: Found, alloc: Global, crs: &Projected<'_>) -> Found {
-    match crs.system.axes.as_slice() {
-        [axis, ..] => walk_axis(found, alloc, axis),
-        [] => found,
-    }
-}
-
-fn walk_axis(found: Found, alloc: Global, axis: &Axis<'_>) -> Found {
+    let [axis, ..] = crs.system.axes.as_slice() else {
+        return found;
+    };
     let found = node!(found, alloc, same_axis, axis);
     optional_node!(found, alloc, same_axis_meridian, &axis.meridian)
 }
@@ -94,21 +82,17 @@ pub fn walk_geodetic(found: Found, alloc: Global, crs: &Geodetic<'_>) -> Found {
         [usage, ..] => walk_usage(found, alloc, usage),
         [] => found,
     };
-    match &crs.frame {
-        Frame::Datum(_) => found,
-        Frame::Ensemble(ensemble) => walk_ensemble(found, alloc, ensemble),
-    }
+    let Frame::Ensemble(ensemble) = &crs.frame else {
+        return found;
+    };
+    let found = node!(found, alloc, same_ensemble, ensemble);
+    let first = ensemble.members.as_slice().first();
+    optional_node!(found, alloc, same_member, first)
 }
 
 fn walk_usage(found: Found, alloc: Global, usage: &Usage<'_>) -> Found {
     let found = node!(found, alloc, same_usage, usage);
     optional_node!(found, alloc, same_box, &usage.bbox)
-}
-
-fn walk_ensemble(found: Found, alloc: Global, ensemble: &Ensemble<'_>) -> Found {
-    let found = node!(found, alloc, same_ensemble, ensemble);
-    let first = ensemble.members.as_slice().first();
-    optional_node!(found, alloc, same_member, first)
 }
 
 pub fn walk_compound(found: Found, alloc: Global, crs: &Compound<'_>) -> Found {
@@ -133,7 +117,7 @@ pub fn walk_vertical(found: Found, alloc: Global, crs: &Vertical<'_>) -> Found {
         None => found,
     };
     match crs.tail.usages.as_slice() {
-        [usage, ..] => walk_extent(found, alloc, usage),
+        [usage, ..] => optional_node!(found, alloc, same_extent, &usage.extent),
         [] => found,
     }
 }
@@ -141,8 +125,4 @@ pub fn walk_vertical(found: Found, alloc: Global, crs: &Vertical<'_>) -> Found {
 fn walk_dynamic(found: Found, alloc: Global, dynamic: &Dynamic<'_>) -> Found {
     let found = node!(found, alloc, same_dynamic, dynamic);
     optional_node!(found, alloc, same_deformation_model, &dynamic.model)
-}
-
-fn walk_extent(found: Found, alloc: Global, usage: &Usage<'_>) -> Found {
-    optional_node!(found, alloc, same_extent, &usage.extent)
 }

@@ -16,12 +16,7 @@ impl Written for Crs<'_> {
 impl Written for Geodetic<'_> {
     fn put(&self, out: &mut Text) {
         put_node!(self, out, geodetic_keyword(system.system_type) => Geodetic {
-            name: quoted,
-            dynamic: optional,
-            frame: put,
-            meridian: optional,
-            system: put,
-            tail: put,
+            name, dynamic, frame, meridian, system, tail
         });
     }
 }
@@ -35,25 +30,14 @@ fn geodetic_keyword(system_type: SystemType) -> &'static str {
 
 impl Written for Projected<'_> {
     fn put(&self, out: &mut Text) {
-        put_node!(self, out, "PROJCRS" => Projected {
-            name: quoted,
-            base: put,
-            conversion: put,
-            system: put,
-            tail: put,
-        });
+        put_node!(self, out, "PROJCRS" => Projected { name, base, conversion, system, tail });
     }
 }
 
 impl Written for Base<'_> {
     fn put(&self, out: &mut Text) {
         put_node!(self, out, "BASEGEOGCRS" => Base {
-            name: quoted,
-            dynamic: optional,
-            frame: put,
-            meridian: optional,
-            unit: optional,
-            identifiers: each,
+            name, dynamic, frame, meridian, unit, identifiers
         });
     }
 }
@@ -61,24 +45,14 @@ impl Written for Base<'_> {
 impl Written for Vertical<'_> {
     fn put(&self, out: &mut Text) {
         put_node!(self, out, "VERTCRS" => Vertical {
-            name: quoted,
-            dynamic: optional,
-            frame: put,
-            system: put,
-            geoid_models: each,
-            tail: put,
+            name, dynamic, frame, system, geoid_models, tail
         });
     }
 }
 
 impl Written for Compound<'_> {
     fn put(&self, out: &mut Text) {
-        put_node!(self, out, "COMPOUNDCRS" => Compound {
-            name: quoted,
-            horizontal: part,
-            vertical: put,
-            tail: put,
-        });
+        put_node!(self, out, "COMPOUNDCRS" => Compound { name, horizontal: part, vertical, tail });
     }
 }
 

@@ -14,11 +14,8 @@ impl Written for Frame<'_> {
 impl Written for Datum<'_> {
     fn put(&self, out: &mut Text) {
         put_node!(self, out, datum_keyword(ellipsoid) => Datum {
-            name: quoted,
-            ellipsoid: optional,
-            anchor: text("ANCHOR"),
-            anchor_epoch: optional_number("ANCHOREPOCH"),
-            identifiers: each,
+            name, ellipsoid, anchor: optional_node("ANCHOR"),
+            anchor_epoch: optional_node("ANCHOREPOCH"), identifiers
         });
     }
 }
@@ -33,61 +30,39 @@ fn datum_keyword(ellipsoid: &Option<Ellipsoid<'_>>) -> &'static str {
 impl Written for Ensemble<'_> {
     fn put(&self, out: &mut Text) {
         put_node!(self, out, "ENSEMBLE" => Ensemble {
-            name: quoted,
-            members: each,
-            ellipsoid: optional,
-            accuracy: numbered("ENSEMBLEACCURACY"),
-            identifiers: each,
+            name, members, ellipsoid, accuracy: node("ENSEMBLEACCURACY"), identifiers
         });
     }
 }
 
 impl Written for Member<'_> {
     fn put(&self, out: &mut Text) {
-        put_node!(self, out, "MEMBER" => Member {
-            name: quoted,
-            identifiers: each,
-        });
+        put_node!(self, out, "MEMBER" => Member { name, identifiers });
     }
 }
 
 impl Written for Ellipsoid<'_> {
     fn put(&self, out: &mut Text) {
         put_node!(self, out, "ELLIPSOID" => Ellipsoid {
-            name: quoted,
-            semi_major_axis: number,
-            inverse_flattening: number,
-            unit: optional,
-            identifiers: each,
+            name, semi_major_axis, inverse_flattening, unit, identifiers
         });
     }
 }
 
 impl Written for Meridian<'_> {
     fn put(&self, out: &mut Text) {
-        put_node!(self, out, "PRIMEM" => Meridian {
-            name: quoted,
-            longitude: number,
-            unit: optional,
-            identifiers: each,
-        });
+        put_node!(self, out, "PRIMEM" => Meridian { name, longitude, unit, identifiers });
     }
 }
 
 impl Written for Dynamic<'_> {
     fn put(&self, out: &mut Text) {
-        put_node!(self, out, "DYNAMIC" => Dynamic {
-            epoch: numbered("FRAMEEPOCH"),
-            model: optional,
-        });
+        put_node!(self, out, "DYNAMIC" => Dynamic { epoch: node("FRAMEEPOCH"), model });
     }
 }
 
 impl Written for DeformationModel<'_> {
     fn put(&self, out: &mut Text) {
-        put_node!(self, out, "MODEL" => DeformationModel {
-            name: quoted,
-            identifiers: each,
-        });
+        put_node!(self, out, "MODEL" => DeformationModel { name, identifiers });
     }
 }

@@ -12,56 +12,47 @@ impl Written for System<'_> {
             unit,
         } = self;
         out.open("CS");
-        put_type(out, *system_type);
-        out.number(dimension);
-        out.each(identifiers);
+        system_type.put(out);
+        dimension.put(out);
+        identifiers.put(out);
         out.close();
-        out.each(axes);
-        out.optional(unit);
+        axes.put(out);
+        unit.put(out);
     }
 }
 
-fn put_type(out: &mut Text, system_type: SystemType) {
-    let word: &'static str = system_type.word();
-    out.word(word.as_bytes());
+impl Written for SystemType {
+    fn put(&self, out: &mut Text) {
+        let word: &'static str = self.word();
+        out.word(word.as_bytes());
+    }
 }
 
 impl Written for Axis<'_> {
     fn put(&self, out: &mut Text) {
         put_node!(self, out, "AXIS" => Axis {
-            name: quoted,
-            direction: direction,
-            meridian: optional,
-            order: optional_number("ORDER"),
-            unit: optional,
-            identifiers: each,
+            name, direction, meridian, order: optional_node("ORDER"), unit, identifiers
         });
     }
 }
 
-impl Text {
-    fn direction(&mut self, direction: &Direction) {
-        let word: &'static str = direction.word();
-        self.word(word.as_bytes());
+impl Written for Direction {
+    fn put(&self, out: &mut Text) {
+        let word: &'static str = self.word();
+        out.word(word.as_bytes());
     }
 }
 
 impl Written for AxisMeridian<'_> {
     fn put(&self, out: &mut Text) {
-        put_node!(self, out, "MERIDIAN" => AxisMeridian {
-            longitude: number,
-            unit: put,
-        });
+        put_node!(self, out, "MERIDIAN" => AxisMeridian { longitude, unit });
     }
 }
 
 impl Written for Unit<'_> {
     fn put(&self, out: &mut Text) {
         put_node!(self, out, unit_keyword(*kind) => Unit {
-            kind: in_keyword,
-            name: quoted,
-            factor: number,
-            identifiers: each,
+            kind: in_keyword, name, factor, identifiers
         });
     }
 }

@@ -5,10 +5,7 @@ use crs_value::{BoundingBox, Extent, GeoidModel, Ident, Tail, Usage};
 impl Written for Tail<'_> {
     fn put(&self, out: &mut Text) {
         put_fields!(self, out => Tail {
-            bare_parts: bare_parts,
-            usages: each,
-            identifiers: each,
-            remark: text("REMARK"),
+            bare_parts: bare_parts, usages, identifiers, remark: optional_node("REMARK")
         });
     }
 }
@@ -23,42 +20,27 @@ impl Written for Usage<'_> {
 
 impl Written for BoundingBox {
     fn put(&self, out: &mut Text) {
-        put_node!(self, out, "BBOX" => BoundingBox {
-            south: number,
-            west: number,
-            north: number,
-            east: number,
-        });
+        put_node!(self, out, "BBOX" => BoundingBox { south, west, north, east });
     }
 }
 
 impl Written for Extent<'_> {
     fn put(&self, out: &mut Text) {
-        put_node!(self, out, "VERTICALEXTENT" => Extent {
-            minimum: number,
-            maximum: number,
-            unit: optional,
-        });
+        put_node!(self, out, "VERTICALEXTENT" => Extent { minimum, maximum, unit });
     }
 }
 
 impl Written for GeoidModel<'_> {
     fn put(&self, out: &mut Text) {
-        put_node!(self, out, "GEOIDMODEL" => GeoidModel {
-            name: quoted,
-            identifiers: each,
-        });
+        put_node!(self, out, "GEOIDMODEL" => GeoidModel { name, identifiers });
     }
 }
 
 impl Written for Ident<'_> {
     fn put(&self, out: &mut Text) {
         put_node!(self, out, "ID" => Ident {
-            authority: quoted,
-            code: code,
-            version: optional_code,
-            citation: text("CITATION"),
-            uri: text("URI"),
+            authority, code: code, version: optional_code, citation: optional_node("CITATION"),
+            uri: optional_node("URI")
         });
     }
 }
@@ -66,10 +48,7 @@ impl Written for Ident<'_> {
 impl Text {
     fn parts(&mut self, usage: &Usage<'_>) {
         put_fields!(usage, self => Usage {
-            scope: text("SCOPE"),
-            area: text("AREA"),
-            bbox: optional,
-            extent: optional,
+            scope: optional_node("SCOPE"), area: optional_node("AREA"), bbox, extent
         });
     }
 
@@ -84,7 +63,7 @@ impl Text {
         if code.iter().all(|byte| byte.is_ascii_digit()) {
             self.word(code);
         } else {
-            self.quoted(code);
+            code.put(self);
         }
     }
 
