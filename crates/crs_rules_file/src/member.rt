@@ -15,7 +15,6 @@ use crs_value::UnitKind;
 use std::marker::Model;
 
 // What a node of a `SAME` says: its class, its name and, if it is a unit, the factor; else zero.
-#[derive(Drop)]
 pub(crate) struct Member<'a> {
     pub(crate) class: Class,
     pub(crate) name: &'a [u8],
@@ -31,6 +30,16 @@ impl<'a> Model for Member<'a> {
     ghost view = { λ m. record { class = m.class; name = m.name.now; factor = m.factor } };
 
     ghost invariant = { λ m. IsMember (view m) };
+}
+
+impl Drop for Member<'_> {
+    fn drop(self) {
+        let Member {
+            class: _,
+            name: _,
+            factor: _,
+        } = self;
+    }
 }
 
 fn is_above_zero(number: &Decimal) -> bool
