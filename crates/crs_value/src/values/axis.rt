@@ -20,7 +20,6 @@ use std::marker::Model;
 
 /// An axis, `AXIS[name, direction, (meridian), (order), (unit), id..]`.
 /// ISO 19162:2019, "Axis".
-#[derive(Drop)]
 pub struct Axis<'a> {
     /// The name and abbreviation, unsplit.
     pub name: &'a [u8],
@@ -52,6 +51,19 @@ impl<'a> Model for Axis<'a> {
     } };
 
     ghost invariant = { λ a. IsAxis (view a) };
+}
+
+impl Drop for Axis<'_> {
+    fn drop(self) {
+        let Axis {
+            name: _,
+            direction: _,
+            meridian: _,
+            order: _,
+            unit: _,
+            identifiers: _,
+        } = self;
+    }
 }
 
 /// The meridian of an axis at a pole, `MERIDIAN[longitude, unit]`.

@@ -20,7 +20,6 @@ use std::marker::Model;
 
 /// A conversion, `CONVERSION[name, method, parameter.., id..]`: how projected coordinates come from
 /// those of the base CRS. ISO 19162:2019, "Map projection conversion".
-#[derive(Drop)]
 pub struct Conversion<'a> {
     /// The name.
     pub name: &'a [u8],
@@ -41,6 +40,17 @@ impl<'a> Model for Conversion<'a> {
     ghost view = { λ c. record { name = c.name.now; method = c.method; parameters = c.parameters; identifiers = c.identifiers } };
 
     ghost invariant = { λ c. IsConversion (view c) };
+}
+
+impl Drop for Conversion<'_> {
+    fn drop(self) {
+        let Conversion {
+            name: _,
+            method: _,
+            parameters: _,
+            identifiers: _,
+        } = self;
+    }
 }
 
 /// The method of a conversion, `METHOD[name, id..]`.

@@ -12,7 +12,6 @@ use std::alloc::{AllocError, Global};
 use std::marker::Model;
 
 /// What a dynamic frame says, `DYNAMIC[epoch, (model)]`. ISO 19162:2019, "Dynamic coordinate reference systems".
-#[derive(Drop)]
 pub struct Dynamic<'a> {
     /// The frame's epoch, in years: when the coordinates of its points hold.
     pub epoch: Decimal,
@@ -29,6 +28,12 @@ impl<'a> Model for Dynamic<'a> {
     ghost view = { λ d. record { epoch = d.epoch; model = d.model } };
 
     ghost invariant = { λ d. IsDynamic (view d) };
+}
+
+impl Drop for Dynamic<'_> {
+    fn drop(self) {
+        let Dynamic { epoch: _, model: _ } = self;
+    }
 }
 
 /// A deformation model, `MODEL[name, id..]`, or a velocity grid. ISO 19162:2019, "Deformation model".

@@ -56,7 +56,6 @@ impl<'a> Frame<'a> {
 
 /// A geodetic reference frame, `DATUM[name, ellipsoid, (anchor), (anchor epoch), id..]`, or a vertical one, which has
 /// no ellipsoid. ISO 19162:2019, "Datum"; the anchor's epoch: profile.
-#[derive(Drop)]
 pub struct Datum<'a> {
     /// The name.
     pub name: &'a [u8],
@@ -88,6 +87,18 @@ impl<'a> Model for Datum<'a> {
     ghost invariant = { λ d. IsDatum (view d) };
 }
 
+impl Drop for Datum<'_> {
+    fn drop(self) {
+        let Datum {
+            name: _,
+            ellipsoid: _,
+            anchor: _,
+            anchor_epoch: _,
+            identifiers: _,
+        } = self;
+    }
+}
+
 impl Datum<'_> {
     // A reference frame that says nothing. It takes no memory.
     fn nameless(alloc: Global) -> Datum<'static> {
@@ -103,7 +114,6 @@ impl Datum<'_> {
 
 /// A datum ensemble, `ENSEMBLE[name, member.., ellipsoid, accuracy, id..]`; one of vertical frames has
 /// no ellipsoid. ISO 19162:2019, "Datum ensemble".
-#[derive(Drop)]
 pub struct Ensemble<'a> {
     /// The name.
     pub name: &'a [u8],
@@ -132,6 +142,18 @@ impl<'a> Model for Ensemble<'a> {
     } };
 
     ghost invariant = { λ e. IsEnsemble (view e) };
+}
+
+impl Drop for Ensemble<'_> {
+    fn drop(self) {
+        let Ensemble {
+            name: _,
+            members: _,
+            ellipsoid: _,
+            accuracy: _,
+            identifiers: _,
+        } = self;
+    }
 }
 
 impl<'a> Ensemble<'a> {

@@ -14,7 +14,6 @@ use std::marker::Model;
 pub(crate) const FEW: usize = 32;
 
 /// A list in a value, seen as its members in order. Profile.
-#[derive(Drop)]
 pub struct List<T> {
     // The members; behind them, where some of many are repeated, each once.
     members: Vec<T>,
@@ -41,6 +40,15 @@ impl<T> Model for List<T> {
     ghost view = { λ a. front (λ lookup. lookup.value.count) a.lookup a.members.items };
 
     ghost invariant = { λ a. IfSome a.lookup (λ lookup. AreFollowedByOnce lookup.value.count a.members.items) };
+}
+
+impl<T: Drop> Drop for List<T> {
+    fn drop(self) {
+        let List {
+            members: _,
+            lookup: _,
+        } = self;
+    }
 }
 
 /// A change of values in place, the same for each. Profile.

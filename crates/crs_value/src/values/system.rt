@@ -24,7 +24,6 @@ use std::marker::Model;
 
 /// A coordinate system: `CS[type, dimension, id..]`, the axes beside it, and their shared unit.
 /// ISO 19162:2019, "Coordinate system".
-#[derive(Drop)]
 pub struct System<'a> {
     /// The type.
     pub system_type: SystemType,
@@ -53,6 +52,18 @@ impl<'a> Model for System<'a> {
     } };
 
     ghost invariant = { λ s. IsSystem (view s) };
+}
+
+impl Drop for System<'_> {
+    fn drop(self) {
+        let System {
+            system_type: _,
+            dimension: _,
+            identifiers: _,
+            axes: _,
+            unit: _,
+        } = self;
+    }
 }
 
 impl<'a> System<'a> {

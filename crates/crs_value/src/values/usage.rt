@@ -25,7 +25,6 @@ use std::marker::Model;
 
 /// A usage, `USAGE[(scope), (area), (box), (extent)]`, with one part at least; or the parts of one that are bare at a
 /// CRS's end, as in the 2015 edition. ISO 19162:2019, "Scope and extent".
-#[derive(Drop)]
 pub struct Usage<'a> {
     /// What the CRS is for.
     pub scope: Option<&'a [u8]>,
@@ -52,6 +51,17 @@ impl<'a> Model for Usage<'a> {
     } };
 
     ghost invariant = { λ u. IsUsage (view u) };
+}
+
+impl Drop for Usage<'_> {
+    fn drop(self) {
+        let Usage {
+            scope: _,
+            area: _,
+            bbox: _,
+            extent: _,
+        } = self;
+    }
 }
 
 /// A box, `BBOX[south, west, north, east]`, in degrees. ISO 19162:2019, "Geographic bounding box".
@@ -103,7 +113,6 @@ impl<'a> Model for Extent<'a> {
 
 /// A CRS's end: usages, the bare parts of one, identifiers and a remark, in any order.
 /// ISO 19162:2019, "Scope, extent, identifier and remark"; the order is the profile's.
-#[derive(Drop)]
 pub struct Tail<'a> {
     /// The usages, as written.
     pub usages: List<Usage<'a>>,
@@ -125,6 +134,17 @@ impl<'a> Model for Tail<'a> {
     ghost view = { λ t. record { usages = t.usages; bare_parts = t.bare_parts; identifiers = t.identifiers; remark = option_copied t.remark } };
 
     ghost invariant = { λ t. IsTail (view t) };
+}
+
+impl Drop for Tail<'_> {
+    fn drop(self) {
+        let Tail {
+            usages: _,
+            bare_parts: _,
+            identifiers: _,
+            remark: _,
+        } = self;
+    }
 }
 
 impl<'a> Node<'a> for BoundingBox {
