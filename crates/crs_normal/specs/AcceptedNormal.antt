@@ -1,7 +1,7 @@
 -- A bridge: what is shown of an item that was made: it is accepted and normal as one of its class.
 use Rattle.std.specs.Prelude.{◌≡◌, ◌⊎◌, ℕ, ◌≤◌}
 use Rattle.crs_text.specs.Items.{Item, depth, IsNode}
-use Rattle.crs_text.specs.Written.{AreFormed, at_place}
+use Rattle.crs_text.specs.Written.{AreFormed}
 use Rattle.crs_text.specs.Refusal.{RefusedAt}
 use Rattle.crs_shape.specs.declared.class.Class.{Class}
 use Rattle.crs_shape.specs.declared.class.Class.TheVariants as class
@@ -22,13 +22,6 @@ pub record IsAcceptedNormal (level : Level) (c : Class) (most : ℕ) (item : Ite
   pub shaped : Shaped c item
   pub unbroken : (fault : RefusedAt) → ¬ (Breaks c item fault)
   pub normal : (parent : Class) → IsNormalIn level parent c item
-
--- each value for which `Is` holds has a one form whose item is accepted and normal as one of this
--- class, at each level and wherever it is
-abbrev pub AreMade : {V : Type 0} → Class → ℕ → (V → Type 0) → (Level → V → V) → (V → Item) →
-    Type 0
-AreMade {V = V} c most Is norm item = (level : Level) (value : V) (place : ℕ) → Is value →
-    IsAcceptedNormal level c most (at_place place (item (norm level value)))
 
 -- a unit of this kind may be one of this class
 abbrev pub IsKindIn : Class → UnitKind → Type 0

@@ -5,18 +5,15 @@ pub mod CanonicalForm
 pub mod Closed
 pub mod CrsClass
 pub mod Decides
-pub mod DecimalLaws
 pub mod Examples
 pub mod FormedWithin
 pub mod LowerLaws
 pub mod Normal
 pub mod NormalOwn
-pub mod OneForm
 pub mod Ordered
 pub mod PartSpellings
 pub mod PartTexts
 pub mod Prelude
-pub mod ReadBack
 pub mod SpelledAs
 pub mod SpelledConversions
 pub mod SpelledCrs
@@ -26,6 +23,5 @@ pub mod SpelledItems
 pub mod SpelledSystems
 pub mod SpelledUnits
 pub mod SpelledUsages
-pub mod TextLaws
 pub mod WithoutPlaces
 pub mod WrittenForm

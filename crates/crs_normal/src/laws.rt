@@ -1,11 +1,8 @@
 //! Laws of the one form of values and of normal texts: calls that do nothing, and whose contracts are the laws.
 
 pub mod examples;
-mod made;
-mod normal;
+mod lower;
 pub mod numbers;
 pub mod parts;
-mod read;
 pub mod sets;
 pub mod texts;
-mod values;

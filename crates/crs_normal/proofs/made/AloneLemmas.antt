@@ -12,7 +12,7 @@ use Rattle.crs_value.specs.declared.values.level.Level.{Level}
 use Rattle.crs_matching.specs.Prelude.{kind_as}
 use Rattle.crs_normal.specs.AxisAlone.{AreNormalArguments, IsNormalArgument, IsNormalAxis}
 use Rattle.crs_normal.specs.AcceptedNormal.{IsKindIn}
-use Rattle.crs_normal.specs.DecimalLaws.{DecimalLaws}
+use Rattle.crs_normal.specs.LowerLaws.{LowerLaws}
 use Rattle.crs_normal.specs.Normal.{IsNormalIn}
 use Rattle.crs_normal.specs.Prelude.{norm_axis_alone, number_node, item_axis, item_axis_meridian, norm_axis_meridians, item_unit, norm_units}
 use Rattle.crs_normal.proofs.made.AxisLemmas.{axis-meridians-made, known-direction, order-argument, axis-names, direction-letters}
@@ -54,7 +54,7 @@ all-normal-alone level (More item items) h = (h.0, all-normal-alone level items 
 
 -- ---- its unit
 
-module _ (l : DecimalLaws) (level : Level) (u : UnitParts) (h : IsUnit u) where
+module _ (l : LowerLaws) (level : Level) (u : UnitParts) (h : IsUnit u) where
   -- `UNIT` is accepted as a unit of an axis
   plain-stands : (p : ℕ) → Stands (λ i. AreNormalBy (IsNormalIn level) class.AxisUnit (arguments i)) class.AxisUnit 3
       (at_place p (item_unit (unit_as level kinds.Plain u)))
@@ -85,14 +85,14 @@ module _ (l : DecimalLaws) (level : Level) (u : UnitParts) (h : IsUnit u) where
   unit-alone kinds.Scale n = absurd (n refl)
   unit-alone kinds.Plain n = plain-alone
 
-units-alone : DecimalLaws → (level : Level) (o : Option UnitParts) → IfSome o IsAxisUnit →
+units-alone : LowerLaws → (level : Level) (o : Option UnitParts) → IfSome o IsAxisUnit →
     IfSome (norm_units level kinds.Plain o) (λ u. MadeBy (AsArgument level) 4 class.Axis class.AxisUnit (item_unit u))
 units-alone l level None h = tt
 units-alone l level (Some u) h = unit-alone l level u h.0 u.kind h.1
 
 -- ---- the axis
 
-module _ (l : DecimalLaws) (level : Level) (x : AxisParts) (h : IsAxis x) where
+module _ (l : LowerLaws) (level : Level) (x : AxisParts) (h : IsAxis x) where
   abbrev alone_arguments : List (ArgumentBy (AsArgument level) 4 class.Axis)
   alone_arguments =
       as-alone (text-of x.name h.name) ∷ as-alone (one-of (word-made

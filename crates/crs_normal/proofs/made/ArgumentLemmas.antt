@@ -10,7 +10,7 @@ use Rattle.crs_value.specs.declared.values.level.Level.{Level}
 use Rattle.crs_value.specs.Prelude.{IsText, those, Own as BreaksOwn}
 use Rattle.crs_value.specs.Sound.{Each}
 use Rattle.crs_normal.specs.AcceptedNormal.{IsAcceptedNormal}
-use Rattle.crs_normal.specs.DecimalLaws.{DecimalLaws}
+use Rattle.crs_normal.specs.LowerLaws.{LowerLaws}
 use Rattle.crs_normal.specs.Normal.{IsFirstKeyword, IsNormalIn, AreNormalIn, IsNormalNode}
 use Rattle.crs_normal.specs.NormalOwn.{HasOwnForm, Rise, set_classes, Ascend}
 use Rattle.crs_normal.specs.Prelude.{each, node_of, number_item, number_node, opt, text_item, text_node, in_order}
@@ -105,7 +105,7 @@ module _ {level : Level} {most : ℕ} {parent : Class} where
   abbrev pub text-of : (raw : List ℕ) → IsText raw → Argument level most parent
   text-of raw h = one-of (text-made level most parent raw h)
 
-  abbrev pub number-of : DecimalLaws → (v : Value) → IsNormal v → Argument level most parent
+  abbrev pub number-of : LowerLaws → (v : Value) → IsNormal v → Argument level most parent
   number-of l v h = one-of (number-made l level most parent v h)
 
 -- ---- all arguments
@@ -238,7 +238,7 @@ module _ {level : Level} (of : Class) (keyword : List ℕ) (letters : IsWord key
   text-node-made slots raw h =
       single-made class.Text (text_item raw) (text-made level 0 of raw h) slots refl (λ level items runs k. k)
 
-  number-node-made : DecimalLaws → slots_of of ≡ one class.Number ∷ [] → (v : Value) → IsNormal v → (p : ℕ) →
+  number-node-made : LowerLaws → slots_of of ≡ one class.Number ∷ [] → (v : Value) → IsNormal v → (p : ℕ) →
       IsAcceptedNormal level of 1 (at_place p (number_node keyword v))
   number-node-made l slots v h =
       single-made class.Number (number_item v) (number-made l level 0 of v h) slots refl (λ level items runs k. k)
@@ -252,14 +252,14 @@ module _ {level : Level} (of : Class) (keyword : List ℕ) (letters : IsWord key
         Argument level most parent
     may-text slots o h = may-of of (text_node keyword) o (some-imp IsText _ (a-text slots) o h)
 
-    pub a-number : DecimalLaws → slots_of of ≡ one class.Number ∷ [] → (v : Value) → IsNormal v →
+    pub a-number : LowerLaws → slots_of of ≡ one class.Number ∷ [] → (v : Value) → IsNormal v →
         Made level most parent of (number_node keyword v)
     a-number l slots v h = as-argument deep named (number-node-made l slots v h)
 
-    abbrev pub may-number : DecimalLaws → slots_of of ≡ one class.Number ∷ [] → (o : Option Value) → IfSome o IsNormal →
+    abbrev pub may-number : LowerLaws → slots_of of ≡ one class.Number ∷ [] → (o : Option Value) → IfSome o IsNormal →
         Argument level most parent
     may-number l slots o h = may-of of (number_node keyword) o (some-imp IsNormal _ (a-number l slots) o h)
 
-    abbrev pub one-number : DecimalLaws → slots_of of ≡ one class.Number ∷ [] → (v : Value) → IsNormal v →
+    abbrev pub one-number : LowerLaws → slots_of of ≡ one class.Number ∷ [] → (v : Value) → IsNormal v →
         Argument level most parent
     one-number l slots v h = one-of (a-number l slots v h)

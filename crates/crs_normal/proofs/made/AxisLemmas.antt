@@ -13,7 +13,7 @@ use Rattle.crs_shape.specs.Prelude.{is_keyword, class_named, asked_kind, kind_by
 use Rattle.crs_value.specs.Prelude.{orders_in, units_in, UnknownDirection, AnyOf, those, IsAxis, IsAxisMeridian, IsUnitOf, AxisMeridianParts, AxisParts, SystemParts, UnitParts, Own as BreaksOwn}
 use Rattle.crs_value.specs.declared.values.level.Level.{Level}
 use Rattle.crs_matching.specs.Prelude.{own_or}
-use Rattle.crs_normal.specs.DecimalLaws.{DecimalLaws}
+use Rattle.crs_normal.specs.LowerLaws.{LowerLaws}
 use Rattle.crs_normal.specs.AcceptedNormal.{IsKindIn, IsAcceptedNormal}
 use Rattle.crs_normal.specs.Prelude.{number_node, word_item, each, opt, text_item, item_unit, norm_unit, whole_value, item_ident, norm_units, set_idents}
 use Rattle.crs_normal.specs.SpelledSystems.{item_axis, item_axis_meridian, norm_axis, norm_axis_meridian, norm_axis_meridians}
@@ -37,7 +37,7 @@ whole-normal (suc (suc (suc (suc k)))) h m = absurd (omega arith)
 
 -- ---- the meridian of an axis
 
-pub axis-meridian-made : DecimalLaws → (level : Level) (m : AxisMeridianParts) → IsAxisMeridian m → (p : ℕ) →
+pub axis-meridian-made : LowerLaws → (level : Level) (m : AxisMeridianParts) → IsAxisMeridian m → (p : ℕ) →
     IsAcceptedNormal level class.AxisMeridian 4 (at_place p (item_axis_meridian (norm_axis_meridian level m)))
 unfolding BreaksOwn class_named is_keyword
 axis-meridian-made l level m h =
@@ -45,7 +45,7 @@ axis-meridian-made l level m h =
     one-of (unit-argument l kinds.Angle m.unit (omega arith) refl refl h.unit) ∷ []) refl (refl, refl) refl refl refl (none-orderly level) (λ item s r. tt)
     (λ item fault s b. b)
 
-pub axis-meridians-made : DecimalLaws → (level : Level) (x : Option AxisMeridianParts) → IfSome x IsAxisMeridian →
+pub axis-meridians-made : LowerLaws → (level : Level) (x : Option AxisMeridianParts) → IfSome x IsAxisMeridian →
     IfSome (norm_axis_meridians level x) (λ m. Made level 4 class.Axis class.AxisMeridian (item_axis_meridian m))
 unfolding class_named is_keyword
 axis-meridians-made l level None h = tt
@@ -95,14 +95,14 @@ pub known-direction : (d : Direction) (words : List Item) (fault : RefusedAt) �
 known-direction d words fault h =
     none-of UnknownDirection words (word_item (direction_word d) ∷ []) fault h (λ p b. b.1 d refl, tt)
 
-pub order-argument : DecimalLaws → (level : Level) (v : Value) → IsNormal v →
+pub order-argument : LowerLaws → (level : Level) (v : Value) → IsNormal v →
     Made level 4 class.Axis class.Order (number_node (codes "ORDER") v)
 unfolding BreaksOwn class_named is_keyword
 order-argument l level v h =
     a-number class.Order (codes "ORDER") (refl, refl) refl refl (λ item. tt) (λ item fault b. b) refl (omega arith) l
     refl v h
 
-module _ (l : DecimalLaws) (level : Level) (t : SystemType) (shared : Option UnitParts) (k : ℕ) (x : AxisParts) (f : Fits t shared x) (low : 1 ≤ k) (high : k ≤ 3) where
+module _ (l : LowerLaws) (level : Level) (t : SystemType) (shared : Option UnitParts) (k : ℕ) (x : AxisParts) (f : Fits t shared x) (low : 1 ≤ k) (high : k ≤ 3) where
   abbrev kind-asked : UnitKind
   kind-asked = asked_kind t x.direction
 
@@ -120,7 +120,7 @@ module _ (l : DecimalLaws) (level : Level) (t : SystemType) (shared : Option Uni
   axis-laid : More (text_item x.name) (axis_others level kind-asked k x (own_or x.unit shared)) ≡ lay axis_arguments
   axis-laid = ap (λ w. More (text_item x.name) (axis_others level kind-asked k x w)) f.given_unit
 
-pub axis-made : DecimalLaws → (level : Level) (s : SystemParts) (k : ℕ) (x : AxisParts) →
+pub axis-made : LowerLaws → (level : Level) (s : SystemParts) (k : ℕ) (x : AxisParts) →
     Fits s.system_type s.unit x → 1 ≤ k → k ≤ 3 → (p : ℕ) →
     IsAcceptedNormal level class.Axis 5 (at_place p (item_axis (norm_axis level s k x)))
 unfolding BreaksOwn is_keyword norm_axis
@@ -140,7 +140,7 @@ pub record IsAxisItem (t : SystemType) (k : ℕ) (item : Item) : Type 0 where
   pub units : ArePlaced (units_in item) (item_unit unit_in ∷ [])
   pub kind : unit_in.kind ≡ asked_kind t direction_in
 
-pub axis-seen : DecimalLaws → (level : Level) (s : SystemParts) (k : ℕ) (x : AxisParts) →
+pub axis-seen : LowerLaws → (level : Level) (s : SystemParts) (k : ℕ) (x : AxisParts) →
     Fits s.system_type s.unit x → 1 ≤ k → k ≤ 3 → (p : ℕ) →
     IsAxisItem s.system_type k (at_place p (item_axis (norm_axis level s k x)))
 unfolding norm_axis

@@ -10,7 +10,7 @@ use Rattle.crs_shape.specs.Prelude.{class_named, IsOneOf}
 use Rattle.crs_value.specs.Prelude.{kept_one, those, IsSystem, SystemParts, TailParts}
 use Rattle.crs_value.specs.declared.values.level.Level.{Level}
 use Rattle.crs_value.specs.Sound.{Each}
-use Rattle.crs_normal.specs.DecimalLaws.{DecimalLaws}
+use Rattle.crs_normal.specs.LowerLaws.{LowerLaws}
 use Rattle.crs_normal.specs.Prelude.{axes_from, item_axis, item_head, norm_system, text_node}
 use Rattle.crs_normal.specs.NormalOwn.{Lacks, bare_classes}
 use Rattle.crs_normal.proofs.read.ViewLemmas.{each-so}
@@ -18,23 +18,19 @@ use Rattle.crs_normal.proofs.made.CheckLemmas.{IsSystemIn, IsSystemSeen}
 use Rattle.crs_normal.proofs.made.FrameLemmas.{given-once}
 use Rattle.crs_normal.proofs.made.NodeLemmas.{Made, Run, alone, items_in}
 use Rattle.crs_normal.proofs.made.PlaceLemmas.{ArePlaced}
-use Rattle.crs_normal.proofs.made.SystemLemmas.{HasEach, IsHeadItem, all-axes, axes-made, axes-seen, head-made, head-seen, IsFew}
+use Rattle.crs_normal.proofs.made.SystemLemmas.{IsHeadItem, all-axes, axes-made, axes-seen, head-made, head-seen, IsFew}
 use Rattle.crs_normal.proofs.made.TailLemmas.{NamesTail, IsTailSeen, tail_runs}
 use Rattle.crs_normal.proofs.made.ArgumentLemmas.{each-of, Argument, node-of}
 use Rattle.crs_normal.proofs.texts.SegmentLemmas.{placed-none}
 use Rattle.crs_normal.proofs.normal.DimensionLemmas.{few-axes}
 use Rattle.crs_normal.proofs.read.NameLemmas.{keyword-names}
 
--- each position of each system has an axis
-abbrev pub AxisEach : Type 0
-AxisEach = (s : SystemParts) → IsSystem s → HasEach s
-
-pub few-system : DecimalLaws → AxisEach → (dimensions : SystemType → List ℕ) →
+pub few-system : LowerLaws → (dimensions : SystemType → List ℕ) →
     ((t : SystemType) → Each (λ m. m ≤ 3) (dimensions t)) →
     (s : SystemParts) → IsSystem s → IsOneOf s.dimension (dimensions s.system_type) → IsFew s
-few-system l each_at dimensions small s h one = record {
+few-system l dimensions small s h one = record {
   system = h;
-  each_at = each_at s h;
+  each_at = l.some_axis s h;
   few = few-axes l.symmetric l.transitive s.dimension (length s.axes) (dimensions s.system_type) (small s.system_type) one h.count;
 }
 
@@ -65,14 +61,14 @@ projected-names = search keyword-names
 pub vertical-names : EndNames class.VerticalCrs
 vertical-names = search keyword-names
 
-pub axes-argument : DecimalLaws → (level : Level) (most : ℕ) (c : Class) (s : SystemParts) → 5 ≤ most →
+pub axes-argument : LowerLaws → (level : Level) (most : ℕ) (c : Class) (s : SystemParts) → 5 ≤ most →
     NamesSystem c → IsFew s →
     Each (Made level most c class.Axis) (axis_items level s)
 axes-argument l level most c s deep n h =
     let all = all-axes l level s h in
     axes-made l level s most c 1 (axes_from level s 1 (length s.axes)) deep n.axis all.0 (omega arith) (omega arith)
 
-pub axes-some : DecimalLaws → (level : Level) (s : SystemParts) → IsFew s → axis_items level s ≢ []
+pub axes-some : LowerLaws → (level : Level) (s : SystemParts) → IsFew s → axis_items level s ≢ []
 axes-some l level s h none =
     h.system.some (nil_from_length s.axes (sym (all-axes l level s h).1
     ∙ sym (length-map (axes_from level s 1 (length s.axes)) item_axis) ∙ ap length none))
@@ -80,7 +76,7 @@ axes-some l level s h none =
 pub three-of : (most : ℕ) → 5 ≤ most → 3 ≤ most
 three-of most deep = omega arith
 
-abbrev pub behind_arguments : DecimalLaws → (level : Level) (most : ℕ) (c : Class) (s : SystemParts)
+abbrev pub behind_arguments : LowerLaws → (level : Level) (most : ℕ) (c : Class) (s : SystemParts)
     (rest : List (Argument level most c)) → 5 ≤ most → NamesSystem c → IsFew s → List (Argument level most c)
 behind_arguments l level most c s rest deep n h =
     node-of (item_head (norm_system level s)) (three-of most deep) n.head
@@ -116,7 +112,7 @@ placed-length [] (j ∷ js) h = absurd h
 placed-length (x ∷ items) [] h = absurd h
 placed-length (x ∷ items) (j ∷ js) h = ap suc (placed-length items js h.1)
 
-system-of : DecimalLaws → (level : Level) (s : SystemParts) (systems axes units : List Item) → IsFew s →
+system-of : LowerLaws → (level : Level) (s : SystemParts) (systems axes units : List Item) → IsFew s →
     ArePlaced systems (item_head (norm_system level s) ∷ []) → ArePlaced axes (axis_items level s) → units ≡ [] →
     IsSystemSeen s.system_type s.dimension systems axes units
 system-of l level s [] axes units h p q none = absurd p
@@ -137,7 +133,7 @@ system-of l level s (x ∷ []) axes units h p q none =
       none_shared = none;
     }
 
-pub system-seen : DecimalLaws → (level : Level) (c : Class) (item : Item) (s : SystemParts) (t : TailParts) → IsFew s →
+pub system-seen : LowerLaws → (level : Level) (c : Class) (item : Item) (s : SystemParts) (t : TailParts) → IsFew s →
     Each (Shows c item (behind level s t)) crs_classes → IsSystemIn s c item
 system-seen l level c item s t h v =
     system-of l level s (those c class.CoordinateSystem (arguments item)) (those c class.Axis (arguments item))

@@ -11,7 +11,7 @@ use Rattle.crs_shape.specs.declared.system_type.SystemType.{SystemType}
 use Rattle.crs_shape.specs.Prelude.{IsOneOf, asked_kind, direction_word, system_word}
 use Rattle.crs_value.specs.Prelude.{BadOrder, BadOrders, IsBadOrder, IsPosition, LacksOrder, OneHas, ReadsOrder, orders_in, BadOwnUnit, Misfits, units_in, AnyOf, BadSystems, OfHead, ReadsFirst, those, SystemParts, ReadsDirection, ReadsKind, ReadsNumber, ReadsType}
 use Rattle.crs_value.specs.Sound.{Each}
-use Rattle.crs_normal.specs.DecimalLaws.{DecimalLaws}
+use Rattle.crs_normal.specs.LowerLaws.{LowerLaws}
 use Rattle.crs_normal.specs.NormalOwn.{AreOrdered, Has, HasAxes, numbers_in}
 use Rattle.crs_normal.specs.Prelude.{number_item, number_node, word_item, item_unit, whole_value}
 use Rattle.crs_normal.proofs.read.ViewLemmas.{each-so}
@@ -34,20 +34,20 @@ word-direction : (d v : Direction) (words : List Item) → ArePlaced words (word
 word-direction d v [] p r = absurd p
 word-direction d v (x ∷ words) p r = direction-one d v (subst (λ i. ReadsDirection i v) p.0.1 r)
 
-pub first-number : DecimalLaws → (v value : Value) (numbers : List Item) → IsNormal v →
+pub first-number : LowerLaws → (v value : Value) (numbers : List Item) → IsNormal v →
     ArePlaced numbers (number_item v ∷ []) →
     ReadsFirst ReadsNumber numbers value → value ≡ v
 first-number l v value [] n p r = absurd p
 first-number l v value (x ∷ numbers) n p r = reads-one l v value x p.0.0 n p.0.1 r
 
-order-number : DecimalLaws → (v value : Value) (order : Item) (p : ℕ) → IsNormal v →
+order-number : LowerLaws → (v value : Value) (order : Item) (p : ℕ) → IsNormal v →
     order ≡ at_place p (number_node (codes "ORDER") v) →
     ReadsOrder order value → value ≡ v
 order-number l v value order p n e r =
     first-number l v value (those class.Order class.Number (arguments (at_place p (number_node (codes "ORDER") v)))) n
     ((p + length (codes "ORDER") + 1, refl), tt) (subst (λ o. ReadsOrder o value) e r)
 
-first-order : DecimalLaws → (v value : Value) (orders : List Item) → IsNormal v →
+first-order : LowerLaws → (v value : Value) (orders : List Item) → IsNormal v →
     ArePlaced orders (number_node (codes "ORDER") v ∷ []) →
     ReadsFirst ReadsOrder orders value → value ≡ v
 first-order l v value [] n p r = absurd p
@@ -55,7 +55,7 @@ first-order l v value (o ∷ orders) n p r = order-number l v value o p.0.0 n p.
 
 -- ---- the node `CS`
 
-no-bad-head : DecimalLaws → (dimensions : SystemType →
+no-bad-head : LowerLaws → (dimensions : SystemType →
     List ℕ) (t : SystemType) (d : Value) (axes : List Item) (cs : Item) (fault : RefusedAt) →
     IsNormal d → IsHeadItem t d cs → IsOneOf d (dimensions t) → SameNumber (exact d) (whole_number (length axes)) →
     ¬ (OfHead dimensions axes cs fault)
@@ -94,7 +94,7 @@ and-this : (P : Item → Type 0) (items : List Item) (x : Item) → Each P items
 and-this P [] x h p = (p, tt)
 and-this P (y ∷ items) x h p = (h.0, and-this P items x h.1 p)
 
-none-has : DecimalLaws → (k : ℕ) (before : List Item) → k ≤ 3 → Each (IsBefore k) before →
+none-has : LowerLaws → (k : ℕ) (before : List Item) → k ≤ 3 → Each (IsBefore k) before →
     ¬ (OneHas (whole_value k) before)
 none-has l k [] high h b = b
 none-has l k (x ∷ before) high h (inl b) =
@@ -105,7 +105,7 @@ none-has l k (x ∷ before) high h (inl b) =
     absurd (omega arith)
 none-has l k (x ∷ before) high h (inr b) = none-has l k before high h.1 b
 
-no-wrong-order : DecimalLaws → (n k : ℕ) (before orders : List Item) (fault : RefusedAt) → 1 ≤ k → k ≤ n → n ≤ 3 →
+no-wrong-order : LowerLaws → (n k : ℕ) (before orders : List Item) (fault : RefusedAt) → 1 ≤ k → k ≤ n → n ≤ 3 →
     Each (IsBefore k) before →
     ArePlaced orders (number_node (codes "ORDER") (whole_value k) ∷ []) → ¬ (AnyOf (IsBadOrder n before) orders fault)
 no-wrong-order l n k before orders fault low high few h placed =
@@ -119,7 +119,7 @@ no-wrong-order l n k before orders fault low high few h placed =
       tt,
     )
 
-no-bad-orders : DecimalLaws → (t : SystemType) (n k : ℕ) (before axes : List Item) (fault : RefusedAt) →
+no-bad-orders : LowerLaws → (t : SystemType) (n k : ℕ) (before axes : List Item) (fault : RefusedAt) →
     AreAxisItems t k axes → Each (IsBefore k) before →
     1 ≤ k → k + length axes ≤ n + 1 → n ≤ 3 → ¬ (BadOrders n before axes fault)
 no-bad-orders l t n k before [] fault h g low high few b = b
@@ -131,7 +131,7 @@ no-bad-orders l t n k before (x ∷ axes) fault h g low high few (inr b) =
     (record { order = k; low = low; below = omega arith; orders = h.0.orders }))
     (omega arith) (omega arith) few b
 
-no-bad-order : DecimalLaws → (t : SystemType) (axes : List Item) (fault : RefusedAt) → AreAxisItems t 1 axes →
+no-bad-order : LowerLaws → (t : SystemType) (axes : List Item) (fault : RefusedAt) → AreAxisItems t 1 axes →
     length axes ≤ 3 → ¬ (BadOrder axes fault)
 no-bad-order l t axes fault h few (inl b) = none-lacks t 1 axes fault h b.1
 no-bad-order l t axes fault h few (inr b) = no-bad-orders l t (length axes) 1 [] axes fault h tt (omega arith)
@@ -183,7 +183,7 @@ IsSystemIn s c item =
     IsSystemSeen s.system_type s.dimension (those c class.CoordinateSystem (arguments item))
     (those c class.Axis (arguments item)) (those c class.AxisUnit (arguments item))
 
-pub no-bad-systems : DecimalLaws →
+pub no-bad-systems : LowerLaws →
     (dimensions : SystemType → List ℕ) (t : SystemType) (d : Value) (systems axes units : List Item) (fault : RefusedAt) →
     IsNormal d → IsOneOf d (dimensions t) → IsSystemSeen t d systems axes units →
     ¬ (BadSystems dimensions systems axes units fault)

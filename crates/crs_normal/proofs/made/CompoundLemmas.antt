@@ -13,12 +13,12 @@ use Rattle.crs_value.specs.declared.values.compound.Horizontal.{Horizontal}
 use Rattle.crs_value.specs.declared.values.compound.Horizontal.TheVariants as horizontal
 use Rattle.crs_value.specs.declared.values.level.Level.{Level}
 use Rattle.crs_value.specs.Sound.{Each}
-use Rattle.crs_normal.specs.DecimalLaws.{DecimalLaws}
+use Rattle.crs_normal.specs.LowerLaws.{LowerLaws}
 use Rattle.crs_normal.specs.CrsClass.{geodetic_class}
 use Rattle.crs_normal.specs.AcceptedNormal.{IsAcceptedNormal}
 use Rattle.crs_normal.specs.SpelledCrs.{geodetic_keyword, item_compound, item_geodetic, item_projected, item_vertical, norm_compound, norm_geodetic, norm_projected, norm_vertical}
 use Rattle.crs_normal.specs.Prelude.{node_of, text_item, norm_tail, tail_items}
-use Rattle.crs_normal.proofs.made.BehindLemmas.{AxisEach, Shows, tail-seen, tail_classes}
+use Rattle.crs_normal.proofs.made.BehindLemmas.{Shows, tail-seen, tail_classes}
 use Rattle.crs_normal.proofs.made.CheckLemmas.{first-number, word-type}
 use Rattle.crs_normal.proofs.made.GeodeticLemmas.{geodetic-made, geodetic-seen}
 use Rattle.crs_normal.proofs.made.NodeLemmas.{Made, Run, alone, as-argument, views, Sees, IsFree}
@@ -41,7 +41,7 @@ record IsSide (level : Level) (geographic : Bool) (j : Item) : Type 0 where
   fine : (p : ℕ) → ¬ (FirstIs (IsNotHorizontal (side_class geographic))
       (those (side_class geographic) class.CoordinateSystem (arguments (at_place p j))))
 
-is-plane : DecimalLaws → (t : SystemType) (d : Value) (cs : Item) → IsHeadItem t d cs → IsNormal d →
+is-plane : LowerLaws → (t : SystemType) (d : Value) (cs : Item) → IsHeadItem t d cs → IsNormal d →
     SameNumber (exact d) (whole_number 2) → ¬ (IsNotPlane cs)
 is-plane l t d cs h n same b =
     let f : b.0 ≡ d = first-number l d b.0 (those class.CoordinateSystem class.Number (arguments cs)) n h.numbers
@@ -53,17 +53,17 @@ is-ellipsoidal : (t : SystemType) (d : Value) (cs : Item) → IsHeadItem t d cs 
 is-ellipsoidal t d cs h e b =
     b.1.1 (sym (word-type t b.0 (those class.CoordinateSystem class.Word (arguments cs)) h.words b.1.0) ∙ e)
 
-geodetic-side : DecimalLaws → AxisEach → (level : Level) (g : GeodeticParts) → IsGeodetic g →
+geodetic-side : LowerLaws → (level : Level) (g : GeodeticParts) → IsGeodetic g →
     g.system.system_type ≡ types.Ellipsoidal → IsPlane g.system →
     IsSide level true (item_geodetic (norm_geodetic level g))
 unfolding class_named is_keyword
-geodetic-side l each_at level g h e plane = record {
+geodetic-side l level g h e plane = record {
   made = as-argument (omega arith)
       (subst (λ t. class_named class.CompoundCrs (geodetic_keyword t) ≡ Some class.GeographicCrs) (sym e) refl)
       (λ p. subst (λ t. IsAcceptedNormal level (geodetic_class t) 6 (at_place p (item_geodetic (norm_geodetic level g)))) e
-      (geodetic-made l each_at level g h p));
+      (geodetic-made l level g h p));
   fine = λ p b.
-      let s = geodetic-seen l each_at level g h p in
+      let s = geodetic-seen l level g h p in
       let are = subst (λ t. those (geodetic_class t) class.CoordinateSystem
       (arguments (at_place p (item_geodetic (norm_geodetic level g)))) ≡ s.head ∷ []) e s.systems_are in
       ⊎_elim (is-ellipsoidal g.system.system_type g.system.dimension s.head s.is_head e)
@@ -71,13 +71,13 @@ geodetic-side l each_at level g h e plane = record {
       (subst (λ cs. FirstIs (IsNotHorizontal class.GeographicCrs) cs) are b);
 }
 
-projected-side : DecimalLaws → AxisEach → (level : Level) (g : ProjectedParts) → IsProjected g → IsPlane g.system →
+projected-side : LowerLaws → (level : Level) (g : ProjectedParts) → IsProjected g → IsPlane g.system →
     IsSide level false (item_projected (norm_projected level g))
 unfolding class_named is_keyword
-projected-side l each_at level g h plane = record {
-  made = as-argument (omega arith) refl (projected-made l each_at level g h);
+projected-side l level g h plane = record {
+  made = as-argument (omega arith) refl (projected-made l level g h);
   fine = λ p b.
-      let s = projected-seen l each_at level g h p in
+      let s = projected-seen l level g h p in
       is-plane l g.system.system_type g.system.dimension s.head s.is_head h.system.dimension plane
       (subst (λ cs. FirstIs (IsNotHorizontal class.ProjectedCrs) cs) s.systems_are b);
 }
@@ -115,19 +115,19 @@ compound-breaks level false j name v t item fault s h q =
     (⊎_elim (none-of (BadComponent class.GeographicCrs) _ [] fault h.1.0 tt)
     (⊎_elim (none-of (BadComponent class.ProjectedCrs) _ (j ∷ []) fault h.1.1.0 (λ p b. s.fine p b.1, tt)) (λ k. k))))
 
-side-made : DecimalLaws → AxisEach →
+side-made : LowerLaws →
     (level : Level) (b : Bool) (j : Item) (name : List ℕ) (v : VerticalParts) (t : TailParts) → IsSide level b j →
     IsText name → IsVertical v → IsTail t → (p : ℕ) →
     IsAcceptedNormal level class.CompoundCrs 8 (at_place p (node_of (codes "COMPOUNDCRS") (text_item name)
     (More j (More (item_vertical (norm_vertical level v)) (tail_items (norm_tail level t))))))
 unfolding BreaksOwn class_named is_keyword
-side-made l each_at level b j name v t s n h g =
+side-made l level b j name v t s n h g =
     let runs : List Run = compound_runs level b j name v t in
     let seen = λ (item : Item) (q : Sees class.CompoundCrs runs item). tail-seen level class.CompoundCrs item t
     (side-shows level b j name v t item (views tail_classes q)) in
     made-of level 7 class.CompoundCrs (codes "COMPOUNDCRS") _ _ (text-of name n ∷ one-of s.made ∷
     node-of (item_vertical (norm_vertical level v)) (omega arith) refl
-    (vertical-made l each_at level v h) ∷
+    (vertical-made l level v h) ∷
     tail_arguments l level 7 class.CompoundCrs t (omega arith) compound-names g) refl (refl, refl) refl refl
     (rw (side-fits b).0 (refl {a = true}))
     ((side-fits b).1 level (j ∷ []) (drop 2 runs) (tail-orderly level t))
@@ -135,18 +135,18 @@ side-made l each_at level b j name v t s n h g =
     (λ item fault q. compound-breaks level b j name v t item fault s
     (views horizontal_classes q) (seen item q))
 
-pub compound-made : DecimalLaws → AxisEach → (level : Level) (c : CompoundParts) → IsCompound c → (p : ℕ) →
+pub compound-made : LowerLaws → (level : Level) (c : CompoundParts) → IsCompound c → (p : ℕ) →
     IsAcceptedNormal level class.CompoundCrs 8 (at_place p (item_compound (norm_compound level c)))
-compound-made l each_at level c h p = by c.horizontal h.horizontal
+compound-made l level c h p = by c.horizontal h.horizontal
   where
     by : (part : Horizontal) → IsHorizontal part →
         IsAcceptedNormal level class.CompoundCrs 8
         (at_place p (item_compound (norm_compound level (record c { horizontal = part }))))
     by (horizontal.Geodetic g) q =
-        side-made l each_at level true (item_geodetic (norm_geodetic level g)) c.name c.vertical c.tail
-        (geodetic-side l each_at level g q.0 q.1 q.2)
+        side-made l level true (item_geodetic (norm_geodetic level g)) c.name c.vertical c.tail
+        (geodetic-side l level g q.0 q.1 q.2)
         h.name h.vertical h.tail p
     by (horizontal.Projected g) q =
-        side-made l each_at level false (item_projected (norm_projected level g)) c.name c.vertical c.tail
-        (projected-side l each_at level g q.0 q.1)
+        side-made l level false (item_projected (norm_projected level g)) c.name c.vertical c.tail
+        (projected-side l level g q.0 q.1)
         h.name h.vertical h.tail p

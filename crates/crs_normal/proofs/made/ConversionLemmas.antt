@@ -10,7 +10,7 @@ use Rattle.crs_value.specs.Prelude.{ConversionParts, ParameterParts, IsUnit, IsC
 use Rattle.crs_value.specs.declared.values.level.Level.{Level}
 use Rattle.crs_matching.specs.Prelude.{kind_as}
 use Rattle.crs_normal.specs.Prelude.{unit_class, item_conversion, item_method, item_parameter, norm_conversion, norm_method, norm_parameter, set_parameters, item_unit, norm_units}
-use Rattle.crs_normal.specs.DecimalLaws.{DecimalLaws}
+use Rattle.crs_normal.specs.LowerLaws.{LowerLaws}
 use Rattle.crs_normal.specs.AcceptedNormal.{IsKindIn, IsAcceptedNormal}
 use Rattle.crs_normal.proofs.made.AscendLemmas.{set-ascends}
 use Rattle.crs_normal.proofs.made.IdentLemmas.{ids-of, ids-orderly, ids_run}
@@ -34,14 +34,14 @@ kind-fits : (k : UnitKind) →
 kind-fits kinds.Length = (refl, refl, λ level items runs h. h)
 kind-fits other = (refl, refl, λ level items runs h. h)
 
-parameter-unit : DecimalLaws → (level : Level) (x : Option UnitParts) → IfSome x IsUnit →
+parameter-unit : LowerLaws → (level : Level) (x : Option UnitParts) → IfSome x IsUnit →
     IfSome (norm_units level kinds.Plain x) (λ u. Made level 3 class.Parameter (unit_class (given_kind x)) (item_unit u))
 parameter-unit l level None h = tt
 parameter-unit l level (Some u) h =
     let k : UnitKind = kind_as kinds.Plain u.kind in
     as-argument (omega arith) (named-as k) (unit-made l level (unit_class k) k u (kind-fits k).0 h)
 
-pub parameter-made : DecimalLaws → (level : Level) (m : ParameterParts) → IsParameter m → (p : ℕ) →
+pub parameter-made : LowerLaws → (level : Level) (m : ParameterParts) → IsParameter m → (p : ℕ) →
     IsAcceptedNormal level class.Parameter 4 (at_place p (item_parameter (norm_parameter level m)))
 unfolding BreaksOwn class_named is_keyword
 parameter-made l level m h =
@@ -55,7 +55,7 @@ parameter-made l level m h =
 
 -- ---- conversions
 
-pub conversion-made : DecimalLaws → (level : Level) (m : ConversionParts) → IsConversion m → (p : ℕ) →
+pub conversion-made : LowerLaws → (level : Level) (m : ConversionParts) → IsConversion m → (p : ℕ) →
     IsAcceptedNormal level class.Conversion 5 (at_place p (item_conversion (norm_conversion level m)))
 unfolding BreaksOwn class_named is_keyword set_parameters
 conversion-made l level m h =

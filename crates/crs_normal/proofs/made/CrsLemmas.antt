@@ -1,16 +1,15 @@
 -- All CRSs are made, and their texts are normal.
 use Rattle.std.proofs.Common.{ℕ, ◌≤◌, sym, arith}
-use Rattle.crs_text.specs.Prelude.{Item, WrittenSpells, at_place, item_text}
+use Rattle.crs_text.specs.Prelude.{Item, at_place, item_text}
 use Rattle.crs_shape.specs.declared.class.Class.{Class}
 use Rattle.crs_value.specs.declared.values.crs.Crs.{Crs}
 use Rattle.crs_value.specs.declared.values.crs.Crs.TheVariants as crs
 use Rattle.crs_value.specs.declared.values.level.Level.{Level}
 use Rattle.crs_value.specs.Prelude.{IsCrs}
-use Rattle.crs_normal.specs.DecimalLaws.{DecimalLaws}
+use Rattle.crs_normal.specs.LowerLaws.{LowerLaws}
 use Rattle.crs_normal.specs.CrsClass.{crs_class}
 use Rattle.crs_normal.specs.AcceptedNormal.{IsAcceptedNormal}
 use Rattle.crs_normal.specs.Prelude.{IsNormalText, item_crs, norm_crs}
-use Rattle.crs_normal.proofs.made.BehindLemmas.{AxisEach}
 use Rattle.crs_normal.proofs.made.CompoundLemmas.{compound-made}
 use Rattle.crs_normal.proofs.made.GeodeticLemmas.{geodetic-made}
 use Rattle.crs_normal.proofs.made.PlaceLemmas.{text-at}
@@ -31,24 +30,24 @@ deeper h m =
       normal = m.normal;
     }
 
-pub crs-made : DecimalLaws → AxisEach → (level : Level) (c : Crs) → IsCrs c → (p : ℕ) →
+pub crs-made : LowerLaws → (level : Level) (c : Crs) → IsCrs c → (p : ℕ) →
     IsAcceptedNormal level (crs_class c) 8 (at_place p (item_crs (norm_crs level c)))
-crs-made l each_at level (crs.Geodetic g) h p = deeper (omega arith) (geodetic-made l each_at level g h p)
-crs-made l each_at level (crs.Projected g) h p = deeper (omega arith) (projected-made l each_at level g h p)
-crs-made l each_at level (crs.Vertical g) h p = deeper (omega arith) (vertical-made l each_at level g h p)
-crs-made l each_at level (crs.Compound g) h p = compound-made l each_at level g h p
+crs-made l level (crs.Geodetic g) h p = deeper (omega arith) (geodetic-made l level g h p)
+crs-made l level (crs.Projected g) h p = deeper (omega arith) (projected-made l level g h p)
+crs-made l level (crs.Vertical g) h p = deeper (omega arith) (vertical-made l level g h p)
+crs-made l level (crs.Compound g) h p = compound-made l level g h p
 
 -- ---- a whole text
 
-pub crs-text-normal : DecimalLaws → AxisEach → WrittenSpells → (level : Level) (c : Crs) → IsCrs c →
+pub crs-text-normal : LowerLaws → (level : Level) (c : Crs) → IsCrs c →
     IsNormalText level (item_text (item_crs (norm_crs level c)))
-crs-text-normal l each_at written level c h =
+crs-text-normal l level c h =
     let i : Item = item_crs (norm_crs level c) in
-    let m : IsAcceptedNormal level (crs_class c) 8 (at_place 0 i) = crs-made l each_at level c h 0 in
+    let m : IsAcceptedNormal level (crs_class c) 8 (at_place 0 i) = crs-made l level c h 0 in
     record {
       item = at_place 0 i;
       class_read = crs_class c;
-      spells = made-stands written i m;
+      spells = made-stands l.spells i m;
       root = crs-rooted level c 0;
       written = sym (text-at 0 i);
       normal = m.normal (crs_class c);

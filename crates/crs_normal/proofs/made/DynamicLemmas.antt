@@ -8,7 +8,7 @@ use Rattle.crs_shape.specs.Prelude.{is_keyword, class_named}
 use Rattle.crs_value.specs.Prelude.{BadDynamic, IsUnsteady, AnyOf, DynamicParts, those, IsDynamic, IsDynamicOf, Own as BreaksOwn}
 use Rattle.crs_value.specs.declared.values.frame.Frame.{Frame}
 use Rattle.crs_value.specs.declared.values.level.Level.{Level}
-use Rattle.crs_normal.specs.DecimalLaws.{DecimalLaws}
+use Rattle.crs_normal.specs.LowerLaws.{LowerLaws}
 use Rattle.crs_normal.specs.AcceptedNormal.{IsAcceptedNormal}
 use Rattle.crs_normal.specs.SpelledDynamic.{item_deformation_model, item_dynamic, norm_deformation_model, norm_dynamic}
 use Rattle.crs_normal.proofs.made.NodeLemmas.{Run, given, none-orderly}
@@ -16,7 +16,7 @@ use Rattle.crs_normal.proofs.made.NamedLemmas.{deformation-model-made}
 use Rattle.crs_normal.proofs.made.ArgumentLemmas.{made-of, one-number, may-node, Argument}
 use Rattle.crs_normal.proofs.same.DynamicLemmas.{dynamics-sound}
 
-pub dynamic-made : DecimalLaws → (level : Level) (d : DynamicParts) → IsDynamic d → (p : ℕ) →
+pub dynamic-made : LowerLaws → (level : Level) (d : DynamicParts) → IsDynamic d → (p : ℕ) →
     IsAcceptedNormal level class.Dynamic 4 (at_place p (item_dynamic (norm_dynamic level d)))
 unfolding BreaksOwn class_named is_keyword
 dynamic-made l level d h =
@@ -32,7 +32,7 @@ dynamic-made l level d h =
 abbrev pub dynamic_run : Level → Option DynamicParts → Run
 dynamic_run level x = record { of = class.Dynamic; items = given item_dynamic (option_map (norm_dynamic level) x) }
 
-abbrev pub dynamic-of : {level : Level} {most : ℕ} {parent : Class} → DecimalLaws → (x : Option DynamicParts) (f : Frame) →
+abbrev pub dynamic-of : {level : Level} {most : ℕ} {parent : Class} → LowerLaws → (x : Option DynamicParts) (f : Frame) →
     4 ≤ most → class_named parent (codes "DYNAMIC") ≡ Some class.Dynamic → IsDynamicOf x f → Argument level most parent
 dynamic-of {level = level} l x f deep named h =
     may-node class.Dynamic (norm_dynamic level) item_dynamic x deep (λ d. named) (dynamics-sound x f h)

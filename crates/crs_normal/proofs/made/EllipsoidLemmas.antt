@@ -10,7 +10,7 @@ use Rattle.crs_shape.specs.Prelude.{is_keyword, class_named, unit_word}
 use Rattle.crs_value.specs.Prelude.{IsAboveZero, OfEllipsoid, kept-none, those, IsUnitOf, IsEllipsoid, EllipsoidParts, UnitParts, Own as BreaksOwn}
 use Rattle.crs_value.specs.declared.values.level.Level.{Level}
 use Rattle.crs_value.specs.Values.{IdentParts}
-use Rattle.crs_normal.specs.DecimalLaws.{DecimalLaws}
+use Rattle.crs_normal.specs.LowerLaws.{LowerLaws}
 use Rattle.crs_normal.specs.AcceptedNormal.{IsKindIn, IsAcceptedNormal}
 use Rattle.crs_normal.specs.Prelude.{item_ellipsoid, norm_ellipsoid, number_item}
 use Rattle.crs_normal.specs.SpelledUnits.{item_unit, metre, norm_length, norm_unit, norm_units}
@@ -25,14 +25,14 @@ use Rattle.crs_normal.proofs.same.UnitLemmas.{metre-is, suits-kind}
 -- ---- units
 
 -- a unit of the asked kind as an argument
-pub unit-argument : DecimalLaws → {level : Level} {most : ℕ} {parent c : Class} (asked : UnitKind) (u : UnitParts) →
+pub unit-argument : LowerLaws → {level : Level} {most : ℕ} {parent c : Class} (asked : UnitKind) (u : UnitParts) →
     3 ≤ most → class_named parent (unit_word asked) ≡ Some c → IsKindIn c asked → IsUnitOf asked u →
     Made level most parent c (item_unit (norm_unit level asked u))
 unit-argument l {level = level} {most = most} {parent = parent} {c = c} asked u deep named k h =
     subst (λ kind. Made level most parent c (item_unit (unit_as level kind u))) (sym (suits-kind asked u.kind h.1))
     (as-argument deep named (unit-made l level c asked u k h.0))
 
-pub given-unit : DecimalLaws → (level : Level) {most : ℕ} (parent : Class) {c : Class} (asked : UnitKind) (x : Option UnitParts) →
+pub given-unit : LowerLaws → (level : Level) {most : ℕ} (parent : Class) {c : Class} (asked : UnitKind) (x : Option UnitParts) →
     3 ≤ most → class_named parent (unit_word asked) ≡ Some c → IsKindIn c asked → IfSome x (IsUnitOf asked) →
     IfSome (norm_units level asked x) (λ u. Made level most parent c (item_unit u))
 given-unit l level parent asked None deep named k h = tt
@@ -42,7 +42,7 @@ abbrev metre-with : List IdentParts → UnitParts
 metre-with identifiers = record { kind = metre.kind; name = metre.name; factor = metre.factor; identifiers = identifiers }
 
 -- a unit of length, which is the metre where none is written
-pub length-argument : DecimalLaws → {level : Level} {most : ℕ} {parent : Class} (x : Option UnitParts) → 3 ≤ most →
+pub length-argument : LowerLaws → {level : Level} {most : ℕ} {parent : Class} (x : Option UnitParts) → 3 ≤ most →
     class_named parent (codes "LENGTHUNIT") ≡ Some class.LengthUnit → IfSome x (IsUnitOf kinds.Length) →
     Made level most parent class.LengthUnit (item_unit (norm_length level x))
 length-argument l {level = level} {most = most} {parent = parent} None deep named h =
@@ -56,7 +56,7 @@ placed-some (item ∷ items) js j h e = cc
 
 -- ---- ellipsoids
 
-ellipsoid-numbers : DecimalLaws → (a f : Value) (numbers : List Item) (fault : RefusedAt) →
+ellipsoid-numbers : LowerLaws → (a f : Value) (numbers : List Item) (fault : RefusedAt) →
     ArePlaced numbers (number_item a ∷ number_item f ∷ []) →
     IsNormal a → IsAboveZero a → IsNormal f → f.negative ≡ false → ¬ (OfEllipsoid numbers fault)
 ellipsoid-numbers l a f [] fault h n z m s b = h
@@ -68,7 +68,7 @@ ellipsoid-numbers l a f (x ∷ y ∷ []) fault h n z m s (inr (inl b)) =
 ellipsoid-numbers l a f (x ∷ y ∷ []) fault h n z m s (inr (inr b)) = b
 ellipsoid-numbers l a f (x ∷ y ∷ w ∷ others) fault h n z m s b = h.1.1
 
-pub ellipsoid-made : DecimalLaws → (level : Level) (e : EllipsoidParts) → IsEllipsoid e → (p : ℕ) →
+pub ellipsoid-made : LowerLaws → (level : Level) (e : EllipsoidParts) → IsEllipsoid e → (p : ℕ) →
     IsAcceptedNormal level class.Ellipsoid 4 (at_place p (item_ellipsoid (norm_ellipsoid level e)))
 unfolding BreaksOwn class_named is_keyword
 ellipsoid-made l level e h =

@@ -7,7 +7,7 @@ use Rattle.crs_value.specs.declared.values.frame.Frame.{Frame}
 use Rattle.crs_value.specs.declared.values.frame.Frame.TheVariants as frame
 use Rattle.crs_value.specs.declared.values.level.Level.{Level}
 use Rattle.crs_value.specs.Prelude.{IsEllipsoid, IsEnsemble, IsGeodeticFrame, IsVerticalFrame, EllipsoidParts, EnsembleParts, Own as BreaksOwn, AnyOf, anchors, those, IsRepeated, RepeatsAny, IsDatum, DatumParts}
-use Rattle.crs_normal.specs.DecimalLaws.{DecimalLaws}
+use Rattle.crs_normal.specs.LowerLaws.{LowerLaws}
 use Rattle.crs_normal.specs.AcceptedNormal.{IsAcceptedNormal, geodetic_frame_class, vertical_frame_class}
 use Rattle.crs_normal.specs.SpelledFrames.{item_ellipsoid, item_ensemble, item_frame, item_member, norm_ellipsoid, norm_ensemble, norm_frame, norm_member, set_members}
 use Rattle.crs_normal.proofs.made.AscendLemmas.{set-ascends}
@@ -50,7 +50,7 @@ datum-repeats c d item fault a e =
       (given-once (number_node (codes "ANCHOREPOCH")) d.anchor_epoch (those c class.AnchorEpoch (arguments item)) e, tt),
     )
 
-pub geodetic-datum-made : DecimalLaws → (level : Level) (x : Option EllipsoidParts) (d : DatumParts) → IsSome x →
+pub geodetic-datum-made : LowerLaws → (level : Level) (x : Option EllipsoidParts) (d : DatumParts) → IsSome x →
     IfSome x IsEllipsoid → IsDatum d → (p : ℕ) →
     IsAcceptedNormal level class.GeodeticFrame 5 (at_place p (item_datum (codes "DATUM")
     (norm_datum level (record d { ellipsoid = x }))))
@@ -66,7 +66,7 @@ geodetic-datum-made l level (Some x) d some e h =
     (ids-orderly level d.identifiers) (λ item s r. r)
     (λ item fault s. datum-repeats class.GeodeticFrame d item fault (s.view class.Anchor) (s.view class.AnchorEpoch))
 
-pub vertical-datum-made : DecimalLaws → (level : Level) (x : Option EllipsoidParts) (d : DatumParts) → IsNone x →
+pub vertical-datum-made : LowerLaws → (level : Level) (x : Option EllipsoidParts) (d : DatumParts) → IsNone x →
     IsDatum d → (p : ℕ) →
     IsAcceptedNormal level class.VerticalFrame 5 (at_place p (item_datum (codes "VDATUM")
     (norm_datum level (record d { ellipsoid = x }))))
@@ -91,7 +91,7 @@ ensemble-orderly level e =
     let ids = ids-orderly level e.identifiers in
     ((ids.0.0, (tt, (set-ascends item_member (map (norm_member level) e.members), (tt, (tt, tt))))), ids.1)
 
-geodetic-ensemble-made : DecimalLaws → (level : Level) (x : Option EllipsoidParts) (e : EnsembleParts) → IsSome x →
+geodetic-ensemble-made : LowerLaws → (level : Level) (x : Option EllipsoidParts) (e : EnsembleParts) → IsSome x →
     IfSome x IsEllipsoid → IsEnsemble e →
     (p : ℕ) → IsAcceptedNormal level class.GeodeticEnsemble 5
     (at_place p (item_ensemble (norm_ensemble level (record e { ellipsoid = x }))))
@@ -107,7 +107,7 @@ geodetic-ensemble-made l level (Some x) e some f h =
     ids-of l e.identifiers (omega arith) refl h.identifiers ∷ []) refl (refl, refl) refl refl refl
     (ensemble-orderly level e) (λ item s r. tt) (λ item fault s b. b)
 
-vertical-ensemble-made : DecimalLaws → (level : Level) (x : Option EllipsoidParts) (e : EnsembleParts) → IsNone x →
+vertical-ensemble-made : LowerLaws → (level : Level) (x : Option EllipsoidParts) (e : EnsembleParts) → IsNone x →
     IsEnsemble e →
     (p : ℕ) → IsAcceptedNormal level class.VerticalEnsemble 5
     (at_place p (item_ensemble (norm_ensemble level (record e { ellipsoid = x }))))
@@ -124,12 +124,12 @@ vertical-ensemble-made l level None e none h =
 
 -- ---- frames
 
-pub geodetic-frame-made : DecimalLaws → (level : Level) (f : Frame) → IsGeodeticFrame f → (p : ℕ) →
+pub geodetic-frame-made : LowerLaws → (level : Level) (f : Frame) → IsGeodeticFrame f → (p : ℕ) →
     IsAcceptedNormal level (geodetic_frame_class f) 5 (at_place p (item_frame (codes "DATUM") (norm_frame level f)))
 geodetic-frame-made l level (frame.Datum d) h = geodetic-datum-made l level d.ellipsoid d h.1 h.0.ellipsoid h.0
 geodetic-frame-made l level (frame.Ensemble e) h = geodetic-ensemble-made l level e.ellipsoid e h.1 h.0.ellipsoid h.0
 
-pub vertical-frame-made : DecimalLaws → (level : Level) (f : Frame) → IsVerticalFrame f → (p : ℕ) →
+pub vertical-frame-made : LowerLaws → (level : Level) (f : Frame) → IsVerticalFrame f → (p : ℕ) →
     IsAcceptedNormal level (vertical_frame_class f) 5 (at_place p (item_frame (codes "VDATUM") (norm_frame level f)))
 vertical-frame-made l level (frame.Datum d) h = vertical-datum-made l level d.ellipsoid d h.1 h.0
 vertical-frame-made l level (frame.Ensemble e) h = vertical-ensemble-made l level e.ellipsoid e h.1 h.0

@@ -10,7 +10,7 @@ use Rattle.crs_value.specs.declared.values.frame.Frame.TheVariants as frame
 use Rattle.crs_value.specs.declared.values.level.Level.{Level}
 use Rattle.crs_value.specs.Prelude.{DynamicParts, IsDynamicOf, MeridianParts, SystemParts, TailParts, OfCrs, Own as BreaksOwn}
 use Rattle.crs_value.specs.Sound.{Each}
-use Rattle.crs_normal.specs.DecimalLaws.{DecimalLaws}
+use Rattle.crs_normal.specs.LowerLaws.{LowerLaws}
 use Rattle.crs_normal.specs.AcceptedNormal.{IsAcceptedNormal, geodetic_frame_class, vertical_frame_class}
 use Rattle.crs_normal.specs.NormalOwn.{HasAxes, HasOwnForm, HasTail}
 use Rattle.crs_normal.specs.Normal.{IsFirstKeyword}
@@ -105,7 +105,7 @@ meridian-there level (Some m) items h = placed-some items [] (item_meridian (nor
 -- ---- CRSs
 
 -- a CRS with this system and this end is made
-pub crs-node-made : (l : DecimalLaws) (level : Level) (most : ℕ) (c : Class) (keyword : List ℕ) (first : Item)
+pub crs-node-made : (l : LowerLaws) (level : Level) (most : ℕ) (c : Class) (keyword : List ℕ) (first : Item)
     (others : Siblings) (all : List (Argument level most c)) → More first others ≡ lay all → IsWord keyword →
     IsTrue (is_keyword c keyword) → IsFirstKeyword c keyword → fit (slots_of c) all ≡ true →
     IsOrderly level (as_runs all) →

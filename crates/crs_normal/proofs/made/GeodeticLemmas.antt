@@ -10,7 +10,7 @@ use Rattle.crs_shape.specs.Prelude.{is_keyword, class_named, geodetic_slots, slo
 use Rattle.crs_value.specs.Prelude.{OfCrs, GeodeticParts, those, IsGeodetic, Own as BreaksOwn}
 use Rattle.crs_value.specs.declared.values.level.Level.{Level}
 use Rattle.crs_value.specs.Sound.{Each}
-use Rattle.crs_normal.specs.DecimalLaws.{DecimalLaws}
+use Rattle.crs_normal.specs.LowerLaws.{LowerLaws}
 use Rattle.crs_normal.specs.CrsClass.{geodetic_class}
 use Rattle.crs_normal.specs.AcceptedNormal.{IsAcceptedNormal}
 use Rattle.crs_normal.specs.Normal.{IsFirstKeyword}
@@ -18,7 +18,7 @@ use Rattle.crs_normal.specs.NormalOwn.{Has, HasAxes, HasTail, HasOwnForm, words_
 use Rattle.crs_normal.specs.SpelledCrs.{geodetic_keyword, item_geodetic, norm_geodetic}
 use Rattle.crs_normal.specs.Prelude.{item_frame, norm_frame, word_item}
 use Rattle.crs_normal.proofs.made.SystemLemmas.{IsFew}
-use Rattle.crs_normal.proofs.made.BehindLemmas.{AxisEach, NamesSystem, few-system, system-seen, behind_arguments}
+use Rattle.crs_normal.proofs.made.BehindLemmas.{NamesSystem, few-system, system-seen, behind_arguments}
 use Rattle.crs_normal.proofs.read.ViewLemmas.{each-so}
 use Rattle.crs_normal.proofs.made.CheckLemmas.{IsSystemSeen, IsSystemIn}
 use Rattle.crs_normal.proofs.made.DynamicLemmas.{dynamic-of}
@@ -104,7 +104,7 @@ is-root types.Vertical = geodetic-root types.Vertical (λ e. cc)
 
 -- ---- the CRSs
 
-abbrev geodetic_arguments : DecimalLaws → (level : Level) (c : Class) (g : GeodeticParts) → GeodeticNames c →
+abbrev geodetic_arguments : LowerLaws → (level : Level) (c : Class) (g : GeodeticParts) → GeodeticNames c →
     IsFew g.system → IsGeodetic g → List (Argument level 5 c)
 geodetic_arguments l level c g n few h =
     text-of g.name h.name ∷ dynamic-of l g.dynamic g.frame (omega arith) n.dynamics h.dynamic ∷
@@ -124,11 +124,11 @@ system-words {t = t} s =
       tt,
     )
 
-pub geodetic-made : DecimalLaws → AxisEach → (level : Level) (g : GeodeticParts) → IsGeodetic g → (p : ℕ) →
+pub geodetic-made : LowerLaws → (level : Level) (g : GeodeticParts) → IsGeodetic g → (p : ℕ) →
     IsAcceptedNormal level (geodetic_class g.system.system_type) 6 (at_place p (item_geodetic (norm_geodetic level g)))
-geodetic-made l each_at level g h =
+geodetic-made l level g h =
     let c : Class = geodetic_class g.system.system_type in
-    let few = few-system l each_at (dimensions_of class.GeodeticCrs) small-geodetic g.system h.system h.dimension in
+    let few = few-system l (dimensions_of class.GeodeticCrs) small-geodetic g.system h.system h.dimension in
     let all = geodetic_arguments l level c g (names-of g.system.system_type) few h in
     let r = is-root g.system.system_type in
     let shown = λ (item : Item) (s : Sees c (as_runs all) item).
@@ -142,13 +142,13 @@ geodetic-made l each_at level g h =
     (λ item s seen. r.own item (system-words seen) (meridian-there level g.meridian _ (shown item s).0.0))
 
 -- the system of a CRS, as the checks of a compound see it
-pub geodetic-seen : DecimalLaws → AxisEach → (level : Level) (g : GeodeticParts) → IsGeodetic g → (p : ℕ) →
+pub geodetic-seen : LowerLaws → (level : Level) (g : GeodeticParts) → IsGeodetic g → (p : ℕ) →
     IsSystemIn g.system (geodetic_class g.system.system_type) (at_place p (item_geodetic (norm_geodetic level g)))
-geodetic-seen l each_at level g h p =
+geodetic-seen l level g h p =
     let c : Class = geodetic_class g.system.system_type in
     let item : Item = at_place p (item_geodetic (norm_geodetic level g)) in
     let few : IsFew g.system =
-    few-system l each_at (dimensions_of class.GeodeticCrs) small-geodetic g.system h.system h.dimension in
+    few-system l (dimensions_of class.GeodeticCrs) small-geodetic g.system h.system h.dimension in
     let s = arguments-seen level 5 c (geodetic_keyword g.system.system_type) _ _
     (geodetic_arguments l level c g (names-of g.system.system_type) few h) refl p in
     system-seen l level c item g.system g.tail few

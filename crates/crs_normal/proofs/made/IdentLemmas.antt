@@ -9,16 +9,16 @@ use Rattle.crs_value.specs.Prelude.{kept, kept-each, kept-made, single_of, IsIde
 use Rattle.crs_value.specs.declared.values.level.Level.{Level}
 use Rattle.crs_value.specs.Sound.{Each}
 use Rattle.crs_value.specs.Values.{IdentParts}
-use Rattle.crs_normal.specs.DecimalLaws.{DecimalLaws}
+use Rattle.crs_normal.specs.LowerLaws.{LowerLaws}
 use Rattle.crs_normal.specs.AcceptedNormal.{IsAcceptedNormal}
 use Rattle.crs_normal.specs.NormalOwn.{Ascend, IsCode}
-use Rattle.crs_normal.specs.Prelude.{in_order, code_item, text_item, text_node, item_ident, set_idents}
+use Rattle.crs_normal.specs.Prelude.{in_order, code_item, text_node, item_ident, set_idents}
 use Rattle.crs_normal.proofs.made.AscendLemmas.{set-ascends}
 use Rattle.crs_normal.proofs.read.ViewLemmas.{each-so}
 use Rattle.crs_normal.proofs.members.SetLemmas.{each-in_order}
 use Rattle.crs_normal.proofs.made.ArgumentLemmas.{each-of, Argument, made-of, may-of, may-text, one-of, text-of, as_runs}
 use Rattle.crs_normal.proofs.made.LeafLemmas.{IsCodeKind, code-kind, code-made, code_kind}
-use Rattle.crs_normal.proofs.made.NodeLemmas.{IsOrderly, Made, Run, alone, as-argument, given, line, none-orderly, IsFree}
+use Rattle.crs_normal.proofs.made.NodeLemmas.{IsOrderly, Made, Run, as-argument, given, line, none-orderly, IsFree}
 use Rattle.crs_normal.proofs.texts.SegmentLemmas.{each-map}
 
 -- ---- identifiers, with the kinds of the code and the version
@@ -27,13 +27,6 @@ use Rattle.crs_normal.proofs.texts.SegmentLemmas.{each-map}
 abbrev version_kind : Option (List ℕ) → Kind
 version_kind None = text
 version_kind (Some raw) = code_kind raw
-
-abbrev ident_runs : IdentParts → List Run
-ident_runs i =
-    alone class.Text (text_item i.authority) ∷ alone (class_of_kind (code_kind i.code)) (code_item i.code) ∷
-    record { of = class_of_kind (version_kind i.version); items = given code_item i.version } ∷
-    record { of = class.Citation; items = given (text_node (codes "CITATION")) i.citation } ∷
-    record { of = class.Uri; items = given (text_node (codes "URI")) i.uri } ∷ []
 
 kind-free : (k : Kind) → IsFree (class_of_kind k)
 kind-free number level items runs h = h
@@ -52,7 +45,7 @@ version-taken : (version : Option (List ℕ)) → IfSome version IsText →
 version-taken None h = refl
 version-taken (Some raw) h = code-taken (code_kind raw) raw (code-kind raw h)
 
-version-made : DecimalLaws → (level : Level) (version : Option (List ℕ)) → IfSome version IsText →
+version-made : LowerLaws → (level : Level) (version : Option (List ℕ)) → IfSome version IsText →
     IfSome version (λ raw. Made level 1 class.Identifier (class_of_kind (version_kind version)) (code_item raw))
 version-made l level None h = tt
 version-made l level (Some raw) h = code-made l level 1 (code_kind raw) raw (code-kind raw h)
@@ -73,7 +66,7 @@ version-is None (Some citation) uri s h = tt
 version-is (Some raw) citation uri s h =
     subst (Each IsCode) (append-nil _) (code-is (code_kind raw) raw (s + 1) [] (code-kind raw h) tt)
 
-pub ident-made : DecimalLaws → (level : Level) (i : IdentParts) → IsIdent i → (p : ℕ) →
+pub ident-made : LowerLaws → (level : Level) (i : IdentParts) → IsIdent i → (p : ℕ) →
     IsAcceptedNormal level class.Identifier 2 (at_place p (item_ident i))
 unfolding is_keyword BreaksOwn class_named
 ident-made l level i h =
@@ -103,7 +96,7 @@ idents-sound level identifiers h =
 abbrev pub ids_run : Level → List IdentParts → Run
 ids_run level identifiers = record { of = class.Identifier; items = map item_ident (set_idents level identifiers) }
 
-pub identifiers-made : DecimalLaws → (level : Level) (most : ℕ) (parent : Class) (identifiers : List IdentParts) → 2 ≤ most →
+pub identifiers-made : LowerLaws → (level : Level) (most : ℕ) (parent : Class) (identifiers : List IdentParts) → 2 ≤ most →
     class_named parent (codes "ID") ≡ Some class.Identifier →
     Each IsIdent identifiers → Each (Made level most parent class.Identifier) (map item_ident (set_idents level identifiers))
 identifiers-made l level most parent identifiers deep named h =
@@ -112,7 +105,7 @@ identifiers-made l level most parent identifiers deep named h =
     (λ i q. as-argument deep named (ident-made l level i q))
     (set_idents level identifiers) (idents-sound level identifiers h))
 
-abbrev pub ids-of : {level : Level} {most : ℕ} {parent : Class} → DecimalLaws → (identifiers : List IdentParts) →
+abbrev pub ids-of : {level : Level} {most : ℕ} {parent : Class} → LowerLaws → (identifiers : List IdentParts) →
     2 ≤ most → class_named parent (codes "ID") ≡ Some class.Identifier → Each IsIdent identifiers →
     Argument level most parent
 ids-of {level = level} {most = most} {parent = parent} l identifiers deep named h =

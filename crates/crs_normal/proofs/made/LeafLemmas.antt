@@ -11,7 +11,7 @@ use Rattle.crs_shape.specs.contracts.class.Class.{the_type}
 use Rattle.crs_shape.specs.Prelude.{class_of_kind}
 use Rattle.crs_value.specs.declared.values.level.Level.{Level}
 use Rattle.crs_value.specs.Prelude.{IsText}
-use Rattle.crs_normal.specs.DecimalLaws.{DecimalLaws}
+use Rattle.crs_normal.specs.LowerLaws.{LowerLaws}
 use Rattle.crs_normal.specs.Normal.{IsNumberIn, IsSingleIn, IsWordIn}
 use Rattle.crs_normal.specs.NormalOwn.{IsShort}
 use Rattle.crs_normal.specs.SpelledItems.{is_short, number_item, text_item, word_item}
@@ -35,11 +35,11 @@ number-in : (c : Class) (raw : List ℕ) → IsPlain raw → IsNumberIn c raw
 number-in class.Identifier raw h = tt
 number-in c raw h = h
 
-pub number-made : DecimalLaws → (level : Level) (most : ℕ) (parent : Class) (v : Value) → IsNormal v →
+pub number-made : LowerLaws → (level : Level) (most : ℕ) (parent : Class) (v : Value) → IsNormal v →
     Made level most parent class.Number (number_item v)
 number-made l level most parent v n =
     let d : Denotes (plain v) (exact v) = l.denotes v n in
-    leaf-made level most parent number (plain v) (run-single (plain v) (l.as_run (plain v) (d.0, d.1)) (d.0, d.1, d.2))
+    leaf-made level most parent number (plain v) (run-single (plain v) (l.run (plain v) (d.0, d.1)) (d.0, d.1, d.2))
     (number-in parent (plain v) (l.is_plain v n)) refl
 
 pub word-made : (level : Level) (most : ℕ) (parent : Class) (raw : List ℕ) → IsWord raw → IsWordIn parent raw →
@@ -74,14 +74,14 @@ code-kind raw h = by (is_short raw) refl
     by true e = true-short raw e
     by false e = (λ s. let k : true ≡ false = sym (short-true raw s) ∙ e in cc, h)
 
-code-single : DecimalLaws → (kind : Kind) (raw : List ℕ) → IsCodeKind kind raw → IsSingle kind raw
+code-single : LowerLaws → (kind : Kind) (raw : List ℕ) → IsCodeKind kind raw → IsSingle kind raw
 code-single l number raw h =
     let b : IsInBounds raw = l.digits_alone raw h.digits h.some h.few in
-    run-single raw (l.as_run raw (b.0, b.1)) b
+    run-single raw (l.run raw (b.0, b.1)) b
 code-single l text raw h = h.1
 code-single l word raw h = absurd h
 
-pub code-made : DecimalLaws → (level : Level) (most : ℕ) (kind : Kind) (raw : List ℕ) → IsCodeKind kind raw →
+pub code-made : LowerLaws → (level : Level) (most : ℕ) (kind : Kind) (raw : List ℕ) → IsCodeKind kind raw →
     Made level most class.Identifier (class_of_kind kind) (leaf kind 0 raw)
 code-made l level most word raw h = absurd h
 code-made l level most kind raw h = leaf-made level most class.Identifier kind raw (code-single l kind raw h) tt refl

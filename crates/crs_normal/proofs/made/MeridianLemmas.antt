@@ -10,7 +10,7 @@ use Rattle.crs_shape.specs.Prelude.{is_keyword, class_named}
 use Rattle.crs_value.specs.Prelude.{kept-none, those, IsMeridian, IsUnitOf, MeridianParts, UnitParts, Own as BreaksOwn}
 use Rattle.crs_value.specs.declared.values.level.Level.{Level}
 use Rattle.crs_value.specs.Values.{IdentParts}
-use Rattle.crs_normal.specs.DecimalLaws.{DecimalLaws}
+use Rattle.crs_normal.specs.LowerLaws.{LowerLaws}
 use Rattle.crs_normal.specs.AcceptedNormal.{IsAcceptedNormal}
 use Rattle.crs_normal.specs.NormalOwn.{HasNoUnitAtZero}
 use Rattle.crs_normal.specs.SpelledFrames.{greenwich, is_zero, item_meridian, norm_given, norm_meridian}
@@ -28,7 +28,7 @@ use Rattle.crs_normal.proofs.texts.SegmentLemmas.{placed-none}
 zero-plain : plain (whole_value 0) ≡ codes "0"
 zero-plain = let d : 0 < 10 = omega arith in ap (λ ds. ds ++ []) (decimal_digit 0 d)
 
-plain-zero : DecimalLaws → (v : Value) → IsNormal v → plain v ≡ codes "0" → v ≡ whole_value 0
+plain-zero : LowerLaws → (v : Value) → IsNormal v → plain v ≡ codes "0" → v ≡ whole_value 0
 plain-zero l v n e =
     l.denotes_one (codes "0") v (whole_value 0) n refl (subst (λ b. Denotes b (exact v)) e (l.denotes v n))
     (subst (λ b. Denotes b (exact (whole_value 0))) zero-plain (l.denotes (whole_value 0) refl))
@@ -39,7 +39,7 @@ plain-zero l v n e =
 abbrev unit_at : Level → Value → Option UnitParts → Option UnitParts
 unit_at level v x = if is_zero v then None else norm_units level kinds.Angle x
 
-angle-made : DecimalLaws → (level : Level) (v : Value) (x : Option UnitParts) → IfSome x (IsUnitOf kinds.Angle) →
+angle-made : LowerLaws → (level : Level) (v : Value) (x : Option UnitParts) → IfSome x (IsUnitOf kinds.Angle) →
     IfSome (unit_at level v x) (λ u. Made level 3 class.PrimeMeridian class.AngleUnit (item_unit u))
 unfolding class_named is_keyword
 angle-made l level v x h = by (is_zero v)
@@ -49,7 +49,7 @@ angle-made l level v x h = by (is_zero v)
     by true = tt
     by false = given-unit l level class.PrimeMeridian kinds.Angle x (omega arith) refl refl h
 
-none-at-zero : DecimalLaws → (level : Level) (v : Value) (x : Option UnitParts) (item : Item) → IsNormal v →
+none-at-zero : LowerLaws → (level : Level) (v : Value) (x : Option UnitParts) (item : Item) → IsNormal v →
     ArePlaced (those class.PrimeMeridian class.Number (arguments item)) (number_item v ∷ []) →
     ArePlaced (those class.PrimeMeridian class.AngleUnit (arguments item)) (given item_unit (unit_at level v x) ++ []) →
     HasNoUnitAtZero item
@@ -63,7 +63,7 @@ none-at-zero l level v x item n numbers units e =
     (given item_unit (if b then None else norm_units level kinds.Angle x) ++ [])) (ap is_zero (plain-zero l v n q))
     units)
 
-pub meridian-made : DecimalLaws → (level : Level) (m : MeridianParts) → IsMeridian m → (p : ℕ) →
+pub meridian-made : LowerLaws → (level : Level) (m : MeridianParts) → IsMeridian m → (p : ℕ) →
     IsAcceptedNormal level class.PrimeMeridian 4 (at_place p (item_meridian (norm_given level m)))
 unfolding BreaksOwn class_named is_keyword
 meridian-made l level m h =
@@ -82,7 +82,7 @@ greenwich-name = (codes "Greenwich", (refl, refl))
 abbrev greenwich-with : List IdentParts → MeridianParts
 greenwich-with identifiers = record { name = codes "Greenwich"; longitude = whole_value 0; unit = None; identifiers = identifiers }
 
-pub greenwich-made : DecimalLaws → (level : Level) (p : ℕ) →
+pub greenwich-made : LowerLaws → (level : Level) (p : ℕ) →
     IsAcceptedNormal level class.PrimeMeridian 4 (at_place p (item_meridian greenwich))
 greenwich-made l level p =
     subst (λ identifiers. IsAcceptedNormal level class.PrimeMeridian 4 (at_place p (item_meridian (greenwich-with identifiers))))
@@ -95,13 +95,13 @@ greenwich-made l level p =
     }) p)
 
 -- a prime meridian as an argument, which is Greenwich where none is written
-pub given-meridian : DecimalLaws → (level : Level) {most : ℕ} (parent : Class) (m : Option MeridianParts) → 4 ≤ most →
+pub given-meridian : LowerLaws → (level : Level) {most : ℕ} (parent : Class) (m : Option MeridianParts) → 4 ≤ most →
     class_named parent (codes "PRIMEM") ≡ Some class.PrimeMeridian → IfSome m IsMeridian →
     IfSome (norm_meridian level m) (λ g. Made level most parent class.PrimeMeridian (item_meridian g))
 given-meridian l level parent None deep named h = as-argument deep named (greenwich-made l level)
 given-meridian l level parent (Some m) deep named h = as-argument deep named (meridian-made l level m h)
 
-abbrev pub meridian-of : {level : Level} {most : ℕ} {parent : Class} → DecimalLaws → (m : Option MeridianParts) →
+abbrev pub meridian-of : {level : Level} {most : ℕ} {parent : Class} → LowerLaws → (m : Option MeridianParts) →
     4 ≤ most → class_named parent (codes "PRIMEM") ≡ Some class.PrimeMeridian → IfSome m IsMeridian →
     Argument level most parent
 meridian-of {level = level} {parent = parent} l m deep named h =

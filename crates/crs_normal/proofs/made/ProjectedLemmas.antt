@@ -6,12 +6,12 @@ use Rattle.crs_shape.specs.declared.unit_kind.UnitKind.TheVariants as kinds
 use Rattle.crs_shape.specs.Prelude.{is_keyword, class_named, dimensions_of}
 use Rattle.crs_value.specs.Prelude.{BaseParts, ProjectedParts, those, IsBase, IsProjected, Own as BreaksOwn}
 use Rattle.crs_value.specs.declared.values.level.Level.{Level}
-use Rattle.crs_normal.specs.DecimalLaws.{DecimalLaws}
+use Rattle.crs_normal.specs.LowerLaws.{LowerLaws}
 use Rattle.crs_normal.specs.AcceptedNormal.{IsAcceptedNormal}
 use Rattle.crs_normal.specs.Prelude.{item_conversion, norm_conversion, item_frame, norm_frame, item_unit, norm_units}
 use Rattle.crs_normal.specs.SpelledCrs.{item_base, item_projected, norm_base, norm_projected}
 use Rattle.crs_normal.proofs.made.SystemLemmas.{IsFew}
-use Rattle.crs_normal.proofs.made.BehindLemmas.{AxisEach, crs_classes, system-seen, few-system, behind_arguments, projected-names}
+use Rattle.crs_normal.proofs.made.BehindLemmas.{crs_classes, system-seen, few-system, behind_arguments, projected-names}
 use Rattle.crs_normal.proofs.made.CheckLemmas.{IsSystemIn}
 use Rattle.crs_normal.proofs.made.ConversionLemmas.{conversion-made}
 use Rattle.crs_normal.proofs.made.DynamicLemmas.{no-bad-dynamic, dynamic-of}
@@ -28,7 +28,7 @@ use Rattle.crs_normal.proofs.made.ArgumentLemmas.{Argument, arguments-seen, made
 
 -- ---- base CRSs
 
-pub base-made : DecimalLaws → (level : Level) (b : BaseParts) → IsBase b → (p : ℕ) →
+pub base-made : LowerLaws → (level : Level) (b : BaseParts) → IsBase b → (p : ℕ) →
     IsAcceptedNormal level class.BaseCrs 6 (at_place p (item_base (norm_base level b)))
 unfolding BreaksOwn class_named is_keyword
 base-made l level b h =
@@ -52,10 +52,10 @@ base-made l level b h =
 
 -- ---- projected CRSs
 
-projected-few : DecimalLaws → AxisEach → (g : ProjectedParts) → IsProjected g → IsFew g.system
-projected-few l each_at g h = few-system l each_at (dimensions_of class.ProjectedCrs) small-projected g.system h.system h.dimension
+projected-few : LowerLaws → (g : ProjectedParts) → IsProjected g → IsFew g.system
+projected-few l g h = few-system l (dimensions_of class.ProjectedCrs) small-projected g.system h.system h.dimension
 
-abbrev projected_arguments : DecimalLaws → (level : Level) (g : ProjectedParts) → IsFew g.system → IsProjected g →
+abbrev projected_arguments : LowerLaws → (level : Level) (g : ProjectedParts) → IsFew g.system → IsProjected g →
     List (Argument level 6 class.ProjectedCrs)
 projected_arguments l level g few h =
     text-of g.name h.name ∷ node-of (item_base (norm_base level g.base)) (omega arith)
@@ -66,11 +66,11 @@ projected_arguments l level g few h =
     (tail_arguments l level 6 class.ProjectedCrs g.tail (omega arith) projected-names.tails h.tail) (omega arith)
     projected-names.systems few
 
-pub projected-made : DecimalLaws → AxisEach → (level : Level) (g : ProjectedParts) → IsProjected g → (p : ℕ) →
+pub projected-made : LowerLaws → (level : Level) (g : ProjectedParts) → IsProjected g → (p : ℕ) →
     IsAcceptedNormal level class.ProjectedCrs 7 (at_place p (item_projected (norm_projected level g)))
 unfolding BreaksOwn is_keyword
-projected-made l each_at level g h =
-    let few = projected-few l each_at g h in
+projected-made l level g h =
+    let few = projected-few l g h in
     crs-node-made l level 6 class.ProjectedCrs (codes "PROJCRS") _ _ (projected_arguments l level g few h) refl
     (refl, refl)
     refl refl refl (tail-orderly level g.tail) g.system g.tail few h.dimension
@@ -81,10 +81,10 @@ projected-made l each_at level g h =
     )) (λ item s seen axes end. (axes, end))
 
 -- the system of a CRS, as the checks of a compound see it
-pub projected-seen : DecimalLaws → AxisEach → (level : Level) (g : ProjectedParts) → IsProjected g → (p : ℕ) →
+pub projected-seen : LowerLaws → (level : Level) (g : ProjectedParts) → IsProjected g → (p : ℕ) →
     IsSystemIn g.system class.ProjectedCrs (at_place p (item_projected (norm_projected level g)))
-projected-seen l each_at level g h p =
-    let few : IsFew g.system = projected-few l each_at g h in
+projected-seen l level g h p =
+    let few : IsFew g.system = projected-few l g h in
     let item : Item = at_place p (item_projected (norm_projected level g)) in
     system-seen l level class.ProjectedCrs item g.system g.tail few
     (views crs_classes (arguments-seen level 6 class.ProjectedCrs (codes "PROJCRS") _ _ (projected_arguments l level g few h) refl p))

@@ -15,7 +15,7 @@ use Rattle.crs_value.specs.Prelude.{UnknownType, AnyOf, those, IsAxis, IsAxisUni
 use Rattle.crs_value.specs.declared.values.level.Level.{Level}
 use Rattle.crs_value.specs.Sound.{Each}
 use Rattle.crs_matching.specs.Prelude.{HasAt, IsPositionOf, own_or}
-use Rattle.crs_normal.specs.DecimalLaws.{DecimalLaws}
+use Rattle.crs_normal.specs.LowerLaws.{LowerLaws}
 use Rattle.crs_normal.specs.AcceptedNormal.{IsAcceptedNormal}
 use Rattle.crs_normal.specs.Prelude.{number_item, word_item, axes_from, axis_at, is_at, item_axis, item_head, norm_axis, norm_system, whole_value}
 use Rattle.crs_normal.proofs.made.AxisLemmas.{Fits, IsAxisItem, axis-made, axis-seen, whole-normal}
@@ -50,15 +50,15 @@ fits t xs (Some shared) a h u =
 
 -- ---- the axis at a position
 
-at-true : DecimalLaws → (k place : ℕ) (order : Option Value) → IsNormal (whole_value k) → IfSome order IsNormal →
+at-true : LowerLaws → (k place : ℕ) (order : Option Value) → IsNormal (whole_value k) → IfSome order IsNormal →
     IsPositionOf k place order →
     is_at k place order ≡ true
 at-true l k place None n h e = (Decides-eqb place k).1 e
 at-true l k place (Some v) n h e =
-    let same : v ≡ whole_value k = (l.normal_one v (whole_value k) h n).0 e in
+    let same : v ≡ whole_value k = (l.normal_is_one v (whole_value k) h n).0 e in
     (bytes_eq-Decides (plain v) (decimal k)).1 (ap plain same ∙ append-nil (decimal k))
 
-found : DecimalLaws → (k place : ℕ) (xs : List AxisParts) → IsNormal (whole_value k) → Each IsAxis xs →
+found : LowerLaws → (k place : ℕ) (xs : List AxisParts) → IsNormal (whole_value k) → Each IsAxis xs →
     HasAt k (λ axis. ⊤) place xs →
     (x : AxisParts) × (axis_at k place xs ≡ Some x)
 found l k place [] n a h = absurd h
@@ -96,7 +96,7 @@ pub record IsFew (s : SystemParts) : Type 0 where
   pub each_at : HasEach s
   pub few : length s.axes ≤ 3
 
-module _ (l : DecimalLaws) (level : Level) (s : SystemParts) (h : IsFew s) where
+module _ (l : LowerLaws) (level : Level) (s : SystemParts) (h : IsFew s) where
   axis-found : (k : ℕ) → 1 ≤ k → k ≤ length s.axes →
       (x : AxisParts) × (Fits s.system_type s.unit x × (axis_at k 1 s.axes ≡ Some x))
   axis-found k low high =
@@ -118,7 +118,7 @@ module _ (l : DecimalLaws) (level : Level) (s : SystemParts) (h : IsFew s) where
       × (length (axes_from level s 1 (length s.axes)) ≡ length s.axes)
   all-axes = axes-are (length s.axes) 1 (omega arith) (omega arith)
 
-pub axes-made : DecimalLaws → (level : Level) (s : SystemParts) (most : ℕ) (parent : Class) (k : ℕ)
+pub axes-made : LowerLaws → (level : Level) (s : SystemParts) (most : ℕ) (parent : Class) (k : ℕ)
     (rest : List AxisParts) → 5 ≤ most →
     class_named parent (codes "AXIS") ≡ Some class.Axis → AreAxes level s k rest → 1 ≤ k → k + length rest ≤ 4 →
     Each (Made level most parent class.Axis) (map item_axis rest)
@@ -135,7 +135,7 @@ abbrev pub AreAxisItems : SystemType → ℕ → List Item → Type 0
 AreAxisItems t k [] = Unit {0}
 AreAxisItems t k (item ∷ items) = IsAxisItem t k item × AreAxisItems t (k + 1) items
 
-pub axes-seen : DecimalLaws → (level : Level) (s : SystemParts) (k : ℕ) (items : List Item) (rest : List AxisParts) →
+pub axes-seen : LowerLaws → (level : Level) (s : SystemParts) (k : ℕ) (items : List Item) (rest : List AxisParts) →
     ArePlaced items (map item_axis rest) →
     AreAxes level s k rest → 1 ≤ k → k + length rest ≤ 4 → AreAxisItems s.system_type k items
 axes-seen l level s k [] [] p h low high = tt
@@ -153,7 +153,7 @@ system-letters : (t : SystemType) → IsWord (system_word t)
 system-letters types.Cartesian = (refl, refl)
 system-letters other = (refl, refl)
 
-abbrev head_arguments : DecimalLaws → (level : Level) (s : SystemParts) → IsSystem s →
+abbrev head_arguments : LowerLaws → (level : Level) (s : SystemParts) → IsSystem s →
     List (Argument level 2 class.CoordinateSystem)
 head_arguments l level s h =
     one-of (word-made level 2 class.CoordinateSystem (system_word s.system_type) (system-letters s.system_type)
@@ -166,7 +166,7 @@ known-type : (t : SystemType) (words : List Item) (fault : RefusedAt) →
 known-type t words fault h =
     none-of UnknownType words (word_item (system_word t) ∷ []) fault h (λ p b. b.1 t refl, tt)
 
-pub head-made : DecimalLaws → (level : Level) (s : SystemParts) → IsSystem s → (p : ℕ) →
+pub head-made : LowerLaws → (level : Level) (s : SystemParts) → IsSystem s → (p : ℕ) →
     IsAcceptedNormal level class.CoordinateSystem 3 (at_place p (item_head (norm_system level s)))
 unfolding BreaksOwn is_keyword
 head-made l level s h =
@@ -180,7 +180,7 @@ pub record IsHeadItem (t : SystemType) (dimension : Value) (item : Item) : Type 
   pub words : ArePlaced (those class.CoordinateSystem class.Word (arguments item)) (word_item (system_word t) ∷ [])
   pub numbers : ArePlaced (those class.CoordinateSystem class.Number (arguments item)) (number_item dimension ∷ [])
 
-pub head-seen : DecimalLaws → (level : Level) (s : SystemParts) → IsSystem s → (p : ℕ) →
+pub head-seen : LowerLaws → (level : Level) (s : SystemParts) → IsSystem s → (p : ℕ) →
     IsHeadItem s.system_type s.dimension (at_place p (item_head (norm_system level s)))
 head-seen l level s h p =
     let look = arguments-seen level 2 class.CoordinateSystem (codes "CS") _ _ (head_arguments l level s h) refl p in

@@ -9,7 +9,7 @@ use Rattle.crs_value.specs.declared.values.level.Level.{Level}
 use Rattle.crs_value.specs.declared.values.level.Level.TheVariants as levels
 use Rattle.crs_value.specs.Sound.{Each}
 use Rattle.crs_matching.specs.Prelude.{usages_of, with_bare}
-use Rattle.crs_normal.specs.DecimalLaws.{DecimalLaws}
+use Rattle.crs_normal.specs.LowerLaws.{LowerLaws}
 use Rattle.crs_normal.specs.NormalOwn.{Ascend, HasTail, Rise, Lacks, bare_classes}
 use Rattle.crs_normal.specs.Prelude.{in_order, text_node, item_usage, norm_usage, set_usages}
 use Rattle.crs_normal.proofs.made.AscendLemmas.{set-ascends, set-each}
@@ -31,7 +31,7 @@ usages-sound t h = by t.bare_parts h.bare_parts
     by None u = h.usages
     by (Some bare) u = (u, h.usages)
 
-pub usages-made : DecimalLaws → (level : Level) (most : ℕ) (parent : Class) (us : List UsageParts) → 5 ≤ most →
+pub usages-made : LowerLaws → (level : Level) (most : ℕ) (parent : Class) (us : List UsageParts) → 5 ≤ most →
     class_named parent (codes "USAGE") ≡ Some class.Usage → Each IsUsage us → Each (Made level most parent class.Usage)
     (map item_usage (set_usages level us))
 unfolding set_usages
@@ -82,7 +82,7 @@ remarks-made level most c t deep n h =
     (a-text class.Remark (codes "REMARK") (refl, refl) refl refl (λ item. tt) (λ item fault b. b) n.remark one refl)
     (kept_one level t.remark) (kept-if_some (λ l. IsText) level t.remark h.remark)
 
-abbrev pub tail_arguments : DecimalLaws → (level : Level) (most : ℕ) (c : Class) (t : TailParts) → 5 ≤ most →
+abbrev pub tail_arguments : LowerLaws → (level : Level) (most : ℕ) (c : Class) (t : TailParts) → 5 ≤ most →
     NamesTail c → IsTail t → List (Argument level most c)
 tail_arguments l level most c t deep n h =
     each-of class.Usage item_usage (set_usages level (usages_of t)) None

@@ -9,7 +9,7 @@ use Rattle.crs_shape.specs.declared.unit_kind.UnitKind.TheVariants as kinds
 use Rattle.crs_shape.specs.Prelude.{is_keyword, class_named, slots_of, unit_slots, unit_word}
 use Rattle.crs_value.specs.Prelude.{IsAboveZero, NotAbove, AnyOf, OfUnit, those, ReadsNumber, IsUnit, UnitParts, Own as BreaksOwn}
 use Rattle.crs_value.specs.declared.values.level.Level.{Level}
-use Rattle.crs_normal.specs.DecimalLaws.{DecimalLaws}
+use Rattle.crs_normal.specs.LowerLaws.{LowerLaws}
 use Rattle.crs_normal.specs.AcceptedNormal.{IsKindIn, IsAcceptedNormal}
 use Rattle.crs_normal.specs.Normal.{IsFirstKeyword}
 use Rattle.crs_normal.specs.NormalOwn.{HasOwnForm}
@@ -22,13 +22,13 @@ use Rattle.crs_normal.proofs.made.ArgumentLemmas.{Argument, fit, made-of, number
 -- ---- numbers
 
 -- a number that is written plainly reads as its value alone
-pub reads-one : DecimalLaws → (v value : Value) (item : Item) (p : ℕ) → IsNormal v →
+pub reads-one : LowerLaws → (v value : Value) (item : Item) (p : ℕ) → IsNormal v →
     item ≡ at_place p (number_item v) → ReadsNumber item value → value ≡ v
 reads-one l v value item p n e r =
     let d : ReadsNumber (at_place p (number_item v)) value = subst (λ i. ReadsNumber i value) e r in
     l.denotes_one (plain v) value v d.0 n d.1 (l.denotes v n)
 
-pub not-below : DecimalLaws → (v : Value) (items : List Item) (fault : RefusedAt) → IsNormal v → IsAboveZero v →
+pub not-below : LowerLaws → (v : Value) (items : List Item) (fault : RefusedAt) → IsNormal v → IsAboveZero v →
     ArePlaced items (number_item v ∷ []) →
     ¬ (AnyOf NotAbove items fault)
 not-below l v items fault n a h =
@@ -66,24 +66,24 @@ unit-names-id c kind k = rw (keyword-names c (codes "ID")) (rw (unit-class c kin
 abbrev pub unit_as : Level → UnitKind → UnitParts → UnitParts
 unit_as level kind u = record { kind = kind; name = u.name; factor = u.factor; identifiers = set_idents level u.identifiers }
 
-abbrev pub unit-arguments : DecimalLaws → (level : Level) (c : Class) (kind : UnitKind) (u : UnitParts) →
+abbrev pub unit-arguments : LowerLaws → (level : Level) (c : Class) (kind : UnitKind) (u : UnitParts) →
     IsKindIn c kind → IsUnit u → List (Argument level 2 c)
 unit-arguments l level c kind u k h =
     text-of u.name h.name ∷ number-of l u.factor h.factor ∷
     ids-of l u.identifiers (omega arith) (unit-names-id c kind k) h.identifiers ∷ []
 
-pub unit-fits : (l : DecimalLaws) (level : Level) (c : Class) (kind : UnitKind) (u : UnitParts) (k : IsKindIn c kind)
+pub unit-fits : (l : LowerLaws) (level : Level) (c : Class) (kind : UnitKind) (u : UnitParts) (k : IsKindIn c kind)
     (h : IsUnit u) → fit (slots_of c) (unit-arguments l level c kind u k h) ≡ true
 unit-fits l level c kind u k h = rw (unit-class c kind k).0 refl
 
-pub unit-unbroken : DecimalLaws → (c : Class) (kind : UnitKind) (u : UnitParts) → IsKindIn c kind → IsUnit u →
+pub unit-unbroken : LowerLaws → (c : Class) (kind : UnitKind) (u : UnitParts) → IsKindIn c kind → IsUnit u →
     (item : Item) (fault : RefusedAt) → ArePlaced (those c class.Number (arguments item)) (number_item u.factor ∷ []) →
     ¬ (BreaksOwn c item fault)
 unit-unbroken l c kind u k h item fault numbers b =
     not-below l u.factor (those c class.Number (arguments item)) fault h.factor h.above_zero numbers
     ((unit-class c kind k).4 item fault b)
 
-pub unit-made : DecimalLaws → (level : Level) (c : Class) (kind : UnitKind) (u : UnitParts) → IsKindIn c kind →
+pub unit-made : LowerLaws → (level : Level) (c : Class) (kind : UnitKind) (u : UnitParts) → IsKindIn c kind →
     IsUnit u → (p : ℕ) →
     IsAcceptedNormal level c 3 (at_place p (item_unit (unit_as level kind u)))
 unit-made l level c kind u k h =

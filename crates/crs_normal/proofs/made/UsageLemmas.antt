@@ -7,7 +7,7 @@ use Rattle.crs_shape.specs.Prelude.{is_keyword, class_in, class_named, slots_of}
 use Rattle.crs_value.specs.declared.values.level.Level.{Level}
 use Rattle.crs_value.specs.declared.values.level.Level.TheVariants as levels
 use Rattle.crs_value.specs.Prelude.{those, IsBox, IsExtent, IsUsage, BoxParts, ExtentParts, SaysSome, UsageParts, Own as BreaksOwn}
-use Rattle.crs_normal.specs.DecimalLaws.{DecimalLaws}
+use Rattle.crs_normal.specs.LowerLaws.{LowerLaws}
 use Rattle.crs_normal.specs.AcceptedNormal.{IsAcceptedNormal}
 use Rattle.crs_normal.specs.Prelude.{node_from, item_unit, norm_length, item_box, item_extent, item_usage, norm_extent, norm_usage}
 use Rattle.crs_normal.proofs.made.EllipsoidLemmas.{length-argument, placed-some}
@@ -21,7 +21,7 @@ use Rattle.crs_normal.proofs.texts.SegmentLemmas.{some-imp}
 
 -- ---- boxes
 
-pub box-made : DecimalLaws → (level : Level) (b : BoxParts) → IsBox b → (p : ℕ) →
+pub box-made : LowerLaws → (level : Level) (b : BoxParts) → IsBox b → (p : ℕ) →
     IsAcceptedNormal level class.BoundingBox 1 (at_place p (item_box b))
 unfolding BreaksOwn class_named is_keyword
 box-made l level b h =
@@ -31,7 +31,7 @@ box-made l level b h =
 
 -- ---- extents
 
-pub extent-made : DecimalLaws → (level : Level) (e : ExtentParts) → IsExtent e → (p : ℕ) →
+pub extent-made : LowerLaws → (level : Level) (e : ExtentParts) → IsExtent e → (p : ℕ) →
     IsAcceptedNormal level class.VerticalExtent 4 (at_place p (item_extent (norm_extent level e)))
 unfolding BreaksOwn class_named is_keyword
 extent-made l level e h =
@@ -58,7 +58,7 @@ from-made level most c keyword (More first others) all some same letters known w
 usage-node : (u : UsageParts) → SaysSome u → IsNode (item_usage (norm_usage u))
 usage-node u s = usage-is-node (norm_usage u) (says-kept u s)
 
-pub usage-made : DecimalLaws → (u : UsageParts) → IsUsage u → (p : ℕ) →
+pub usage-made : LowerLaws → (u : UsageParts) → IsUsage u → (p : ℕ) →
     IsAcceptedNormal levels.Full class.Usage 5 (at_place p (item_usage (norm_usage u)))
 unfolding BreaksOwn class_named is_keyword
 usage-made l u h =

@@ -7,12 +7,12 @@ use Rattle.crs_value.specs.Prelude.{VerticalParts, IsVertical, Own as BreaksOwn}
 use Rattle.crs_value.specs.declared.values.frame.Frame.{Frame}
 use Rattle.crs_value.specs.declared.values.frame.Frame.TheVariants as frame
 use Rattle.crs_value.specs.declared.values.level.Level.{Level}
-use Rattle.crs_normal.specs.DecimalLaws.{DecimalLaws}
+use Rattle.crs_normal.specs.LowerLaws.{LowerLaws}
 use Rattle.crs_normal.specs.AcceptedNormal.{IsAcceptedNormal, vertical_frame_class}
 use Rattle.crs_normal.specs.Prelude.{item_geoid_model, norm_geoid_model, set_geoid_models, item_vertical, norm_vertical, item_frame, norm_frame}
 use Rattle.crs_normal.proofs.made.AscendLemmas.{set-ascends}
 use Rattle.crs_normal.proofs.made.SystemLemmas.{IsFew}
-use Rattle.crs_normal.proofs.made.BehindLemmas.{AxisEach, few-system, behind_arguments, vertical-names}
+use Rattle.crs_normal.proofs.made.BehindLemmas.{few-system, behind_arguments, vertical-names}
 use Rattle.crs_normal.proofs.made.DynamicLemmas.{dynamic-of}
 use Rattle.crs_normal.proofs.made.FrameLemmas.{vertical-frame-made}
 use Rattle.crs_normal.proofs.made.NamedLemmas.{geoid-model-made}
@@ -31,7 +31,7 @@ vertical-named level (frame.Ensemble e) = keyword-names class.VerticalCrs (codes
 
 -- ---- vertical CRSs
 
-abbrev vertical_arguments : DecimalLaws → (level : Level) (g : VerticalParts) → IsFew g.system → IsVertical g →
+abbrev vertical_arguments : LowerLaws → (level : Level) (g : VerticalParts) → IsFew g.system → IsVertical g →
     List (Argument level 5 class.VerticalCrs)
 vertical_arguments l level g few h =
     text-of g.name h.name ∷
@@ -44,11 +44,11 @@ vertical_arguments l level g few h =
     tail_arguments l level 5 class.VerticalCrs g.tail (omega arith) vertical-names.tails h.tail) (omega arith)
     vertical-names.systems few
 
-pub vertical-made : DecimalLaws → AxisEach → (level : Level) (g : VerticalParts) → IsVertical g → (p : ℕ) →
+pub vertical-made : LowerLaws → (level : Level) (g : VerticalParts) → IsVertical g → (p : ℕ) →
     IsAcceptedNormal level class.VerticalCrs 6 (at_place p (item_vertical (norm_vertical level g)))
 unfolding BreaksOwn is_keyword set_geoid_models
-vertical-made l each_at level g h =
-    let few = few-system l each_at (dimensions_of class.VerticalCrs) small-vertical g.system h.system h.dimension in
+vertical-made l level g h =
+    let few = few-system l (dimensions_of class.VerticalCrs) small-vertical g.system h.system h.dimension in
     let all = vertical_arguments l level g few h in
     let end = tail-orderly level g.tail in
     let models = set-ascends item_geoid_model (map (norm_geoid_model level) g.geoid_models) in

@@ -9,7 +9,7 @@ use Rattle.crs_value.specs.declared.values.level.Level.{Level}
 use Rattle.crs_value.specs.Prelude.{ReadsBox, ReadsExtent, IsUnit, IsUnitOf, IsBox, IsExtent, BoxParts, ExtentParts, UnitParts}
 use Rattle.crs_normal.specs.FormedWithin.{IsFormedWithin}
 use Rattle.crs_normal.specs.Prelude.{number_item, item_unit, norm_length, item_box, item_extent, norm_extent}
-use Rattle.crs_normal.specs.TextLaws.{TextLaws}
+use Rattle.crs_normal.specs.LowerLaws.{LowerLaws}
 use Rattle.crs_normal.proofs.texts.ItemLemmas.{fit-end, fit-node, fit-number, fit-opt, value-fit}
 use Rattle.crs_normal.proofs.texts.SegmentLemmas.{a-number, if-any, opt-field, seen, some-imp}
 use Rattle.crs_normal.proofs.members.MemberUnitLemmas.{number-read, unit-fit, unit-in, unit-kept, unit-read}
@@ -29,7 +29,7 @@ length-kept level (Some u) s = (unit-kept level kinds.Length u s.0, suits-kind k
 
 -- ---- boxes
 
-pub box-read : TextLaws → (b : BoxParts) → IsBox b → (place : ℕ) →
+pub box-read : LowerLaws → (b : BoxParts) → IsBox b → (place : ℕ) →
     ReadsBox class.BoundingBox (at_place place (item_box b)) b
 box-read laws b s place = record {
   south = number-read laws b.south s.south 0;
@@ -38,7 +38,7 @@ box-read laws b s place = record {
   east = number-read laws b.east s.east 0;
 }
 
-pub box-fit : TextLaws → (b : BoxParts) → IsBox b → IsFormedWithin 1 (item_box b)
+pub box-fit : LowerLaws → (b : BoxParts) → IsBox b → IsFormedWithin 1 (item_box b)
 box-fit laws b s =
     fit-node (codes "BBOX") (number_item b.south) (refl, refl) (value-fit laws 0 b.south s.south)
     (fit-number laws b.west s.west (fit-number laws b.north s.north (fit-number laws b.east s.east fit-end)))
@@ -51,7 +51,7 @@ pub record IsWrittenExtent (e : ExtentParts) : Type 0 where
   pub maximum : IsNormal e.maximum
   pub unit : IfSome e.unit IsLength
 
-pub extent-read : TextLaws → (e : ExtentParts) → IsWrittenExtent e → (place : ℕ) →
+pub extent-read : LowerLaws → (e : ExtentParts) → IsWrittenExtent e → (place : ℕ) →
     ReadsExtent class.VerticalExtent (at_place place (item_extent e)) e
 extent-read laws e s place =
     let look = seen class.VerticalExtent (a-number e.minimum ∷ a-number e.maximum ∷
@@ -65,7 +65,7 @@ extent-read laws e s place =
           (some-imp _ _ (λ u q. unit-read laws class.LengthUnit (keyword-names _ _) u q.0) e.unit s.unit);
     }
 
-pub extent-fit : TextLaws → (e : ExtentParts) → IsWrittenExtent e → IsFormedWithin 4 (item_extent e)
+pub extent-fit : LowerLaws → (e : ExtentParts) → IsWrittenExtent e → IsFormedWithin 4 (item_extent e)
 extent-fit laws e s =
     fit-node (codes "VERTICALEXTENT") (number_item e.minimum) (refl, refl) (value-fit laws 3 e.minimum s.minimum)
     (fit-number laws e.maximum s.maximum

@@ -11,7 +11,7 @@ use Rattle.crs_value.specs.Values.{IdentParts}
 use Rattle.crs_matching.specs.Prelude.{SameIdent, SameIdents}
 use Rattle.crs_normal.specs.FormedWithin.{IsFormedWithin}
 use Rattle.crs_normal.specs.Prelude.{in_order, code_item, is_short, node_of, opt, text_item, text_node, item_ident, set_idents}
-use Rattle.crs_normal.specs.TextLaws.{TextLaws}
+use Rattle.crs_normal.specs.LowerLaws.{LowerLaws}
 use Rattle.crs_normal.proofs.texts.ItemLemmas.{AreFit, IsWritable, fit-end, fit-leaf, fit-more, fit-node, fit-opt, number-single, told}
 use Rattle.crs_normal.proofs.texts.SegmentLemmas.{IsIn, Segment, a-text, either-item, may-be, seen, text-field}
 use Rattle.crs_normal.proofs.read.NameLemmas.{keyword-names}
@@ -20,13 +20,13 @@ use Rattle.crs_normal.proofs.made.LeafLemmas.{true-short}
 
 -- ---- a code: a number or a text
 
-short-single : TextLaws → (raw : List ℕ) → IsText raw → (b : Bool) → is_short raw ≡ b →
+short-single : LowerLaws → (raw : List ℕ) → IsText raw → (b : Bool) → is_short raw ≡ b →
     IsSingle (if b then number else text) raw
 short-single laws raw t false e = t
 short-single laws raw t true e =
-    let s = true-short raw e in number-single laws raw (laws.digits raw s.digits s.some s.few)
+    let s = true-short raw e in number-single laws raw (laws.digits_alone raw s.digits s.some s.few)
 
-pub code-fit : TextLaws → (n : ℕ) (raw : List ℕ) → IsText raw → IsFormedWithin n (code_item raw)
+pub code-fit : LowerLaws → (n : ℕ) (raw : List ℕ) → IsText raw → IsFormedWithin n (code_item raw)
 code-fit laws n raw t =
     fit-leaf n (if is_short raw then number else text) 0 raw (short-single laws raw t (is_short raw) refl)
 
@@ -103,7 +103,7 @@ pub fit-source : {n : ℕ} {rest : Siblings} (keyword : List ℕ) → IsWord key
     AreFit (suc n) rest → AreFit (suc n) (opt (text_node keyword) o rest)
 fit-source {n = n} keyword w = fit-opt (text_node keyword) IsText (λ raw. source-fit n keyword raw w)
 
-pub ident-fit : TextLaws → (x : IdentParts) → IsIdent x → IsFormedWithin 2 (item_ident x)
+pub ident-fit : LowerLaws → (x : IdentParts) → IsIdent x → IsFormedWithin 2 (item_ident x)
 ident-fit laws x s =
     fit-node (codes "ID") (text_item x.authority) (refl, refl) (text-fit 1 x.authority s.authority)
     (fit-more (code_item x.code) (code-fit laws 1 x.code s.code)
@@ -116,7 +116,7 @@ writable n item l f is = record { formed = f.0; is_node = is; within = omega (ar
 
 -- ---- identifiers as a set
 
-pub ident-told : TextLaws → IsReadOnce ReadsIdent → (a b : IdentParts) → IsIdent a → IsIdent b →
+pub ident-told : LowerLaws → IsReadOnce ReadsIdent → (a b : IdentParts) → IsIdent a → IsIdent b →
     item_text (item_ident a) ≡ item_text (item_ident b) → a ≡ b
 ident-told laws once =
     told item_ident (ReadsIdent class.Identifier) IsIdent laws (once class.Identifier)
@@ -134,7 +134,7 @@ ident-agrees a b = (
   λ s. rw (s.authority, s.code, s.version, s.citation, s.uri),
 )
 
-pub idents-agree : TextLaws → IsReadOnce ReadsIdent → (level : Level) (xs ys : List IdentParts) → Each IsIdent xs →
+pub idents-agree : LowerLaws → IsReadOnce ReadsIdent → (level : Level) (xs ys : List IdentParts) → Each IsIdent xs →
     Each IsIdent ys →
     (set_idents level xs ≡ set_idents level ys) ↔ SameIdents level xs ys
 unfolding set_idents

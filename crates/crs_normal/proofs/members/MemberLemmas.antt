@@ -10,7 +10,7 @@ use Rattle.crs_value.specs.Sound.{Each}
 use Rattle.crs_matching.specs.Prelude.{SameNamed, SameSet}
 use Rattle.crs_normal.specs.FormedWithin.{IsFormedWithin}
 use Rattle.crs_normal.specs.Prelude.{item_geoid_model, set_geoid_models, item_member, norm_member, set_members, each, node_of, text_item, item_ident}
-use Rattle.crs_normal.specs.TextLaws.{TextLaws}
+use Rattle.crs_normal.specs.LowerLaws.{LowerLaws}
 use Rattle.crs_normal.proofs.members.IdentLemmas.{idents-agree, text-fit, writable}
 use Rattle.crs_normal.proofs.texts.ItemLemmas.{fit-node, told}
 use Rattle.crs_normal.proofs.texts.SegmentLemmas.{a-text, seen}
@@ -32,7 +32,7 @@ named-read c keyword names n s place =
     (at_place place (item_named keyword n)) (place + length keyword) refl in
     record { name = refl; identifiers = identifiers-back look n.identifiers refl s.identifiers }
 
-named-fit : TextLaws → (keyword : List ℕ) → IsWord keyword → (n : NamedParts) → IsNamed n →
+named-fit : LowerLaws → (keyword : List ℕ) → IsWord keyword → (n : NamedParts) → IsNamed n →
     IsFormedWithin 3 (item_named keyword n)
 named-fit laws keyword w n s =
     fit-node keyword (text_item n.name) w (text-fit 2 n.name s.name)
@@ -42,7 +42,7 @@ pub named-kept : (level : Level) (n : NamedParts) → IsNamed n → IsNamed (nor
 named-kept level n s = record { name = s.name; identifiers = idents-sound level n.identifiers s.identifiers }
 
 -- the texts of two such values tell them
-pub named-told : TextLaws → IsReadOnce ReadsNamed → (c : Class) (keyword : List ℕ) → NamesId c → IsWord keyword →
+pub named-told : LowerLaws → IsReadOnce ReadsNamed → (c : Class) (keyword : List ℕ) → NamesId c → IsWord keyword →
     (level : Level) (a b : NamedParts) → IsNamed a → IsNamed b →
     item_text (item_named keyword (norm_member level a)) ≡ item_text (item_named keyword (norm_member level b)) →
     norm_member level a ≡ norm_member level b
@@ -53,7 +53,7 @@ named-told laws once c keyword names w level a b p q =
 
 -- ---- as sets
 
-pub members-agree : TextLaws → IsReadOnce ReadsIdent → IsReadOnce ReadsNamed → (level : Level) (xs ys : List NamedParts) →
+pub members-agree : LowerLaws → IsReadOnce ReadsIdent → IsReadOnce ReadsNamed → (level : Level) (xs ys : List NamedParts) →
     Each IsNamed xs → Each IsNamed ys →
     (set_members level xs ≡ set_members level ys) ↔ SameSet (SameNamed level) xs ys
 unfolding set_members
@@ -62,7 +62,7 @@ members-agree laws idents once level xs ys p q =
     (named-agrees (idents-agree laws idents) level)
     (named-told laws once class.Member (codes "MEMBER") (keyword-names _ _) (refl, refl) level) xs ys p q
 
-pub geoids-agree : TextLaws → IsReadOnce ReadsIdent → IsReadOnce ReadsNamed → (level : Level) (xs ys : List NamedParts) →
+pub geoids-agree : LowerLaws → IsReadOnce ReadsIdent → IsReadOnce ReadsNamed → (level : Level) (xs ys : List NamedParts) →
     Each IsNamed xs → Each IsNamed ys →
     (set_geoid_models level xs ≡ set_geoid_models level ys) ↔ SameSet (SameNamed level) xs ys
 unfolding set_geoid_models

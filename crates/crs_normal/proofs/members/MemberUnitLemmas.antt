@@ -13,7 +13,7 @@ use Rattle.crs_value.specs.Sound.{Each}
 use Rattle.crs_value.specs.Values.{IdentParts}
 use Rattle.crs_normal.specs.FormedWithin.{IsFormedWithin}
 use Rattle.crs_normal.specs.Prelude.{each, number_item, text_item, item_ident, item_unit, norm_unit}
-use Rattle.crs_normal.specs.TextLaws.{TextLaws}
+use Rattle.crs_normal.specs.LowerLaws.{LowerLaws}
 use Rattle.crs_normal.proofs.members.IdentLemmas.{ident-fit, ident-read, text-fit, writable}
 use Rattle.crs_normal.proofs.texts.ItemLemmas.{AreFit, fit-deeper, fit-each, fit-end, fit-node, fit-number, told}
 use Rattle.crs_normal.proofs.texts.SegmentLemmas.{IsIn, Seen, Segment, a-number, a-text, all-of, each-field, items_of, seen}
@@ -37,14 +37,14 @@ pub identifiers-back : {c : Class} {ss : List (Segment c)} {item : Item} → See
 identifiers-back look identifiers same s =
     each-field look class.Identifier item_ident _ _ same (each-so _ _ ident-read identifiers s)
 
-pub identifiers-fit : TextLaws → (n : ℕ) → 2 ≤ n → (identifiers : List IdentParts) → Each IsIdent identifiers →
+pub identifiers-fit : LowerLaws → (n : ℕ) → 2 ≤ n → (identifiers : List IdentParts) → Each IsIdent identifiers →
     AreFit n (each item_ident identifiers End)
 identifiers-fit laws n l identifiers s =
     fit-each item_ident IsIdent (λ x q. fit-deeper 2 n (item_ident x) l (ident-fit laws x q)) identifiers s fit-end
 
 -- ---- numbers
 
-pub number-read : TextLaws → (v : Value) → IsNormal v → (place : ℕ) → ReadsNumber (at_place place (number_item v)) v
+pub number-read : LowerLaws → (v : Value) → IsNormal v → (place : ℕ) → ReadsNumber (at_place place (number_item v)) v
 number-read laws v h place = (h, laws.denotes v h)
 
 -- ---- units
@@ -53,7 +53,7 @@ pub unit-in : (c k : Class) (kind : UnitKind) → class_named c (unit_word kind)
     u.kind ≡ kind → IsIn c k (item_unit u)
 unit-in c k kind e u same = ap (λ j. class_named c (unit_word j)) same ∙ e
 
-pub unit-read : TextLaws → (c : Class) → NamesId c → (u : UnitParts) → IsUnit u → (place : ℕ) →
+pub unit-read : LowerLaws → (c : Class) → NamesId c → (u : UnitParts) → IsUnit u → (place : ℕ) →
     ReadsUnit c (at_place place (item_unit u)) u
 unit-read laws c e u s place =
     let look = seen c (a-text u.name ∷ a-number u.factor ∷ identifiers-of e u.identifiers ∷ [])
@@ -64,13 +64,13 @@ unit-read laws c e u s place =
       identifiers = identifiers-back look u.identifiers refl s.identifiers;
     }
 
-pub unit-fit : TextLaws → (u : UnitParts) → IsUnit u → IsFormedWithin 3 (item_unit u)
+pub unit-fit : LowerLaws → (u : UnitParts) → IsUnit u → IsFormedWithin 3 (item_unit u)
 unit-fit laws u s =
     fit-node (unit_word u.kind) (text_item u.name) (unit-letters u.kind) (text-fit 2 u.name s.name)
     (fit-number laws u.factor s.factor (identifiers-fit laws 2 (omega arith) u.identifiers s.identifiers))
 
 -- the class is any in which `ID` is an identifier
-pub unit-told : TextLaws → IsReadOnce ReadsUnit → (a b : UnitParts) → IsUnit a → IsUnit b →
+pub unit-told : LowerLaws → IsReadOnce ReadsUnit → (a b : UnitParts) → IsUnit a → IsUnit b →
     item_text (item_unit a) ≡ item_text (item_unit b) → a ≡ b
 unit-told laws once =
     told item_unit (ReadsUnit class.LengthUnit) IsUnit laws (once class.LengthUnit)

@@ -15,7 +15,7 @@ use Rattle.crs_value.specs.Values.{IdentParts}
 use Rattle.crs_matching.specs.Prelude.{SameParameter, SameSet}
 use Rattle.crs_normal.specs.Prelude.{unit_class, item_parameter, norm_parameter, set_parameters, each, node_of, number_item, opt, text_item, item_ident, item_unit, norm_units}
 use Rattle.crs_normal.specs.FormedWithin.{IsFormedWithin}
-use Rattle.crs_normal.specs.TextLaws.{TextLaws}
+use Rattle.crs_normal.specs.LowerLaws.{LowerLaws}
 use Rattle.crs_normal.proofs.members.IdentLemmas.{idents-agree, text-fit, writable}
 use Rattle.crs_normal.proofs.texts.ItemLemmas.{fit-node, fit-number, fit-opt, told}
 use Rattle.crs_normal.proofs.texts.SegmentLemmas.{IsIn, MayIn, Seen, Segment, a-number, a-text, if-any, items_of, lacks, placed-at, seen}
@@ -40,7 +40,7 @@ module _ {c : Class} {ss : List (Segment c)} {item : Item} (look : Seen c ss ite
   Stands (Some u) (d ∷ ds) =
       NamesId d × (items_of d ss ≡ item_unit u ∷ []) ⊎ (items_of d ss ≡ []) × Stands (Some u) ds
 
-  unit-found : TextLaws → (o : Option UnitParts) → IfSome o IsUnit → (ds : List Class) → Stands o ds →
+  unit-found : LowerLaws → (o : Option UnitParts) → IfSome o IsUnit → (ds : List Class) → Stands o ds →
       ReadsUnitOf ds c item o
   unit-found laws None s [] h = tt
   unit-found laws (Some u) s [] h = absurd h
@@ -50,7 +50,7 @@ module _ {c : Class} {ss : List (Segment c)} {item : Item} (look : Seen c ss ite
       placed-at look d (λ l. ReadsElse (ReadsAsUnit d) l (ReadsUnitOf ds c item) (Some u)) (item_unit u) h.1
       (unit-read laws d h.0 u s)
 
-module _ (laws : TextLaws) (name : List ℕ) (value : Value) (identifiers : List IdentParts) (s : Each IsIdent identifiers) where
+module _ (laws : LowerLaws) (name : List ℕ) (value : Value) (identifiers : List IdentParts) (s : Each IsIdent identifiers) where
   abbrev whole : Option UnitParts → ℕ → Item
   whole o place =
       at_place place
@@ -88,7 +88,7 @@ module _ (laws : TextLaws) (name : List ℕ) (value : Value) (identifiers : List
 
 -- ---- a parameter
 
-pub parameter-read : TextLaws → (p : ParameterParts) → IsParameter p → (place : ℕ) →
+pub parameter-read : LowerLaws → (p : ParameterParts) → IsParameter p → (place : ℕ) →
     ReadsParameter class.Parameter (at_place place (item_parameter p)) p
 parameter-read laws p s place =
     let both = both-read laws p.name p.value p.identifiers s.identifiers p.unit s.unit place in record {
@@ -98,7 +98,7 @@ parameter-read laws p s place =
       identifiers = both.1;
     }
 
-pub parameter-fit : TextLaws → (p : ParameterParts) → IsParameter p → IsFormedWithin 4 (item_parameter p)
+pub parameter-fit : LowerLaws → (p : ParameterParts) → IsParameter p → IsFormedWithin 4 (item_parameter p)
 parameter-fit laws p s =
     fit-node (codes "PARAMETER") (text_item p.name) (refl, refl) (text-fit 3 p.name s.name)
     (fit-number laws p.value s.value (fit-opt item_unit IsUnit (unit-fit laws) p.unit s.unit
@@ -117,18 +117,18 @@ parameter-kept level p s = record {
   identifiers = idents-sound level p.identifiers s.identifiers;
 }
 
-pub parameter-told : TextLaws → IsReadOnce ReadsParameter → (a b : ParameterParts) → IsParameter a → IsParameter b →
+pub parameter-told : LowerLaws → IsReadOnce ReadsParameter → (a b : ParameterParts) → IsParameter a → IsParameter b →
     item_text (item_parameter a) ≡ item_text (item_parameter b) → a ≡ b
 parameter-told laws once =
     told item_parameter (ReadsParameter class.Parameter) IsParameter laws (once class.Parameter)
     (λ x s. writable 4 (item_parameter x) (omega arith) (parameter-fit laws x s) tt) (parameter-read laws)
 
-pub parameters-agree : TextLaws → IsReadOnce ReadsIdent → IsReadOnce ReadsParameter → (level : Level) (xs ys : List ParameterParts) →
+pub parameters-agree : LowerLaws → IsReadOnce ReadsIdent → IsReadOnce ReadsParameter → (level : Level) (xs ys : List ParameterParts) →
     Each IsParameter xs → Each IsParameter ys →
     (set_parameters level xs ≡ set_parameters level ys) ↔ SameSet (SameParameter level) xs ys
 unfolding set_parameters
 parameters-agree laws idents once level xs ys p q =
     set-agrees (norm_parameter level) (λ x. item_text (item_parameter x)) IsParameter (SameParameter level)
-    (parameter-agrees laws.one_value (idents-agree laws idents) level)
+    (parameter-agrees laws.normal_is_one (idents-agree laws idents) level)
     (λ a b s t. parameter-told laws once (norm_parameter level a) (norm_parameter level b) (parameter-kept level a s)
     (parameter-kept level b t)) xs ys p q

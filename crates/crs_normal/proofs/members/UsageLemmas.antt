@@ -9,7 +9,7 @@ use Rattle.crs_value.specs.Sound.{Each}
 use Rattle.crs_matching.specs.Prelude.{SameUsage, SameSet}
 use Rattle.crs_normal.specs.FormedWithin.{IsFormedWithin}
 use Rattle.crs_normal.specs.Prelude.{node_from, opt, text_node, item_box, item_extent, item_usage, norm_extent, norm_usage, set_usages}
-use Rattle.crs_normal.specs.TextLaws.{TextLaws}
+use Rattle.crs_normal.specs.LowerLaws.{LowerLaws}
 use Rattle.crs_normal.proofs.members.ExtentLemmas.{IsWrittenExtent, box-fit, box-read, extent-fit, extent-kept, extent-read}
 use Rattle.crs_normal.proofs.members.IdentLemmas.{fit-source, idents-agree, writable}
 use Rattle.crs_normal.proofs.texts.ItemLemmas.{AreFit, fit-deeper, fit-end, fit-node, fit-opt, from-arguments, told}
@@ -33,7 +33,7 @@ usage_items u =
     opt (text_node (codes "SCOPE")) u.scope (opt (text_node (codes "AREA")) u.area
     (opt item_box u.bbox (opt item_extent u.extent End)))
 
-pub usage-read : TextLaws → (u : UsageParts) → IsWrittenUsage u → (place : ℕ) →
+pub usage-read : LowerLaws → (u : UsageParts) → IsWrittenUsage u → (place : ℕ) →
     ReadsUsage class.Usage (at_place place (item_usage u)) u
 usage-read laws u s place =
     let look = seen class.Usage (may-be class.Scope (text_node (codes "SCOPE")) u.scope (λ x. keyword-names _ _) ∷
@@ -56,7 +56,7 @@ from-fit n keyword End w g = (w, omega arith)
 from-fit n keyword (More first others) w g =
     fit-node keyword first w (g.formed.0, omega arith) (record { formed = g.formed.1; within = omega arith })
 
-pub usage-fit : TextLaws → (u : UsageParts) → IsWrittenUsage u → IsFormedWithin 5 (item_usage u)
+pub usage-fit : LowerLaws → (u : UsageParts) → IsWrittenUsage u → IsFormedWithin 5 (item_usage u)
 usage-fit laws u s =
     from-fit 4 (codes "USAGE") (usage_items u) (refl, refl)
     (fit-source (codes "SCOPE") (refl, refl) u.scope s.scope (fit-source (codes "AREA") (refl, refl) u.area s.area
@@ -96,17 +96,17 @@ usage-kept u s = record {
   some = says-kept u s.some;
 }
 
-pub usage-told : TextLaws → IsReadOnce ReadsUsage → (a b : UsageParts) → IsWrittenUsage a → IsWrittenUsage b →
+pub usage-told : LowerLaws → IsReadOnce ReadsUsage → (a b : UsageParts) → IsWrittenUsage a → IsWrittenUsage b →
     item_text (item_usage a) ≡ item_text (item_usage b) → a ≡ b
 usage-told laws once =
     told item_usage (ReadsUsage class.Usage) IsWrittenUsage laws (once class.Usage)
     (λ x s. writable 5 (item_usage x) (omega arith) (usage-fit laws x s) (usage-is-node x s.some)) (usage-read laws)
 
-pub usages-agree : TextLaws → IsReadOnce ReadsIdent → IsReadOnce ReadsUsage → (level : Level) (xs ys : List UsageParts) →
+pub usages-agree : LowerLaws → IsReadOnce ReadsIdent → IsReadOnce ReadsUsage → (level : Level) (xs ys : List UsageParts) →
     Each IsUsage xs → Each IsUsage ys →
     (set_usages level xs ≡ set_usages level ys) ↔ SameSet SameUsage (kept level xs) (kept level ys)
 unfolding set_usages
 usages-agree laws idents once level xs ys p q =
-    set-agrees norm_usage (λ u. item_text (item_usage u)) IsUsage SameUsage (usage-agrees laws.one_value (idents-agree laws idents))
+    set-agrees norm_usage (λ u. item_text (item_usage u)) IsUsage SameUsage (usage-agrees laws.normal_is_one (idents-agree laws idents))
     (λ a b s t. usage-told laws once (norm_usage a) (norm_usage b) (usage-kept a s) (usage-kept b t))
     (kept level xs) (kept level ys) (kept-each (λ l. IsUsage) level xs p) (kept-each (λ l. IsUsage) level ys q)

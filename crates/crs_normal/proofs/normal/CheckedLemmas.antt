@@ -2,11 +2,10 @@
 use Rattle.std.proofs.Common.{◌≡◌, ℕ, ◌≤◌, length, drop, true, false, inl, inr, Option, List, [], ◌∷◌, if◌then◌else◌, refl, sym, ◌∙◌, ap, subst, arith}
 use Rattle.crs_text.specs.Prelude.{Item, End, RefusedAt, arguments}
 use Rattle.crs_shape.specs.declared.class.Class.{Class}
-use Rattle.crs_shape.specs.Prelude.{Shaped, SlotParts, slots_of}
+use Rattle.crs_shape.specs.Prelude.{SlotParts, slots_of}
 use Rattle.crs_value.specs.Prelude.{AnyOf, AtClass, Breaks, BreaksAmong, Own, is_a, those, ReadsElse, ReadsFirst, IsRepeated}
 use Rattle.crs_value.specs.Sound.{Each}
 use Rattle.crs_value.specs.declared.values.level.Level.{Level}
-use Rattle.crs_normal.specs.Normal.{IsNormalIn}
 use Rattle.crs_normal.specs.WithoutPlaces.{without_places}
 use Rattle.crs_normal.proofs.members.PairLemmas.{Alone}
 use Rattle.crs_normal.proofs.normal.FormLemmas.{Form, Looked, Opened, by-slots, found-in}
@@ -33,14 +32,6 @@ pub unbroken-by-slots : {V : Type 0} {level : Level} {parent c : Class} {slot : 
 unbroken-by-slots are_slots by =
     by-slots are_slots (λ item keyword x o checked. by item keyword x o
     (λ fault b. checked.0 fault (o.breaks fault (inl b))) (λ fault b. checked.0 fault (o.breaks fault (inr b))) checked.1)
-
--- the form of an item of which the shape, what is normal and that it breaks no check are told apart
-pub its-unbroken : {V : Type 0} {d : Class} {R : Item → V → Type 0} {spell : Level → V → Item} →
-    ((level : Level) (c : Class) → Form level c d (Checked d R) (spell level)) → (level : Level) (parent : Class)
-    (item : Item) (value : V) → Shaped d item → IsNormalIn level parent d item → IsUnbroken d item → R item value →
-    without_places item ≡ spell level value
-its-unbroken form level parent item value shaped normal free reads =
-    form level parent item value (record { shaped = shaped; normal = normal }) (free, reads)
 
 -- what may not be repeated
 pub once-only : (found : List Item) {front : List Item} → found ≡ front →

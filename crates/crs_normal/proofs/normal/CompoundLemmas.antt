@@ -11,10 +11,10 @@ use Rattle.crs_value.specs.declared.values.crs.Crs.TheVariants as crs
 use Rattle.crs_value.specs.declared.values.level.Level.{Level}
 use Rattle.crs_normal.specs.WithoutPlaces.{without_places}
 use Rattle.crs_normal.specs.SpelledCrs.{item_compound, item_crs, item_horizontal, norm_compound, norm_crs, norm_horizontal}
+use Rattle.crs_normal.specs.LowerLaws.{LowerLaws}
 use Rattle.crs_normal.proofs.normal.CheckedLemmas.{Checked, IsUnbroken, by-class, first-checked, first-or-none, unbroken-by-slots, unbroken-in}
 use Rattle.crs_normal.proofs.normal.FormLemmas.{Form, IsGood, Looked, Opened, front_in, good-in, one-in, only-in, spelled-by}
 use Rattle.crs_normal.proofs.normal.GeodeticLemmas.{geodetic-form, geographic-form}
-use Rattle.crs_normal.proofs.normal.HeadLemmas.{Laws}
 use Rattle.crs_normal.proofs.normal.LeafLemmas.{text-form}
 use Rattle.crs_normal.proofs.members.PairLemmas.{Alone}
 use Rattle.crs_normal.proofs.normal.ProjectedLemmas.{projected-form, vertical-form}
@@ -31,7 +31,7 @@ as-one {level = level} {parent = parent} c d R form item value good (free, (same
     form item value (subst (λ (x : Class). IsGood level parent x item) same good)
     (subst (λ (x : Class). Checked x (R x) item value) same (free, reads))
 
-horizontal-form : Laws → (level : Level) (parent c : Class) →
+horizontal-form : LowerLaws → (level : Level) (parent c : Class) →
     Form level parent c (Checked c (ReadsAsHorizontal c)) (λ x. item_horizontal (norm_horizontal level x))
 horizontal-form laws level parent class.GeodeticCrs item (horizontal.Geodetic g) good reads =
     geodetic-form laws level parent item g good (reads.0, reads.1.1)
@@ -42,7 +42,7 @@ horizontal-form laws level parent c item (horizontal.Projected p) good reads =
     as-one c class.ProjectedCrs ReadsProjected (projected-form laws level parent) item p good reads
 
 -- the one of three classes
-horizontal-in : Laws → {level : Level} {c : Class} {slots : List SlotParts} {item : Item} {keyword : List ℕ}
+horizontal-in : LowerLaws → {level : Level} {c : Class} {slots : List SlotParts} {item : Item} {keyword : List ℕ}
     (o : Opened level c slots item keyword) (front : List Item) (p : Alone front) →
     Looked o class.GeodeticCrs (those c class.GeodeticCrs (onto front End)) →
     Looked o class.GeographicCrs (those c class.GeographicCrs (onto front End)) →
@@ -74,7 +74,7 @@ horizontal-in laws {level = level} {c = c} {item = item} o front p geodetic geog
 
 -- ---- compound CRSs
 
-pub compound-form : Laws → (level : Level) (c : Class) →
+pub compound-form : LowerLaws → (level : Level) (c : Class) →
     Form level c class.CompoundCrs (Checked class.CompoundCrs (ReadsCompound class.CompoundCrs))
     (λ p. item_compound (norm_compound level p))
 unfolding Own
@@ -95,7 +95,7 @@ compound-form laws level c =
 
 -- ---- CRSs of any kind
 
-pub crs-form : Laws → (c : Class) (level : Level) (parent : Class) →
+pub crs-form : LowerLaws → (c : Class) (level : Level) (parent : Class) →
     Form level parent c (Checked c (ReadsCrs c)) (λ x. item_crs (norm_crs level x))
 crs-form laws c level parent item (crs.Geodetic x) good reads =
     horizontal-form laws level parent c item (horizontal.Geodetic x) good reads

@@ -133,18 +133,6 @@ pub by-slots : {V : Type 0} {level : Level} {parent c : Class} {slot : SlotParts
     without_places item ≡ spell x) → Form level parent c R spell
 by-slots are_slots by item x good reads = let q = opened item are_slots good in by item q.0 x q.1 reads
 
--- forms of items of which the shape and what is normal are told apart
-pub its-in : {V : Type 0} {level : Level} {c d : Class} {R : Item → V → Type 0} {spell : V → Item} →
-    Form level c d R spell → (item : Item) (value : V) → Shaped d item → IsNormalIn level c d item → R item value →
-    without_places item ≡ spell value
-its-in form item value shaped normal reads = form item value (record { shaped = shaped; normal = normal }) reads
-
-pub its : {V : Type 0} {d : Class} {R : Item → V → Type 0} {spell : Level → V → Item} →
-    ((level : Level) (c : Class) → Form level c d R (spell level)) → (level : Level) (parent : Class) (item : Item)
-    (value : V) → Shaped d item → IsNormalIn level parent d item → R item value →
-    without_places item ≡ spell level value
-its form level parent = its-in (form level parent)
-
 -- an optional part, where a good item is what is written for its value
 pub optional-by : {V : Type 0} (Good : Item → Type 0) {R : Item → V → Type 0} {spell : V → Item} →
     ((item : Item) (value : V) → Good item → R item value → without_places item ≡ spell value) →

@@ -13,6 +13,7 @@ use Rattle.crs_normal.specs.NormalOwn.{Has, HasAxes, HasTail}
 use Rattle.crs_normal.specs.SpelledCrs.{geodetic_keyword, item_geodetic, norm_geodetic}
 use Rattle.crs_normal.specs.SpelledFrames.{item_meridian, norm_given, norm_meridian}
 use Rattle.crs_normal.specs.SpelledDynamic.{item_dynamic, norm_dynamic}
+use Rattle.crs_normal.specs.LowerLaws.{LowerLaws}
 use Rattle.crs_normal.proofs.normal.CheckedLemmas.{Checked, unbroken-by-slots}
 use Rattle.crs_normal.proofs.normal.DimensionLemmas.{AreSmall, small-geodetic, small-geographic}
 use Rattle.crs_normal.proofs.normal.DynamicLemmas.{dynamic-form}
@@ -20,12 +21,12 @@ use Rattle.crs_normal.proofs.normal.EllipsoidLemmas.{meridian-form}
 use Rattle.crs_normal.proofs.normal.EnsembleLemmas.{frame-in, geodetic_ensemble-form}
 use Rattle.crs_normal.proofs.normal.FrameLemmas.{geodetic_datum-form}
 use Rattle.crs_normal.proofs.normal.FormLemmas.{Form, front_in, Opened, good-in, mapped-in, one-in, only-in, spelled-by, there-in}
-use Rattle.crs_normal.proofs.normal.HeadLemmas.{Laws, geographic-type, not-ellipsoidal}
+use Rattle.crs_normal.proofs.normal.HeadLemmas.{geographic-type, not-ellipsoidal}
 use Rattle.crs_normal.proofs.normal.LeafLemmas.{text-form}
 use Rattle.crs_normal.proofs.normal.SystemLemmas.{system-in}
 use Rattle.crs_normal.proofs.normal.TailLemmas.{plain_tail-in}
 
-geodetic-node : Laws → {level : Level} {c : Class} {item : Item} {keyword : List ℕ}
+geodetic-node : LowerLaws → {level : Level} {c : Class} {item : Item} {keyword : List ℕ}
     (o : Opened level c geodetic_slots item keyword) → Has c class.PrimeMeridian item → HasAxes c item → HasTail c item →
     ((t : SystemType) → AreSmall (dimensions_of c t)) → ((fault : RefusedAt) → ¬ (OfCrs (dimensions_of c) c item fault)) →
     ((fault : RefusedAt) → ¬ (BreaksAmong c (arguments item) fault)) → (x : GeodeticParts) → ReadsGeodetic c item x →
@@ -48,7 +49,7 @@ plain-keyword : (t : SystemType) → t ≢ types.Ellipsoidal → codes "GEODCRS"
 plain-keyword types.Ellipsoidal n = absurd (n refl)
 plain-keyword other n = refl
 
-pub geodetic-form : Laws → (level : Level) (c : Class) →
+pub geodetic-form : LowerLaws → (level : Level) (c : Class) →
     Form level c class.GeodeticCrs (Checked class.GeodeticCrs (ReadsGeodetic class.GeodeticCrs))
     (λ g. item_geodetic (norm_geodetic level g))
 unfolding Own
@@ -58,7 +59,7 @@ geodetic-form laws level c =
     (o.written ∙ plain-keyword x.system.system_type
     (not-ellipsoidal level class.GeodeticCrs _ (good-in o class.CoordinateSystem) o.own.0 x.system reads.system.head)))
 
-pub geographic-form : Laws → (level : Level) (c : Class) →
+pub geographic-form : LowerLaws → (level : Level) (c : Class) →
     Form level c class.GeographicCrs (Checked class.GeographicCrs (ReadsGeodetic class.GeographicCrs))
     (λ g. item_geodetic (norm_geodetic level g))
 unfolding Own

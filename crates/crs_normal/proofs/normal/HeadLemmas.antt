@@ -1,7 +1,7 @@
 -- What the checks say of a normal CRS: how many axes there are, and of which type its system is.
 use Rattle.std.proofs.Common.{◌≡◌, ◌≢◌, ℕ, suc, ◌+◌, ◌^◌, ◌≤◌, ◌<◌, length, inl, inr, ⊎_elim, List, [], ◌∷◌, codes, refl, ◌∙◌, ap, arith}
 use Rattle.std.proofs.lemmas.Bool.{cases_lt}
-use Rattle.crs_decimal.specs.Prelude.{Number, SameNumber, Value, exact, whole_number}
+use Rattle.crs_decimal.specs.Prelude.{SameNumber, Value, exact, whole_number}
 use Rattle.crs_text.specs.Prelude.{Item, arguments, RefusedAt}
 use Rattle.crs_shape.specs.declared.class.Class.{Class}
 use Rattle.crs_shape.specs.declared.class.Class.TheVariants as class
@@ -12,18 +12,10 @@ use Rattle.crs_value.specs.Prelude.{at, BadSystems, those, ReadsEach, ReadsFirst
 use Rattle.crs_value.specs.declared.values.level.Level.{Level}
 use Rattle.crs_normal.specs.NormalOwn.{words_in}
 use Rattle.crs_value.specs.Sound.{Each}
+use Rattle.crs_normal.specs.LowerLaws.{LowerLaws}
 use Rattle.crs_normal.proofs.normal.AxisLemmas.{type-form}
 use Rattle.crs_normal.proofs.normal.DimensionLemmas.{AreSmall, few-axes as count-small}
-use Rattle.crs_normal.proofs.normal.EllipsoidLemmas.{ZeroPlain}
 use Rattle.crs_normal.proofs.normal.FormLemmas.{IsGood, opened, raws-in}
-use Rattle.crs_normal.proofs.normal.LeafLemmas.{PlainIsOne}
-
--- the laws of decimals that are needed
-pub record Laws : Type 0 where
-  pub plain_one : PlainIsOne
-  pub zero_plain : ZeroPlain
-  pub symmetric : (a b : Number) → SameNumber a b → SameNumber b a
-  pub transitive : (a b c : Number) → SameNumber a b → SameNumber b c → SameNumber a c
 
 -- ---- how many axes there are
 
@@ -45,7 +37,7 @@ one-dimension : (dimensions : SystemType → List ℕ) (cs : Item) (more axes un
 one-dimension dimensions cs more axes units free t v type dimension other =
     free (at 23 cs) (inl (inl (inl (refl, (t, (v, (type, dimension, other)))))))
 
-pub few-axes : Laws → (dimensions : SystemType → List ℕ) → ((t : SystemType) → AreSmall (dimensions t)) →
+pub few-axes : LowerLaws → (dimensions : SystemType → List ℕ) → ((t : SystemType) → AreSmall (dimensions t)) →
     (systems axes units : List Item) → AreFree dimensions systems axes units →
     (x : SystemParts) → ReadsFirst ReadsHead systems x → length x.axes ≡ length axes → length x.axes + 1 < 2 ^ 64
 few-axes laws dimensions small [] axes units free x reads count = absurd reads

@@ -7,20 +7,20 @@ use Rattle.crs_value.specs.Prelude.{Own, ReadsBase, ReadsProjected, ReadsVertica
 use Rattle.crs_value.specs.declared.values.level.Level.{Level}
 use Rattle.crs_normal.specs.SpelledDynamic.{item_dynamic, norm_dynamic}
 use Rattle.crs_normal.specs.SpelledCrs.{item_projected, item_vertical, norm_projected, norm_vertical}
+use Rattle.crs_normal.specs.LowerLaws.{LowerLaws}
 use Rattle.crs_normal.proofs.normal.CheckedLemmas.{Checked, first-checked, unbroken-by-slots, unbroken-in}
 use Rattle.crs_normal.proofs.normal.DynamicLemmas.{dynamic-form}
 use Rattle.crs_normal.proofs.normal.EnsembleLemmas.{base-form, frame-in, vertical_ensemble-form}
 use Rattle.crs_normal.proofs.normal.FormLemmas.{Form, front_in, mapped-in, one-in, only-in, spelled-by}
 use Rattle.crs_normal.proofs.normal.FrameLemmas.{vertical_datum-form}
 use Rattle.crs_normal.proofs.normal.DimensionLemmas.{small-projected, small-vertical}
-use Rattle.crs_normal.proofs.normal.HeadLemmas.{Laws}
 use Rattle.crs_normal.proofs.normal.LeafLemmas.{text-form}
 use Rattle.crs_normal.proofs.normal.NamedLemmas.{conversion-form}
 use Rattle.crs_normal.proofs.normal.RankLemmas.{vertical_end-as}
 use Rattle.crs_normal.proofs.normal.SystemLemmas.{system-in}
 use Rattle.crs_normal.proofs.normal.TailLemmas.{plain_tail-in, tail-in}
 
-pub projected-form : Laws → (level : Level) (c : Class) →
+pub projected-form : LowerLaws → (level : Level) (c : Class) →
     Form level c class.ProjectedCrs (Checked class.ProjectedCrs (ReadsProjected class.ProjectedCrs))
     (λ p. item_projected (norm_projected level p))
 unfolding Own
@@ -37,7 +37,7 @@ projected-form laws level c =
     (plain_tail-in o 6 law o.own.1 (λ fault b. own fault (inl b)) refl refl
     (refl, (refl, (refl, (refl, (refl, (refl, (refl, tt))))))) x.tail reads.tail))))))
 
-pub vertical-form : Laws → (level : Level) (c : Class) →
+pub vertical-form : LowerLaws → (level : Level) (c : Class) →
     Form level c class.VerticalCrs (Checked class.VerticalCrs (ReadsVertical class.VerticalCrs))
     (λ p. item_vertical (norm_vertical level p))
 unfolding Own

@@ -15,10 +15,11 @@ use Rattle.crs_normal.specs.NormalOwn.{AreOrdered, Has, HasAxes}
 use Rattle.crs_value.specs.Sound.{Each}
 use Rattle.crs_normal.specs.SpelledItems.{each}
 use Rattle.crs_normal.specs.SpelledSystems.{axes_from, axis_at, is_at, item_axis, item_head, norm_system, system_items, with_axis}
+use Rattle.crs_normal.specs.LowerLaws.{LowerLaws}
 use Rattle.crs_normal.proofs.normal.AxisLemmas.{IsNumbered, axis-form, type-form}
 use Rattle.crs_normal.proofs.normal.FormLemmas.{Form, IsGood, Looked, Opened, by-slots, found-in, front_in, good-in, one-in, spelled-by}
 use Rattle.crs_normal.proofs.normal.DimensionLemmas.{AreSmall}
-use Rattle.crs_normal.proofs.normal.HeadLemmas.{AreFree, Laws, each-length, few-axes}
+use Rattle.crs_normal.proofs.normal.HeadLemmas.{AreFree, each-length, few-axes}
 use Rattle.crs_normal.proofs.normal.LeafLemmas.{PlainIsOne, number-form}
 use Rattle.crs_normal.proofs.normal.UnitLemmas.{idents-in}
 use Rattle.crs_normal.proofs.read.ViewLemmas.{without_places_onto, slot_at}
@@ -85,7 +86,7 @@ head-form law level c =
     (idents-in o 2 refl x.identifiers reads.identifiers refl))))
 
 -- the node `CS`, the axes and no shared unit
-pub system-in : Laws → {level : Level} {c : Class} {slots : List SlotParts} {item : Item} {keyword : List ℕ}
+pub system-in : LowerLaws → {level : Level} {c : Class} {slots : List SlotParts} {item : Item} {keyword : List ℕ}
     (o : Opened level c slots item keyword) → HasAxes c item → (dimensions : SystemType → List ℕ) →
     ((t : SystemType) → AreSmall (dimensions t)) → AreFree dimensions (those c class.CoordinateSystem (arguments item))
     (those c class.Axis (arguments item)) (those c class.AxisUnit (arguments item)) → (k : ℕ) →

@@ -8,13 +8,16 @@ use Rattle.crs_value.specs.declared.values.frame.Frame.{Frame}
 use Rattle.crs_value.specs.declared.values.frame.Frame.TheVariants as frame
 use Rattle.crs_value.specs.declared.values.level.Level.{Level}
 use Rattle.crs_same.specs.Prelude.{AreSame, parts_of_datum, parts_of_ensemble, parts_of_frame}
-use Rattle.crs_normal.specs.Prelude.{IsWrittenForm, item_datum, item_ensemble, item_frame, norm_datum, norm_ellipsoid, norm_ensemble, norm_frame}
-use Rattle.crs_normal.specs.AcceptedNormal.{IsAcceptedNormal, geodetic_frame_class, vertical_frame_class}
-use Rattle.crs_normal.specs.OneForm.{IsItsForm, IsItsFormUnbroken}
+use Rattle.crs_normal.specs.Prelude.{IsWrittenForm, item_datum, item_ensemble, norm_datum, norm_ellipsoid, norm_ensemble}
+use Rattle.crs_normal.specs.AcceptedNormal.{IsAcceptedNormal}
 use Rattle.crs_normal.specs.PartSpellings.{IsFrame, IsSpelledDatum, IsSpelledEnsemble, IsSpelledFrame, datum_class, ensemble_class}
 use Rattle.crs_normal.specs.PartTexts.{datum_keyword, datum_text, ensemble_text, frame_text, item_own_datum}
-use Rattle.crs_normal.specs.TextLaws.{TextLaws}
-use Rattle.crs_normal.proofs.parts.PartLemmas.{IsItsFormSound}
+use Rattle.crs_normal.specs.LowerLaws.{LowerLaws}
+use Rattle.crs_normal.proofs.made.FrameLemmas.{geodetic-frame-made, vertical-frame-made}
+use Rattle.crs_normal.proofs.normal.EnsembleLemmas.{geodetic_ensemble-form, vertical_ensemble-form}
+use Rattle.crs_normal.proofs.normal.FrameLemmas.{geodetic_datum-form, vertical_datum-form}
+use Rattle.crs_normal.proofs.normal.LeafLemmas.{PlainIsOne}
+use Rattle.crs_normal.proofs.parts.PartLemmas.{IsItsFormSound, good-of}
 use Rattle.crs_normal.proofs.read.DatumLemmas.{ellipsoid-in, geodetic-back, vertical-back}
 use Rattle.crs_normal.proofs.read.FrameLemmas.{datum-read, ensemble-read}
 use Rattle.crs_normal.proofs.texts.WrittenFormLemmas.{IsOneText, written-form}
@@ -28,27 +31,17 @@ by-ellipsoid : (P : Option EllipsoidParts → Type 0) (o : Option EllipsoidParts
 by-ellipsoid P None none some = none refl
 by-ellipsoid P (Some x) none some = some x refl
 
--- ---- what holds of frames in a CRS
-
-abbrev pub GeodeticMade : Type 0
-GeodeticMade = (level : Level) (f : Frame) (place : ℕ) → IsGeodeticFrame f →
-    IsAcceptedNormal level (geodetic_frame_class f) 5 (at_place place (item_frame (codes "DATUM") (norm_frame level f)))
-
-abbrev pub VerticalMade : Type 0
-VerticalMade = (level : Level) (f : Frame) (place : ℕ) → IsVerticalFrame f →
-    IsAcceptedNormal level (vertical_frame_class f) 5 (at_place place (item_frame (codes "VDATUM") (norm_frame level f)))
-
 -- ---- reference frames
 
-pub datum-made : GeodeticMade → VerticalMade → (level : Level) (d : DatumParts) → IsDatum d → (p : ℕ) →
+pub datum-made : LowerLaws → (level : Level) (d : DatumParts) → IsDatum d → (p : ℕ) →
     IsAcceptedNormal level (datum_class d.ellipsoid) 5 (at_place p (item_own_datum (norm_datum level d)))
-datum-made geodetic vertical level d s p =
+datum-made laws level d s p =
     by-ellipsoid
     (λ o. IsAcceptedNormal level (datum_class o) 5
     (at_place p (item_datum (datum_keyword (option_map (norm_ellipsoid level) o)) (norm_datum level d)))) d.ellipsoid
-    (λ none. vertical level (frame.Datum d) p (s, none)) (λ x some. geodetic level (frame.Datum d) p (s, some))
+    (λ none. vertical-frame-made laws level (frame.Datum d) (s, none) p) (λ x some. geodetic-frame-made laws level (frame.Datum d) (s, some) p)
 
-pub datum-back : TextLaws → (level : Level) (d : DatumParts) → IsDatum d → (p : ℕ) →
+pub datum-back : LowerLaws → (level : Level) (d : DatumParts) → IsDatum d → (p : ℕ) →
     ReadsDatum (datum_class d.ellipsoid) (at_place p (item_own_datum (norm_datum level d))) (norm_datum level d)
 datum-back laws level d s p =
     by-ellipsoid
@@ -59,7 +52,7 @@ datum-back laws level d s p =
     (λ x some. geodetic-back laws level (frame.Datum d) (s, some) p)
 
 -- each is read where ellipsoids may be
-pub datum-in-one : TextLaws → (level : Level) (d : DatumParts) → IsDatum d → (p : ℕ) →
+pub datum-in-one : LowerLaws → (level : Level) (d : DatumParts) → IsDatum d → (p : ℕ) →
     ReadsDatum class.GeodeticFrame (at_place p (item_own_datum (norm_datum level d))) (norm_datum level d)
 datum-in-one laws level d s p =
     datum-read laws class.GeodeticFrame (datum_keyword (option_map (norm_ellipsoid level) d.ellipsoid))
@@ -88,30 +81,27 @@ keyword-some : (level : Level) (o : Option EllipsoidParts) → IsSome o →
 keyword-some level None n = absurd (true≢false (sym n))
 keyword-some level (Some x) n = refl
 
-pub datum-own : GeodeticDatumSound → VerticalDatumSound → (level : Level) →
-    IsItsFormUnbroken level class.GeodeticFrame ReadsDatum (λ d. item_datum (codes "DATUM") (norm_datum level d)) →
-    IsItsFormUnbroken level class.VerticalFrame ReadsDatum (λ d. item_datum (codes "VDATUM") (norm_datum level d)) →
-    (d : DatumParts) →
+pub datum-own : PlainIsOne → GeodeticDatumSound → VerticalDatumSound → (level : Level) (d : DatumParts) →
     IsItsFormSound level (datum_class d.ellipsoid) ReadsDatum (λ v. item_own_datum (norm_datum level v))
-datum-own geodetic vertical level own vertical-own d =
+datum-own law geodetic vertical level d =
     by-ellipsoid
     (λ o. IsItsFormSound level (datum_class o) ReadsDatum (λ v. item_own_datum (norm_datum level v))) d.ellipsoid
     (λ none i v all normal reads.
-    vertical-own class.VerticalFrame i v all.shaped normal all.unbroken reads
+    vertical_datum-form law level class.VerticalFrame i v (good-of all normal) (all.unbroken, reads)
     ∙ ap (λ k. item_datum k (norm_datum level v)) (keyword-none level v.ellipsoid (vertical i v all reads).1))
     (λ x some i v all normal reads.
-    own class.GeodeticFrame i v all.shaped normal all.unbroken reads
+    geodetic_datum-form law level class.GeodeticFrame i v (good-of all normal) (all.unbroken, reads)
     ∙ ap (λ k. item_datum k (norm_datum level v)) (keyword-some level v.ellipsoid (geodetic i v all reads).1))
 
 -- ---- ensembles
 
-pub ensemble-made : GeodeticMade → VerticalMade → (level : Level) (e : EnsembleParts) → IsEnsemble e → (p : ℕ) →
+pub ensemble-made : LowerLaws → (level : Level) (e : EnsembleParts) → IsEnsemble e → (p : ℕ) →
     IsAcceptedNormal level (ensemble_class e.ellipsoid) 5 (at_place p (item_ensemble (norm_ensemble level e)))
-ensemble-made geodetic vertical level e s p =
+ensemble-made laws level e s p =
     by-ellipsoid (λ o. IsAcceptedNormal level (ensemble_class o) 5 (at_place p (item_ensemble (norm_ensemble level e)))) e.ellipsoid
-    (λ none. vertical level (frame.Ensemble e) p (s, none)) (λ x some. geodetic level (frame.Ensemble e) p (s, some))
+    (λ none. vertical-frame-made laws level (frame.Ensemble e) (s, none) p) (λ x some. geodetic-frame-made laws level (frame.Ensemble e) (s, some) p)
 
-pub ensemble-back : TextLaws → (level : Level) (e : EnsembleParts) → IsEnsemble e → (p : ℕ) →
+pub ensemble-back : LowerLaws → (level : Level) (e : EnsembleParts) → IsEnsemble e → (p : ℕ) →
     ReadsEnsemble (ensemble_class e.ellipsoid) (at_place p (item_ensemble (norm_ensemble level e)))
     (norm_ensemble level e)
 ensemble-back laws level e s p =
@@ -121,7 +111,7 @@ ensemble-back laws level e s p =
     (λ none. vertical-back laws level (frame.Ensemble e) (s, none) p)
     (λ x some. geodetic-back laws level (frame.Ensemble e) (s, some) p)
 
-pub ensemble-in-one : TextLaws → (level : Level) (e : EnsembleParts) → IsEnsemble e → (p : ℕ) →
+pub ensemble-in-one : LowerLaws → (level : Level) (e : EnsembleParts) → IsEnsemble e → (p : ℕ) →
     ReadsEnsemble class.GeodeticEnsemble (at_place p (item_ensemble (norm_ensemble level e))) (norm_ensemble level e)
 ensemble-in-one laws level e s p =
     ensemble-read laws class.GeodeticEnsemble (search keyword-names) level e s
@@ -134,16 +124,13 @@ ensemble-sound geodetic vertical e =
     by-ellipsoid (λ o. IsReadAs ReadsEnsemble IsEnsemble (ensemble_class o)) e.ellipsoid
     (λ none i v all reads. (vertical i v all reads).0) (λ x some i v all reads. (geodetic i v all reads).0)
 
-pub ensemble-own : (level : Level) →
-    IsItsForm level class.GeodeticEnsemble ReadsEnsemble (λ e. item_ensemble (norm_ensemble level e)) →
-    IsItsForm level class.VerticalEnsemble ReadsEnsemble (λ e. item_ensemble (norm_ensemble level e)) →
-    (e : EnsembleParts) →
+pub ensemble-own : PlainIsOne → (level : Level) (e : EnsembleParts) →
     IsItsFormSound level (ensemble_class e.ellipsoid) ReadsEnsemble (λ v. item_ensemble (norm_ensemble level v))
-ensemble-own level own vertical-own e =
+ensemble-own law level e =
     by-ellipsoid
     (λ o. IsItsFormSound level (ensemble_class o) ReadsEnsemble (λ v. item_ensemble (norm_ensemble level v))) e.ellipsoid
-    (λ none i v all normal reads. vertical-own class.VerticalEnsemble i v all.shaped normal reads)
-    (λ x some i v all normal reads. own class.GeodeticEnsemble i v all.shaped normal reads)
+    (λ none i v all normal. vertical_ensemble-form law level class.VerticalEnsemble i v (good-of all normal))
+    (λ x some i v all normal. geodetic_ensemble-form law level class.GeodeticEnsemble i v (good-of all normal))
 
 -- ---- frames of either kind
 

@@ -1,6 +1,5 @@
 -- CRSs of each kind by themselves, and the horizontal parts of compound CRSs.
 use Rattle.std.proofs.Common.{◌≡◌, ◌↔◌}
-use Rattle.crs_shape.specs.declared.class.Class.{Class}
 use Rattle.crs_shape.specs.declared.class.Class.TheVariants as class
 use Rattle.crs_shape.specs.declared.system_type.SystemType.{SystemType}
 use Rattle.crs_shape.specs.declared.system_type.SystemType.TheVariants as types
@@ -15,19 +14,20 @@ use Rattle.crs_same.specs.Prelude.{AreSame, parts_of_geodetic, parts_of_projecte
 use Rattle.crs_normal.specs.WrittenForm.{IsWrittenForm}
 use Rattle.crs_normal.specs.Decides.{FormDecides}
 use Rattle.crs_normal.specs.CrsClass.{geodetic_class}
-use Rattle.crs_normal.specs.OneForm.{IsItsFormUnbroken}
+use Rattle.crs_normal.specs.LowerLaws.{LowerLaws}
 use Rattle.crs_normal.specs.PartSpellings.{IsHorizontalPart, IsSpelledGeodetic, IsSpelledHorizontal, IsSpelledProjected}
 use Rattle.crs_normal.specs.PartTexts.{geodetic_text, horizontal_text, projected_text}
 use Rattle.crs_normal.specs.SpelledCrs.{item_crs, item_geodetic, norm_crs, norm_geodetic}
+use Rattle.crs_normal.proofs.normal.CheckedLemmas.{Checked}
+use Rattle.crs_normal.proofs.normal.FormLemmas.{Form}
+use Rattle.crs_normal.proofs.normal.GeodeticLemmas.{geodetic-form, geographic-form}
 use Rattle.crs_normal.proofs.texts.WrittenFormLemmas.{IsOneText, written-form}
 
-abbrev IsOwnGeodetic : Level → Class → Type 0
-IsOwnGeodetic level c = IsItsFormUnbroken level c ReadsGeodetic (λ g. item_geodetic (norm_geodetic level g))
-
-pub own-geodetic : (level : Level) → IsOwnGeodetic level class.GeodeticCrs → IsOwnGeodetic level class.GeographicCrs →
-    (t : SystemType) → IsOwnGeodetic level (geodetic_class t)
-own-geodetic level geodetic geographic types.Ellipsoidal = geographic
-own-geodetic level geodetic geographic other = geodetic
+pub own-geodetic : LowerLaws → (level : Level) (t : SystemType) →
+    Form level (geodetic_class t) (geodetic_class t) (Checked (geodetic_class t) (ReadsGeodetic (geodetic_class t)))
+    (λ g. item_geodetic (norm_geodetic level g))
+own-geodetic laws level types.Ellipsoidal = geographic-form laws level class.GeographicCrs
+own-geodetic laws level other = geodetic-form laws level class.GeodeticCrs
 
 -- texts of CRSs are equal exactly where the CRSs are the same
 abbrev pub TextsDecide : Level → Type 0

@@ -1,7 +1,7 @@
 -- Values of one kind: from the laws of their one form and its item, what their spellings have in
 -- common.
-use Rattle.std.proofs.Common.{◌≡◌, ◌↔◌, ◌≤◌, ◌∙◌, ℕ, Some, List, sym, ap, subst, arith}
-use Rattle.crs_text.specs.Prelude.{Item, SpellsNode, AreFormed, at_place, item_text}
+use Rattle.std.proofs.Common.{◌≡◌, ◌≤◌, ◌∙◌, ℕ, List, sym, ap, subst, arith}
+use Rattle.crs_text.specs.Prelude.{Item, SpellsNode, at_place, item_text}
 use Rattle.crs_shape.specs.declared.class.Class.{Class}
 use Rattle.crs_value.specs.Prelude.{IsSound, IsReadAs, IsReadOnce}
 use Rattle.crs_value.specs.declared.values.level.Level.{Level}
@@ -10,20 +10,16 @@ use Rattle.crs_normal.specs.Decides.{FormDecides}
 use Rattle.crs_normal.specs.WithoutPlaces.{without_places}
 use Rattle.crs_normal.specs.AcceptedNormal.{IsAcceptedNormal}
 use Rattle.crs_normal.specs.Normal.{IsNormalIn}
-use Rattle.crs_normal.specs.OneForm.{IsItsFormUnbroken}
+use Rattle.crs_normal.specs.LowerLaws.{LowerLaws}
 use Rattle.crs_normal.specs.SpelledAs.{IsSpelledAs, IsSpelledBy}
-use Rattle.crs_normal.specs.TextLaws.{TextLaws}
-use Rattle.crs_normal.proofs.texts.ClosedLemmas.{node-closed, same-some}
-use Rattle.crs_normal.proofs.normal.FormLemmas.{without_places-text}
+use Rattle.crs_normal.proofs.texts.ClosedLemmas.{node-closed}
+use Rattle.crs_normal.proofs.normal.CheckedLemmas.{Checked}
+use Rattle.crs_normal.proofs.normal.FormLemmas.{Form, IsGood, without_places-text}
 use Rattle.crs_normal.proofs.texts.ItemLemmas.{IsWritable, one-by-text}
 use Rattle.crs_normal.proofs.made.PlaceLemmas.{text-at, placed-twice}
 use Rattle.crs_normal.proofs.texts.WrittenFormLemmas.{written-form}
 use Rattle.crs_normal.proofs.made.NodeLemmas.{Stands, fine-as, stands-of}
 use Rattle.crs_normal.proofs.texts.AcceptedLemmas.{written-at}
-
--- items are formed where a text spells them
-abbrev pub SpelledFormed : Type 0
-SpelledFormed = (bytes : List ℕ) (item : Item) → SpellsNode bytes item → AreFormed item
 
 -- an item that is accepted as one of its class, and normal in this sense
 abbrev pub IsStanding : Class → (Item → Type 0) → Item → Type 0
@@ -36,6 +32,10 @@ sound-of m = record { formed = m.1.formed; shaped = m.1.shaped; unbroken = m.1.u
 pub made-stands : {level : Level} {c : Class} {n : ℕ} {item : Item} → n ≤ 8 → IsAcceptedNormal level c n item →
     IsStanding c (IsNormalIn level c c) item
 made-stands {c = c} l made = let s = stands-of made in (s.0, fine-as l (λ n. n c) s.1)
+
+-- it is good
+pub good-of : {level : Level} {c : Class} {item : Item} → IsSound c item → IsNormalIn level c c item → IsGood level c c item
+good-of sound normal = record { shaped = sound.shaped; normal = normal }
 
 -- a normal item that is sound is what is written for the value that is read from it
 abbrev pub IsItsFormSound : {V : Type 0} → Level → Class → (Class → Item → V → Type 0) → (V → Item) → Type 0
@@ -57,7 +57,7 @@ writable-at c N i m =
     record { formed = m.1.formed; is_node = m.0; within = omega arith }
 
 -- equal texts are of equal values, where all are read as items of one class
-pub told-by : {V : Type 0} → TextLaws → (c : V → Class) (N : V → Item → Type 0) (d : Class) (Reads : Class → Item → V → Type 0) (Is : V → Type 0) (form : V → V) (item : V → Item) →
+pub told-by : {V : Type 0} → LowerLaws → (c : V → Class) (N : V → Item → Type 0) (d : Class) (Reads : Class → Item → V → Type 0) (Is : V → Type 0) (form : V → V) (item : V → Item) →
     ((a b : V) (i : Item) → Reads d i a → Reads d i b → a ≡ b) →
     ((x : V) → Is x → IsStanding (c x) (N x) (at_place 0 (item (form x)))) →
     ((x : V) → Is x → Reads d (at_place 0 (item (form x))) (form x)) →
@@ -72,7 +72,7 @@ told-by laws c N d Reads Is form item once made reads a b p q e =
     ∙ placed-twice 0 0 j in
     once (form a) (form b) (at_place 0 j) (subst (λ k. Reads d k (form a)) same (reads a p)) (reads b q)
 
-module _ {V : Type 0} (laws : TextLaws) (formed : SpelledFormed) {c : V → Class} {N : V → Item → Type 0} {Reads : Class → Item → V → Type 0} {Is : V → Type 0} {Same : V → V → Type 0} {form : V → V} (item : V → Item) (known : IsKnownBy c N Reads Is Same form item) where
+module _ {V : Type 0} (laws : LowerLaws) {c : V → Class} {N : V → Item → Type 0} {Reads : Class → Item → V → Type 0} {Is : V → Type 0} {Same : V → V → Type 0} {form : V → V} (item : V → Item) (known : IsKnownBy c N Reads Is Same form item) where
   abbrev at-start : V → Item
   at-start x = at_place 0 (item (form x))
 
@@ -115,7 +115,7 @@ module _ {V : Type 0} (laws : TextLaws) (formed : SpelledFormed) {c : V → Clas
   form-one x bytes s h =
       let v = h.read in
       let all : IsSound (c x) h.item =
-      record { formed = formed bytes h.item h.spells; shaped = h.shaped; unbroken = h.unbroken } in
+      record { formed = laws.formed bytes h.item h.spells; shaped = h.shaped; unbroken = h.unbroken } in
       let k : Is v = known.sound x s h.item v all h.reads in
       let f : without_places h.item ≡ item (form v) = known.own x s h.item v all h.normal h.reads in
       h.written ∙ sym (without_places-text h.item) ∙ ap item_text f
@@ -139,30 +139,28 @@ module _ {V : Type 0} (laws : TextLaws) (formed : SpelledFormed) {c : V → Clas
 
 pub record IsKnownOf {V : Type 0} (level : Level) (c : Class) (most : ℕ) (Reads : Class → Item → V → Type 0) (Is : V → Type 0) (Same : V → V → Type 0) (form : V → V) (item : V → Item) : Type 0 where
   pub decides : FormDecides Is form Same
-  pub made : (x : V) (place : ℕ) → Is x → IsAcceptedNormal level c most (at_place place (item (form x)))
-  pub reads : (x : V) (place : ℕ) → Is x → Reads c (at_place place (item (form x))) (form x)
+  pub made : (x : V) → Is x → (place : ℕ) → IsAcceptedNormal level c most (at_place place (item (form x)))
+  pub reads : (x : V) → Is x → (place : ℕ) → Reads c (at_place place (item (form x))) (form x)
   pub once : IsReadOnce Reads
   pub sound : IsReadAs Reads Is c
-  pub own : IsItsFormUnbroken level c Reads (λ v. item (form v))
+  pub own : Form level c c (Checked c (Reads c)) (λ v. item (form v))
 
-pub canonical-of : {V : Type 0} → TextLaws → SpelledFormed → {level : Level} {c : Class} {most : ℕ} {Reads : Class → Item → V → Type 0} {Is : V → Type 0} {Same : V → V → Type 0} {form : V → V} (item : V → Item) →
+pub canonical-of : {V : Type 0} → LowerLaws → {level : Level} {c : Class} {most : ℕ} {Reads : Class → Item → V → Type 0} {Is : V → Type 0} {Same : V → V → Type 0} {form : V → V} (item : V → Item) →
     IsKnownOf level c most Reads Is Same form item → most ≤ 8 →
     IsWrittenForm Is Same (λ x. IsSpelledAs level c Reads Same x) (λ x. item_text (item (form x)))
-canonical-of laws formed {level = level} {c = c} {Reads = Reads} {Is = Is} {form = form} item k few =
+canonical-of laws {level = level} {c = c} {Reads = Reads} {Is = Is} {form = form} item k few =
     let stands : (x : _) → Is x → IsStanding c (IsNormalIn level c c) (at_place 0 (item (form x))) =
-    λ x s. made-stands few (k.made x 0 s) in
-    canonical-by laws formed item (record {
+    λ x s. made-stands few (k.made x s 0) in
+    canonical-by laws item (record {
       decides = k.decides;
       made = stands;
-      reads = λ x s. k.reads x 0 s;
-      told = told-by laws (λ x. c) _ c Reads Is form item (λ a b i. k.once c i a b) stands (λ x s. k.reads x 0 s);
+      reads = λ x s. k.reads x s 0;
+      told = told-by laws (λ x. c) _ c Reads Is form item (λ a b i. k.once c i a b) stands (λ x s. k.reads x s 0);
       sound = λ x s. k.sound;
-      own = λ x s i v sound normal. k.own c i v sound.shaped normal sound.unbroken;
+      own = λ x s i v sound normal reads. k.own i v (good-of sound normal) (sound.unbroken, reads);
     })
 
-pub some-decides : {V : Type 0} (Is : V → Type 0) (form : V → V) (Same : V → V → Type 0) →
-    ((a b : V) → Is a → Is b → (Some (form a) ≡ Some (form b)) ↔ Same a b) → FormDecides Is form Same
-some-decides Is form Same h a b p q = (
-  λ e. (h a b p q).0 (ap (λ x. Some x) e),
-  λ same. same-some (form a) (form b) ((h a b p q).1 same),
-)
+-- the form of an item where whether it breaks a check doesn't matter
+pub unchecked : {V : Type 0} {level : Level} {c d : Class} {R : Item → V → Type 0} {spell : V → Item} →
+    Form level c d R spell → Form level c d (Checked d R) spell
+unchecked form item value good reads = form item value good reads.1

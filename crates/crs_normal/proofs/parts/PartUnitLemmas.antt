@@ -1,6 +1,5 @@
 -- Units by themselves: their classes, and the names within these.
 use Rattle.std.proofs.Common.{◌≡◌, refl, codes, Some}
-use Rattle.crs_shape.specs.declared.class.Class.{Class}
 use Rattle.crs_shape.specs.declared.class.Class.TheVariants as class
 use Rattle.crs_shape.specs.declared.unit_kind.UnitKind.{UnitKind}
 use Rattle.crs_shape.specs.declared.unit_kind.UnitKind.TheVariants as kinds
@@ -9,8 +8,10 @@ use Rattle.crs_value.specs.Prelude.{IsUnitClass, ReadsUnit}
 use Rattle.crs_value.specs.declared.values.level.Level.{Level}
 use Rattle.crs_matching.specs.Prelude.{kind_as}
 use Rattle.crs_normal.specs.AcceptedNormal.{IsKindIn}
-use Rattle.crs_normal.specs.OneForm.{IsItsForm}
 use Rattle.crs_normal.specs.Prelude.{unit_class, item_unit, norm_unit}
+use Rattle.crs_normal.proofs.normal.FormLemmas.{Form}
+use Rattle.crs_normal.proofs.normal.LeafLemmas.{PlainIsOne}
+use Rattle.crs_normal.proofs.normal.UnitLemmas.{in-angle, in-length, in-plain, in-scale, unit-form}
 
 pub kind-in : (kind : UnitKind) → IsKindIn (unit_class kind) (kind_as kinds.Plain kind)
 kind-in kinds.Length = refl
@@ -25,13 +26,10 @@ pub is-unit_class : (kind : UnitKind) → IsUnitClass (unit_class kind)
 is-unit_class kinds.Length = tt
 is-unit_class other = tt
 
-abbrev IsOwnUnit : Level → Class → Type 0
-IsOwnUnit level c = IsItsForm level c ReadsUnit (λ u. item_unit (norm_unit level kinds.Plain u))
-
-pub own-unit : (level : Level) → IsOwnUnit level class.LengthUnit → IsOwnUnit level class.AngleUnit →
-    IsOwnUnit level class.ScaleUnit → IsOwnUnit level class.PlainUnit → (kind : UnitKind) →
-    IsOwnUnit level (unit_class kind)
-own-unit level l a s p kinds.Length = l
-own-unit level l a s p kinds.Angle = a
-own-unit level l a s p kinds.Scale = s
-own-unit level l a s p kinds.Plain = p
+-- a normal one of the class of its kind is the one form of its value
+pub own-unit : PlainIsOne → (level : Level) (kind : UnitKind) →
+    Form level (unit_class kind) (unit_class kind) (ReadsUnit (unit_class kind)) (λ u. item_unit (norm_unit level kinds.Plain u))
+own-unit law level kinds.Length = unit-form law level class.LengthUnit class.LengthUnit kinds.Plain refl (in-length kinds.Plain) (λ raw h. h)
+own-unit law level kinds.Angle = unit-form law level class.AngleUnit class.AngleUnit kinds.Plain refl (in-angle kinds.Plain) (λ raw h. h)
+own-unit law level kinds.Scale = unit-form law level class.ScaleUnit class.ScaleUnit kinds.Plain refl (in-scale kinds.Plain) (λ raw h. h)
+own-unit law level kinds.Plain = unit-form law level class.PlainUnit class.PlainUnit kinds.Plain refl in-plain (λ raw h. h)

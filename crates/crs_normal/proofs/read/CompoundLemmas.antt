@@ -14,7 +14,6 @@ use Rattle.crs_value.specs.declared.values.level.Level.{Level}
 use Rattle.crs_normal.specs.LowerLaws.{LowerLaws}
 use Rattle.crs_normal.specs.CrsClass.{crs_class, geodetic_class}
 use Rattle.crs_normal.specs.SpelledCrs.{geodetic_keyword, item_compound, item_crs, item_geodetic, item_horizontal, item_projected, item_vertical, norm_compound, norm_crs, norm_geodetic, norm_horizontal, norm_projected, norm_vertical}
-use Rattle.crs_normal.specs.TextLaws.{TextLaws}
 use Rattle.crs_normal.proofs.read.CrsLemmas.{geodetic-read, projected-read, vertical-read}
 use Rattle.crs_normal.proofs.made.TailLemmas.{compound-names}
 use Rattle.crs_normal.proofs.read.EndLemmas.{of-tail, tail-read}
@@ -38,7 +37,7 @@ abbrev side : (level : Level) (h : Horizontal) → IsHorizontal h →
 side level (horizontal.Geodetic g) s = inl (geographic-in level g s.1)
 side level (horizontal.Projected p) s = inr (keyword-names _ _)
 
-module _ (laws : TextLaws) (lower : LowerLaws) (level : Level) where
+module _ (laws : LowerLaws) (level : Level) where
   -- what is read of the arguments of each class
   abbrev ReadsAmong : List Item → List Item → List Item → Horizontal → Type 0
   ReadsAmong xs ys zs value =
@@ -58,14 +57,14 @@ module _ (laws : TextLaws) (lower : LowerLaws) (level : Level) where
       (placed-at look class.GeographicCrs
       (λ ys. ReadsAmong [] ys (those compound class.ProjectedCrs (arguments item)) value)
       (item_geodetic (norm_geodetic level g)) left
-      (λ p. (tt, geodetic-read laws lower class.GeographicCrs (search keyword-names) level g s.0 p)))
+      (λ p. (tt, geodetic-read laws class.GeographicCrs (search keyword-names) level g s.0 p)))
   horizontal-field {item = item} look (horizontal.Projected r) s none left right =
       let value = horizontal.Projected (norm_projected level r) in
       rw (lacks look class.GeodeticCrs none, lacks look class.GeographicCrs left)
       (placed-at look class.ProjectedCrs (λ zs. ReadsFirst (ReadsAsHorizontal class.ProjectedCrs) zs value)
-      (item_projected (norm_projected level r)) right (λ p. (refl, projected-read laws lower level r s.0 p)))
+      (item_projected (norm_projected level r)) right (λ p. (refl, projected-read laws level r s.0 p)))
 
-  compound-read : (k : CompoundParts) → IsCompound k →
+  pub compound-read : (k : CompoundParts) → IsCompound k →
       ReadsBack item_compound (ReadsCompound class.CompoundCrs) (norm_compound level k)
   compound-read k s place =
       let look = seen compound (a-text k.name ∷
@@ -77,18 +76,18 @@ module _ (laws : TextLaws) (lower : LowerLaws) (level : Level) where
         name = refl;
         horizontal = horizontal-field look k.horizontal s.horizontal refl refl refl;
         vertical = one-field look class.VerticalCrs item_vertical _ _ refl
-            (vertical-read laws lower level k.vertical s.vertical);
+            (vertical-read laws level k.vertical s.vertical);
         tail = tail-read laws look level k.tail s.tail refl refl refl refl refl refl refl;
       }
 
 -- ---- all CRSs
 
-pub crs-read : TextLaws → LowerLaws → (level : Level) (x : Crs) → IsCrs x → (place : ℕ) →
+pub crs-read : LowerLaws → (level : Level) (x : Crs) → IsCrs x → (place : ℕ) →
     ReadsCrs (crs_class x) (at_place place (item_crs (norm_crs level x))) (norm_crs level x)
-crs-read laws lower level (crs.Geodetic g) s place = (
+crs-read laws level (crs.Geodetic g) s place = (
   is-geodetic g.system.system_type,
-  geodetic-read laws lower (geodetic_class g.system.system_type) (names-of g.system.system_type) level g s place,
+  geodetic-read laws (geodetic_class g.system.system_type) (names-of g.system.system_type) level g s place,
 )
-crs-read laws lower level (crs.Projected p) s place = (refl, projected-read laws lower level p s place)
-crs-read laws lower level (crs.Vertical v) s place = (refl, vertical-read laws lower level v s place)
-crs-read laws lower level (crs.Compound k) s place = (refl, compound-read laws lower level k s place)
+crs-read laws level (crs.Projected p) s place = (refl, projected-read laws level p s place)
+crs-read laws level (crs.Vertical v) s place = (refl, vertical-read laws level v s place)
+crs-read laws level (crs.Compound k) s place = (refl, compound-read laws level k s place)

@@ -11,7 +11,6 @@ use Rattle.crs_normal.specs.LowerLaws.{LowerLaws}
 use Rattle.crs_normal.specs.Prelude.{item_conversion, item_geoid_model, norm_conversion, set_geoid_models, item_unit, norm_units}
 use Rattle.crs_normal.specs.SpelledCrs.{geodetic_keyword, item_base, item_geodetic, item_projected, item_vertical, norm_base, norm_geodetic, norm_projected, norm_vertical}
 use Rattle.crs_normal.specs.SpelledFrames.{item_meridian, norm_frame, norm_meridian}
-use Rattle.crs_normal.specs.TextLaws.{TextLaws}
 use Rattle.crs_normal.proofs.made.BehindLemmas.{projected-names, vertical-names}
 use Rattle.crs_normal.proofs.read.DatumLemmas.{frame-field, frame-item, geodetic-back, vertical-back}
 use Rattle.crs_normal.proofs.read.DynamicLemmas.{dynamic-field, dynamic-item}
@@ -31,9 +30,9 @@ few laws system sound ns small one =
 
 -- ---- geodetic and geographic CRSs
 
-pub geodetic-read : TextLaws → LowerLaws → (c : Class) → GeodeticNames c → (level : Level) (g : GeodeticParts) →
+pub geodetic-read : LowerLaws → (c : Class) → GeodeticNames c → (level : Level) (g : GeodeticParts) →
     IsGeodetic g → ReadsBack item_geodetic (ReadsGeodetic c) (norm_geodetic level g)
-geodetic-read laws lower c names level g s place =
+geodetic-read laws c names level g s place =
     let look = seen c (a-text g.name ∷ dynamic-item names.dynamics level g.dynamic ∷
     frame-item c class.GeodeticFrame class.GeodeticEnsemble (codes "DATUM") names.frames.datum names.frames.ensemble refl
     (norm_frame level g.frame) ∷
@@ -48,14 +47,14 @@ geodetic-read laws lower c names level g s place =
           names.frames.ensemble look (norm_frame level g.frame) (geodetic-back laws level g.frame s.frame) refl refl;
       meridian = opt-field look class.PrimeMeridian item_meridian _ _ refl (meridian-read laws level g.meridian s.meridian);
       system = system-read laws look level g.system s.system
-          (few lower g.system s.system (dimensions_of class.GeodeticCrs g.system.system_type)
+          (few laws g.system s.system (dimensions_of class.GeodeticCrs g.system.system_type)
           (small-geodetic g.system.system_type) s.dimension) refl refl refl;
       tail = tail-read laws look level g.tail s.tail refl refl refl refl refl refl refl;
     }
 
 -- ---- base CRSs
 
-pub base-read : TextLaws → (level : Level) (b : BaseParts) → IsBase b →
+pub base-read : LowerLaws → (level : Level) (b : BaseParts) → IsBase b →
     ReadsBack item_base (ReadsBase class.BaseCrs) (norm_base level b)
 base-read laws level b s place =
     let base : Class = class.BaseCrs in
@@ -80,9 +79,9 @@ base-read laws level b s place =
 
 -- ---- projected CRSs
 
-pub projected-read : TextLaws → LowerLaws → (level : Level) (p : ProjectedParts) → IsProjected p →
+pub projected-read : LowerLaws → (level : Level) (p : ProjectedParts) → IsProjected p →
     ReadsBack item_projected (ReadsProjected class.ProjectedCrs) (norm_projected level p)
-projected-read laws lower level p s place =
+projected-read laws level p s place =
     let look = seen class.ProjectedCrs (a-text p.name ∷
     one-item class.BaseCrs (item_base (norm_base level p.base)) (keyword-names _ _) ∷
     one-item class.Conversion (item_conversion (norm_conversion level p.conversion)) (keyword-names _ _) ∷
@@ -93,16 +92,16 @@ projected-read laws lower level p s place =
       base = one-field look class.BaseCrs item_base _ _ refl (base-read laws level p.base s.base);
       conversion = one-field look class.Conversion item_conversion _ _ refl (conversion-read laws level p.conversion s.conversion);
       system = system-read laws look level p.system s.system
-          (few lower p.system s.system (dimensions_of class.ProjectedCrs p.system.system_type)
+          (few laws p.system s.system (dimensions_of class.ProjectedCrs p.system.system_type)
           (small-projected p.system.system_type) s.dimension) refl refl refl;
       tail = tail-read laws look level p.tail s.tail refl refl refl refl refl refl refl;
     }
 
 -- ---- vertical CRSs
 
-pub vertical-read : TextLaws → LowerLaws → (level : Level) (v : VerticalParts) → IsVertical v →
+pub vertical-read : LowerLaws → (level : Level) (v : VerticalParts) → IsVertical v →
     ReadsBack item_vertical (ReadsVertical class.VerticalCrs) (norm_vertical level v)
-vertical-read laws lower level v s place =
+vertical-read laws level v s place =
     let vertical : Class = class.VerticalCrs in
     let look = seen vertical (a-text v.name ∷ dynamic-item (keyword-names _ _) level v.dynamic ∷
     frame-item vertical class.VerticalFrame class.VerticalEnsemble (codes "VDATUM") (keyword-names _ _)
@@ -116,7 +115,7 @@ vertical-read laws lower level v s place =
       frame = frame-field vertical class.VerticalFrame class.VerticalEnsemble (codes "VDATUM") (keyword-names _ _)
           (keyword-names _ _) look (norm_frame level v.frame) (vertical-back laws level v.frame s.frame) refl refl;
       system = system-read laws look level v.system s.system
-          (few lower v.system s.system (dimensions_of class.VerticalCrs v.system.system_type)
+          (few laws v.system s.system (dimensions_of class.VerticalCrs v.system.system_type)
           (small-vertical v.system.system_type) s.dimension) refl refl refl;
       geoid_models = each-field look class.GeoidModel item_geoid_model _ _ refl (geoids-back level v.geoid_models s.geoid_models);
       tail = tail-read laws look level v.tail s.tail refl refl refl refl refl refl refl;

@@ -10,7 +10,7 @@ use Rattle.crs_value.specs.declared.values.frame.Frame.TheVariants as frame
 use Rattle.crs_value.specs.declared.values.level.Level.{Level}
 use Rattle.crs_value.specs.Prelude.{those, ReadsElse, ReadsFirst, ReadsDatum, ReadsEnsemble, ReadsAsDatum, ReadsAsEnsemble, ReadsFrame, IsGeodeticFrame, IsVerticalFrame, EllipsoidParts}
 use Rattle.crs_normal.specs.SpelledFrames.{item_datum, item_ellipsoid, item_ensemble, item_frame, norm_ellipsoid, norm_frame}
-use Rattle.crs_normal.specs.TextLaws.{TextLaws}
+use Rattle.crs_normal.specs.LowerLaws.{LowerLaws}
 use Rattle.crs_normal.proofs.read.FrameLemmas.{datum-read, ensemble-read}
 use Rattle.crs_normal.proofs.texts.SegmentLemmas.{IsIn, MayIn, ReadsBack, Seen, Segment, either-item, if_left, if_right, items_of, lacks, placed-at, some-all}
 use Rattle.crs_normal.proofs.read.NameLemmas.{keyword-names}
@@ -29,7 +29,7 @@ none-in : (c : Class) (level : Level) (o : Option EllipsoidParts) → IsNone o �
 none-in c level None s = tt
 none-in c level (Some x) s = absurd (true≢false s)
 
-pub geodetic-back : TextLaws → (level : Level) (f : Frame) → IsGeodeticFrame f →
+pub geodetic-back : LowerLaws → (level : Level) (f : Frame) → IsGeodeticFrame f →
     FrameBack class.GeodeticFrame class.GeodeticEnsemble (codes "DATUM") (norm_frame level f)
 geodetic-back laws level (frame.Datum d) s =
     datum-read laws class.GeodeticFrame (codes "DATUM") (search keyword-names) level d s.0
@@ -38,7 +38,7 @@ geodetic-back laws level (frame.Ensemble e) s =
     ensemble-read laws class.GeodeticEnsemble (search keyword-names) level e s.0
     (ellipsoid-in class.GeodeticEnsemble (keyword-names _ _) (option_map (norm_ellipsoid level) e.ellipsoid))
 
-pub vertical-back : TextLaws → (level : Level) (f : Frame) → IsVerticalFrame f →
+pub vertical-back : LowerLaws → (level : Level) (f : Frame) → IsVerticalFrame f →
     FrameBack class.VerticalFrame class.VerticalEnsemble (codes "VDATUM") (norm_frame level f)
 vertical-back laws level (frame.Datum d) s =
     datum-read laws class.VerticalFrame (codes "VDATUM") (search keyword-names) level d s.0

@@ -10,7 +10,7 @@ use Rattle.crs_value.specs.declared.values.frame.Frame.{Frame}
 use Rattle.crs_value.specs.declared.values.level.Level.{Level}
 use Rattle.crs_normal.specs.SpelledDynamic.{item_deformation_model, item_dynamic, norm_deformation_model, norm_dynamic}
 use Rattle.crs_normal.specs.SpelledItems.{number_node}
-use Rattle.crs_normal.specs.TextLaws.{TextLaws}
+use Rattle.crs_normal.specs.LowerLaws.{LowerLaws}
 use Rattle.crs_normal.proofs.same.DynamicLemmas.{dynamics-sound}
 use Rattle.crs_normal.proofs.members.MemberLemmas.{named-kept, named-read}
 use Rattle.crs_normal.proofs.members.MemberUnitLemmas.{number-read}
@@ -27,7 +27,7 @@ deformation-model-read level m s =
 
 -- ---- dynamic parts
 
-pub dynamic-read : TextLaws → (level : Level) (d : DynamicParts) → IsDynamic d →
+pub dynamic-read : LowerLaws → (level : Level) (d : DynamicParts) → IsDynamic d →
     ReadsBack item_dynamic (ReadsDynamic class.Dynamic) (norm_dynamic level d)
 dynamic-read laws level d s place =
     let look = seen class.Dynamic
@@ -47,7 +47,7 @@ abbrev pub dynamic-item : {c : Class} → class_named c (codes "DYNAMIC") ≡ So
     Option DynamicParts → Segment c
 dynamic-item names level o = may-be class.Dynamic item_dynamic (option_map (norm_dynamic level) o) (λ d. names)
 
-pub dynamic-field : TextLaws → {c : Class} {ss : List (Segment c)} {item : Item} → Seen c ss item → (level : Level)
+pub dynamic-field : LowerLaws → {c : Class} {ss : List (Segment c)} {item : Item} → Seen c ss item → (level : Level)
     (o : Option DynamicParts) (f : Frame) → IsDynamicOf o f →
     items_of class.Dynamic ss ≡ given item_dynamic (option_map (norm_dynamic level) o) ++ [] →
     ReadsIfAny ReadsDynamic class.Dynamic c item (option_map (norm_dynamic level) o)

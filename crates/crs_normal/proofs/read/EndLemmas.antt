@@ -8,7 +8,7 @@ use Rattle.crs_value.specs.declared.values.level.Level.{Level}
 use Rattle.crs_value.specs.Sound.{Each}
 use Rattle.crs_matching.specs.Prelude.{usages_of}
 use Rattle.crs_normal.specs.Prelude.{item_conversion, item_geoid_model, item_method, item_parameter, norm_conversion, norm_geoid_model, norm_method, norm_parameter, set_geoid_models, set_parameters, text_node, axes_from, item_axis, item_head, norm_system, item_ident, item_unit, set_idents, item_usage, norm_tail, set_usages}
-use Rattle.crs_normal.specs.TextLaws.{TextLaws}
+use Rattle.crs_normal.specs.LowerLaws.{LowerLaws}
 use Rattle.crs_normal.proofs.made.BehindLemmas.{NamesSystem}
 use Rattle.crs_normal.proofs.made.TailLemmas.{NamesTail, usages-sound}
 use Rattle.crs_normal.proofs.members.MemberLemmas.{named-kept, named-read}
@@ -28,14 +28,14 @@ pub method-read : (level : Level) (m : MethodParts) → IsMethod m →
 method-read level m s =
     named-read class.Method (codes "METHOD") (keyword-names _ _) (norm_method level m) (named-kept level m s)
 
-parameters-back : TextLaws → (level : Level) (ps : List ParameterParts) → Each IsParameter ps →
+parameters-back : LowerLaws → (level : Level) (ps : List ParameterParts) → Each IsParameter ps →
     Each (ReadsBack item_parameter (ReadsParameter class.Parameter)) (set_parameters level ps)
 unfolding set_parameters
 parameters-back laws level ps s =
     set-kept _ (λ p. item_text (item_parameter p)) _ (ReadsBack item_parameter (ReadsParameter class.Parameter))
     (λ p q. parameter-read laws (norm_parameter level p) (parameter-kept level p q)) ps s
 
-pub conversion-read : TextLaws → (level : Level) (v : ConversionParts) → IsConversion v →
+pub conversion-read : LowerLaws → (level : Level) (v : ConversionParts) → IsConversion v →
     ReadsBack item_conversion (ReadsConversion class.Conversion) (norm_conversion level v)
 conversion-read laws level v s place =
     let look = seen class.Conversion (a-text v.name ∷
@@ -80,7 +80,7 @@ of-tail {c = c} names level t s =
     identifiers names.ident level t.identifiers ∷
     may-be class.Remark (text_node (codes "REMARK")) (kept_one level t.remark) (λ x. names.remark) ∷ []
 
-pub tail-read : TextLaws → {c : Class} {ss : List (Segment c)} {item : Item} → Seen c ss item → (level : Level)
+pub tail-read : LowerLaws → {c : Class} {ss : List (Segment c)} {item : Item} → Seen c ss item → (level : Level)
     (t : TailParts) → IsTail t → items_of class.Usage ss ≡ map item_usage (tail-usages level t) ++ [] →
     items_of class.Scope ss ≡ [] → items_of class.Area ss ≡ [] → items_of class.BoundingBox ss ≡ [] →
     items_of class.VerticalExtent ss ≡ [] →
@@ -107,7 +107,7 @@ head-alone names level y = one-item class.CoordinateSystem (item_head (norm_syst
 abbrev pub axes-each : {c : Class} → NamesSystem c → Level → SystemParts → Segment c
 axes-each names level y = all-of class.Axis item_axis (axes_from level y 1 (length y.axes)) (λ x. names.axis)
 
-pub system-read : TextLaws → {c : Class} {ss : List (Segment c)} {item : Item} → Seen c ss item → (level : Level)
+pub system-read : LowerLaws → {c : Class} {ss : List (Segment c)} {item : Item} → Seen c ss item → (level : Level)
     (y : SystemParts) → IsSystem y → length y.axes ≤ 3 →
     items_of class.CoordinateSystem ss ≡ item_head (norm_system level y) ∷ [] →
     items_of class.Axis ss ≡ map item_axis (axes_from level y 1 (length y.axes)) ++ [] →

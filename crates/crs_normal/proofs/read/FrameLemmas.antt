@@ -12,7 +12,7 @@ use Rattle.crs_value.specs.Sound.{Each}
 use Rattle.crs_value.specs.Values.{IdentParts}
 use Rattle.crs_normal.specs.SpelledFrames.{greenwich, is_zero, item_datum, item_ellipsoid, item_ensemble, item_member, item_meridian, norm_datum, norm_ellipsoid, norm_ensemble, norm_given, norm_member, norm_meridian, set_members}
 use Rattle.crs_normal.specs.Prelude.{number_node, text_node, item_ident, item_unit, norm_length, norm_unit, norm_units, set_idents, whole_value}
-use Rattle.crs_normal.specs.TextLaws.{TextLaws}
+use Rattle.crs_normal.specs.LowerLaws.{LowerLaws}
 use Rattle.crs_normal.proofs.members.ExtentLemmas.{length-kept}
 use Rattle.crs_normal.proofs.members.MemberLemmas.{named-kept, named-read}
 use Rattle.crs_normal.proofs.members.MemberUnitLemmas.{NamesId, identifiers-back, identifiers-of, number-read, unit-in, unit-kept, unit-read}
@@ -47,7 +47,7 @@ angles-kept level (Some u) s = angle-kept level u s
 
 -- ---- ellipsoids
 
-pub ellipsoid-read : TextLaws → (level : Level) (e : EllipsoidParts) → IsEllipsoid e →
+pub ellipsoid-read : LowerLaws → (level : Level) (e : EllipsoidParts) → IsEllipsoid e →
     ReadsBack item_ellipsoid (ReadsEllipsoid class.Ellipsoid) (norm_ellipsoid level e)
 ellipsoid-read laws level e s place =
     let unit = length-kept level e.unit s.unit in
@@ -71,7 +71,7 @@ abbrev pub angles-in : (c : Class) → class_named c (codes "ANGLEUNIT") ≡ Som
 angles-in c e o s =
     some-imp _ _ (λ u q. unit-in c class.AngleUnit kinds.Angle e u q.1) o s
 
-pub angles-back : TextLaws → (o : Option UnitParts) → IfSome o IsAngle →
+pub angles-back : LowerLaws → (o : Option UnitParts) → IfSome o IsAngle →
     IfSome o (ReadsBack item_unit (ReadsUnit class.AngleUnit))
 angles-back laws o s =
     some-imp _ _ (λ u q. unit-read laws class.AngleUnit (keyword-names _ _) u q.0) o s
@@ -80,7 +80,7 @@ unless-kept : (b : Bool) (o : Option UnitParts) → IfSome o IsAngle → IfSome 
 unless-kept true o s = tt
 unless-kept false o s = s
 
-pub given-read : TextLaws → (level : Level) (m : MeridianParts) → IsMeridian m →
+pub given-read : LowerLaws → (level : Level) (m : MeridianParts) → IsMeridian m →
     ReadsBack item_meridian (ReadsMeridian class.PrimeMeridian) (norm_given level m)
 given-read laws level m s place =
     let unit : Option UnitParts = if is_zero m.longitude then None else norm_units level kinds.Angle m.unit in
@@ -96,7 +96,7 @@ given-read laws level m s place =
       identifiers = identifiers-field look level m.identifiers refl s.identifiers;
     }
 
-pub greenwich-read : TextLaws → ReadsBack item_meridian (ReadsMeridian class.PrimeMeridian) greenwich
+pub greenwich-read : LowerLaws → ReadsBack item_meridian (ReadsMeridian class.PrimeMeridian) greenwich
 greenwich-read laws place = record {
   name = refl;
   longitude = number-read laws (whole_value 0) refl 0;
@@ -105,14 +105,14 @@ greenwich-read laws place = record {
 }
 
 -- Greenwich is written where none is given
-pub meridian-read : TextLaws → (level : Level) (o : Option MeridianParts) → IfSome o IsMeridian →
+pub meridian-read : LowerLaws → (level : Level) (o : Option MeridianParts) → IfSome o IsMeridian →
     IfSome (norm_meridian level o) (ReadsBack item_meridian (ReadsMeridian class.PrimeMeridian))
 meridian-read laws level None s = greenwich-read laws
 meridian-read laws level (Some m) s = given-read laws level m s
 
 -- ---- reference frames and ensembles
 
-pub ellipsoids-back : TextLaws → (level : Level) (o : Option EllipsoidParts) → IfSome o IsEllipsoid →
+pub ellipsoids-back : LowerLaws → (level : Level) (o : Option EllipsoidParts) → IfSome o IsEllipsoid →
     IfSome (option_map (norm_ellipsoid level) o) (ReadsBack item_ellipsoid (ReadsEllipsoid class.Ellipsoid))
 ellipsoids-back laws level o s =
     some-mapped _ _ _ (ellipsoid-read laws level) o s
@@ -137,7 +137,7 @@ pub record EnsembleNames (c : Class) : Type 0 where
   pub accuracies : class_named c (codes "ENSEMBLEACCURACY") ≡ Some class.EnsembleAccuracy
 
 -- in a class of reference frames, where the ellipsoid is, if there is one
-pub datum-read : TextLaws → (c : Class) (keyword : List ℕ) → DatumNames c → (level : Level) (d : DatumParts) → IsDatum d →
+pub datum-read : LowerLaws → (c : Class) (keyword : List ℕ) → DatumNames c → (level : Level) (d : DatumParts) → IsDatum d →
     MayIn c class.Ellipsoid item_ellipsoid (option_map (norm_ellipsoid level) d.ellipsoid) →
     ReadsBack (item_datum keyword) (ReadsDatum c) (norm_datum level d)
 datum-read laws c keyword names level d s on place =
@@ -155,7 +155,7 @@ datum-read laws c keyword names level d s on place =
       identifiers = identifiers-field look level d.identifiers refl s.identifiers;
     }
 
-pub ensemble-read : TextLaws → (c : Class) → EnsembleNames c → (level : Level) (e : EnsembleParts) → IsEnsemble e →
+pub ensemble-read : LowerLaws → (c : Class) → EnsembleNames c → (level : Level) (e : EnsembleParts) → IsEnsemble e →
     MayIn c class.Ellipsoid item_ellipsoid (option_map (norm_ellipsoid level) e.ellipsoid) →
     ReadsBack item_ensemble (ReadsEnsemble c) (norm_ensemble level e)
 ensemble-read laws c names level e s on place =

@@ -14,7 +14,7 @@ use Rattle.crs_value.specs.Sound.{Each}
 use Rattle.crs_matching.specs.Prelude.{own_or, kind_as}
 use Rattle.crs_normal.specs.Prelude.{norm_axis_alone, number_node, item_unit, norm_unit, norm_units, whole_value}
 use Rattle.crs_normal.specs.SpelledSystems.{axes_from, axis_at, item_axis, item_axis_meridian, item_head, norm_axis, norm_axis_meridian, norm_axis_meridians, norm_system, with_axis}
-use Rattle.crs_normal.specs.TextLaws.{TextLaws}
+use Rattle.crs_normal.specs.LowerLaws.{LowerLaws}
 use Rattle.crs_normal.proofs.members.MemberUnitLemmas.{identifiers-back, identifiers-of, number-read, unit-in, unit-kept, unit-read}
 use Rattle.crs_normal.proofs.read.FrameLemmas.{angle-kept, identifiers, identifiers-field}
 use Rattle.crs_normal.proofs.texts.SegmentLemmas.{IsIn, ReadsBack, a-number, a-text, a-word, if-any, may-be, one-field, one-item, opt-field, seen, some-imp}
@@ -26,7 +26,7 @@ use Rattle.crs_normal.specs.AcceptedNormal.{IsKindIn}
 
 -- ---- the meridian of an axis
 
-pub axis-meridian-read : TextLaws → (level : Level) (m : AxisMeridianParts) → IsAxisMeridian m →
+pub axis-meridian-read : LowerLaws → (level : Level) (m : AxisMeridianParts) → IsAxisMeridian m →
     ReadsBack item_axis_meridian (ReadsAxisMeridian class.AxisMeridian) (norm_axis_meridian level m)
 axis-meridian-read laws level m s place =
     let along = norm_unit level kinds.Angle m.unit in
@@ -39,7 +39,7 @@ axis-meridian-read laws level m s place =
           (unit-read laws class.AngleUnit (keyword-names _ _) along angle.0);
     }
 
-axis-meridians-read : TextLaws → (level : Level) (o : Option AxisMeridianParts) → IfSome o IsAxisMeridian →
+axis-meridians-read : LowerLaws → (level : Level) (o : Option AxisMeridianParts) → IfSome o IsAxisMeridian →
     IfSome (norm_axis_meridians level o) (ReadsBack item_axis_meridian (ReadsAxisMeridian class.AxisMeridian))
 axis-meridians-read laws level None s = tt
 axis-meridians-read laws level (Some m) s = axis-meridian-read laws level m s
@@ -82,7 +82,7 @@ plain-units-kept level (Some u) s =
 -- ---- axes
 
 -- an axis whose parts are in their one form
-form-read : TextLaws → (x : AxisParts) → IfSome x.unit IsAxisUnit →
+form-read : LowerLaws → (x : AxisParts) → IfSome x.unit IsAxisUnit →
     IfSome x.meridian (ReadsBack item_axis_meridian (ReadsAxisMeridian class.AxisMeridian)) → IfSome x.order IsNormal →
     Each IsIdent x.identifiers → ReadsBack item_axis (ReadsAxis class.Axis) x
 form-read laws x unit meridian order ids place =
@@ -101,7 +101,7 @@ form-read laws x unit meridian order ids place =
       identifiers = identifiers-back look x.identifiers refl ids;
     }
 
-axis-read : TextLaws → (level : Level) (system : SystemParts) → IfSome system.unit IsAxisUnit → (k : ℕ) →
+axis-read : LowerLaws → (level : Level) (system : SystemParts) → IfSome system.unit IsAxisUnit → (k : ℕ) →
     IsNormal (whole_value k) → (x : AxisParts) → IsAxis x →
     ReadsBack item_axis (ReadsAxis class.Axis) (norm_axis level system k x)
 unfolding norm_axis
@@ -111,7 +111,7 @@ axis-read laws level system shared k whole x s =
     (asked-no-scale system.system_type x.direction) x.unit system.unit s.unit shared)
     (axis-meridians-read laws level x.meridian s.meridian) whole (idents-sound level x.identifiers s.identifiers)
 
-pub axis-alone-read : TextLaws → (level : Level) (x : AxisParts) → IsAxis x →
+pub axis-alone-read : LowerLaws → (level : Level) (x : AxisParts) → IsAxis x →
     ReadsBack item_axis (ReadsAxis class.Axis) (norm_axis_alone level x)
 axis-alone-read laws level x s =
     form-read laws (norm_axis_alone level x) (plain-units-kept level x.unit s.unit)
@@ -119,14 +119,14 @@ axis-alone-read laws level x s =
 
 -- ---- the axes of a system
 
-with-read : TextLaws → (level : Level) (system : SystemParts) → IfSome system.unit IsAxisUnit → (k : ℕ) →
+with-read : LowerLaws → (level : Level) (system : SystemParts) → IfSome system.unit IsAxisUnit → (k : ℕ) →
     IsNormal (whole_value k) → (o : Option AxisParts) → IfSome o IsAxis → (rest : List AxisParts) →
     Each (ReadsBack item_axis (ReadsAxis class.Axis)) rest →
     Each (ReadsBack item_axis (ReadsAxis class.Axis)) (with_axis level system k o rest)
 with-read laws level system shared k whole None s rest r = r
 with-read laws level system shared k whole (Some x) s rest r = (axis-read laws level system shared k whole x s, r)
 
-pub axes-read : TextLaws → (level : Level) (system : SystemParts) → IsSystem system → (k n : ℕ) → 1 ≤ k → k + n ≤ 4 →
+pub axes-read : LowerLaws → (level : Level) (system : SystemParts) → IsSystem system → (k n : ℕ) → 1 ≤ k → k + n ≤ 4 →
     Each (ReadsBack item_axis (ReadsAxis class.Axis)) (axes_from level system k n)
 axes-read laws level system s k zero low high = tt
 axes-read laws level system s k (suc n) low high =
@@ -136,7 +136,7 @@ axes-read laws level system s k (suc n) low high =
 
 -- ---- the node of a system
 
-pub head-read : TextLaws → (level : Level) (system : SystemParts) → IsSystem system → (place : ℕ) →
+pub head-read : LowerLaws → (level : Level) (system : SystemParts) → IsSystem system → (place : ℕ) →
     ReadsHead (at_place place (item_head (norm_system level system))) (norm_system level system)
 head-read laws level system s place =
     let look = seen class.CoordinateSystem (a-word (system_word system.system_type) ∷ a-number system.dimension ∷

@@ -6,7 +6,6 @@ use Rattle.crs_value.specs.declared.values.level.Level.{Level}
 use Rattle.crs_same.specs.Prelude.{AgreeConversion, AgreeMethod}
 use Rattle.crs_matching.specs.Prelude.{SameParameter}
 use Rattle.crs_normal.specs.Decides.{FormDecides, SetsDecide}
-use Rattle.crs_normal.specs.LowerLaws.{LowerLaws}
 use Rattle.crs_normal.specs.SpelledConversions.{norm_conversion, norm_method, norm_parameter}
 use Rattle.crs_normal.proofs.same.PartLemmas.{NumbersDecide, values-agree}
 use Rattle.crs_normal.proofs.same.UnitLemmas.{IdentsDecide, unit-agrees}
@@ -15,7 +14,7 @@ pub parameter-agrees : NumbersDecide → IdentsDecide → (level : Level) → Fo
 parameter-agrees numbers idents level a b in-a in-b =
     grind (arith, values-agree numbers, unit-agrees numbers idents level kinds.Plain, idents level)
 
-module _ (laws : LowerLaws) (sets : SetsDecide) (level : Level) where
+module _ (sets : SetsDecide) (level : Level) where
   pub method-agrees : FormDecides IsMethod (norm_method level) (AgreeMethod level)
   method-agrees a b in-a in-b = grind (arith, sets.idents level)
 

@@ -5,10 +5,8 @@ use Rattle.crs_shape.specs.declared.unit_kind.UnitKind.TheVariants as kinds
 use Rattle.crs_shape.specs.declared.system_type.SystemType.{SystemType}
 use Rattle.crs_shape.specs.Prelude.{IsOneOf, dimensions_of}
 use Rattle.crs_value.specs.Prelude.{IsCompound, IsHorizontal, IsCrs, IsBase, IsGeodetic, IsProjected, IsVertical, IsSystem, SystemParts}
-use Rattle.crs_value.specs.declared.values.compound.Horizontal.{Horizontal}
-use Rattle.crs_value.specs.declared.values.compound.Horizontal.TheVariants as horizontal
 use Rattle.crs_value.specs.declared.values.level.Level.{Level}
-use Rattle.crs_same.specs.Prelude.{AgreeBase, AgreeCompound, AgreeCrs, AgreeGeodetic, AgreeHorizontal, AgreeProjected, AgreeVertical, IsHorizontalPart}
+use Rattle.crs_same.specs.Prelude.{AgreeBase, AgreeCompound, AgreeCrs, AgreeGeodetic, AgreeHorizontal, AgreeProjected, AgreeVertical}
 use Rattle.crs_normal.specs.Decides.{FormDecides, IsNumbered, SetsDecide}
 use Rattle.crs_normal.specs.LowerLaws.{LowerLaws}
 use Rattle.crs_normal.specs.SpelledCrs.{norm_base, norm_compound, norm_crs, norm_geodetic, norm_horizontal, norm_projected, norm_vertical}
@@ -35,21 +33,21 @@ module _ (laws : LowerLaws) (sets : SetsDecide) (level : Level) where
 
   pub geodetic-agrees : FormDecides IsGeodetic (norm_geodetic level) (AgreeGeodetic level)
   geodetic-agrees a b in-a in-b =
-      let dynamic = dynamic-agrees laws sets level in
+      let dynamic = dynamic-agrees laws.normal_is_one sets level in
       let in-dimensions = numbered laws (dimensions_of class.GeodeticCrs) small-geodetic in
       let system = system-agrees laws sets level a.system b.system (in-dimensions a.system in-a.system in-a.dimension)
       (in-dimensions b.system in-b.system in-b.dimension) in
-      let frame = geodetic-frame-agrees laws sets level in
-      let meridian = meridian-agrees laws sets level in
+      let frame = geodetic-frame-agrees laws.normal_is_one sets level in
+      let meridian = meridian-agrees laws.normal_is_one sets level in
       grind (arith, dynamic, frame, meridian, system, tail-agrees sets level)
 
   -- ---- projected CRSs
 
   pub base-agrees : FormDecides IsBase (norm_base level) (AgreeBase level)
   base-agrees a b in-a in-b =
-      let dynamic = dynamic-agrees laws sets level in
-      let frame = geodetic-frame-agrees laws sets level in
-      let meridian = meridian-agrees laws sets level in
+      let dynamic = dynamic-agrees laws.normal_is_one sets level in
+      let frame = geodetic-frame-agrees laws.normal_is_one sets level in
+      let meridian = meridian-agrees laws.normal_is_one sets level in
       let unit = unit-agrees laws.normal_is_one sets.idents level kinds.Angle in
       grind (arith, dynamic, frame, meridian, unit, sets.idents level)
 
@@ -59,7 +57,7 @@ module _ (laws : LowerLaws) (sets : SetsDecide) (level : Level) where
       let system = system-agrees laws sets level a.system b.system (in-dimensions a.system in-a.system in-a.dimension)
       (in-dimensions b.system in-b.system in-b.dimension) in
       let base = base-agrees a.base b.base in-a.base in-b.base in
-      let conversion = conversion-agrees laws sets level a.conversion b.conversion in-a.conversion in-b.conversion in
+      let conversion = conversion-agrees sets level a.conversion b.conversion in-a.conversion in-b.conversion in
       let tail = tail-agrees sets level a.tail b.tail in-a.tail in-b.tail in
       grind (arith, base, conversion, system, tail)
 
@@ -67,11 +65,11 @@ module _ (laws : LowerLaws) (sets : SetsDecide) (level : Level) where
 
   pub vertical-agrees : FormDecides IsVertical (norm_vertical level) (AgreeVertical level)
   vertical-agrees a b in-a in-b =
-      let dynamic = dynamic-agrees laws sets level in
+      let dynamic = dynamic-agrees laws.normal_is_one sets level in
       let in-dimensions = numbered laws (dimensions_of class.VerticalCrs) small-vertical in
       let system = system-agrees laws sets level a.system b.system (in-dimensions a.system in-a.system in-a.dimension)
       (in-dimensions b.system in-b.system in-b.dimension) in
-      grind (arith, dynamic, vertical-frame-agrees laws sets level, system, sets.geoid_models level, tail-agrees sets level)
+      grind (arith, dynamic, vertical-frame-agrees laws.normal_is_one sets level, system, sets.geoid_models level, tail-agrees sets level)
 
   -- ---- compound CRSs
 
@@ -89,8 +87,3 @@ module _ (laws : LowerLaws) (sets : SetsDecide) (level : Level) where
 
   pub crs-agrees : FormDecides IsCrs (norm_crs level) (AgreeCrs level)
   crs-agrees a b in-a in-b = grind (arith, geodetic-agrees, projected-agrees, vertical-agrees, compound-agrees)
-
--- the horizontal part of a compound CRS is one by itself
-pub by-itself : (a : Horizontal) → IsHorizontal a → IsHorizontalPart a
-by-itself (horizontal.Geodetic a) sound = sound.0
-by-itself (horizontal.Projected a) sound = sound.0

@@ -5,15 +5,14 @@ use Rattle.crs_value.specs.declared.values.frame.Frame.{Frame}
 use Rattle.crs_value.specs.declared.values.level.Level.{Level}
 use Rattle.crs_same.specs.Prelude.{AgreeDynamic}
 use Rattle.crs_normal.specs.Decides.{FormDecides, SetsDecide}
-use Rattle.crs_normal.specs.LowerLaws.{LowerLaws}
 use Rattle.crs_normal.specs.SpelledDynamic.{norm_dynamic}
-use Rattle.crs_normal.proofs.same.PartLemmas.{values-agree}
+use Rattle.crs_normal.proofs.same.PartLemmas.{NumbersDecide, values-agree}
 use Rattle.crs_normal.proofs.same.UnitLemmas.{named-agrees}
 
 -- whatever the frame beside it is
 pub dynamics-sound : (o : Option DynamicParts) (f : Frame) → IsDynamicOf o f → IfSome o IsDynamic
 dynamics-sound o f s = grind (arith, s)
 
-module _ (laws : LowerLaws) (sets : SetsDecide) (level : Level) where
+module _ (numbers : NumbersDecide) (sets : SetsDecide) (level : Level) where
   pub dynamic-agrees : FormDecides IsDynamic (norm_dynamic level) (AgreeDynamic level)
-  dynamic-agrees a b in-a in-b = grind (arith, values-agree laws.normal_is_one, named-agrees sets.idents level)
+  dynamic-agrees a b in-a in-b = grind (arith, values-agree numbers, named-agrees sets.idents level)

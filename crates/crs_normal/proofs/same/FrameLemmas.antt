@@ -7,11 +7,10 @@ use Rattle.crs_value.specs.declared.values.level.Level.{Level}
 use Rattle.crs_same.specs.Prelude.{AgreeDatum, AgreeEllipsoid, AgreeEnsemble, AgreeFrame, AgreeGiven, AgreeMeridian, or_greenwich}
 use Rattle.crs_matching.specs.Prelude.{IsZero}
 use Rattle.crs_normal.specs.Decides.{FormDecides, Maybe, SetsDecide}
-use Rattle.crs_normal.specs.LowerLaws.{LowerLaws}
 use Rattle.crs_normal.specs.SpelledFrames.{greenwich, is_zero, norm_datum, norm_ellipsoid, norm_ensemble, norm_frame, norm_given, norm_meridian}
 use Rattle.crs_normal.specs.SpelledUnits.{whole_value}
-use Rattle.crs_normal.proofs.same.PartLemmas.{values-agree}
-use Rattle.crs_normal.proofs.same.UnitLemmas.{length-agrees, none-formed, unit-agrees, whole-agrees}
+use Rattle.crs_normal.proofs.same.PartLemmas.{NumbersDecide, values-agree}
+use Rattle.crs_normal.proofs.same.UnitLemmas.{length-agrees, none-formed, unit-agrees}
 
 -- ---- a missing prime meridian
 
@@ -30,13 +29,13 @@ given-is (Some m) is = is
 
 -- ---- longitude 0
 
-zero-agrees : LowerLaws → (v : Value) → IsNormal v → (is_zero v ≡ true) ↔ IsZero v
-zero-agrees laws v in-v = grind (arith, whole-agrees laws 0 refl v in-v)
+zero-agrees : NumbersDecide → (v : Value) → IsNormal v → (is_zero v ≡ true) ↔ IsZero v
+zero-agrees numbers v in-v = grind (arith, numbers v (whole_value 0) in-v refl)
 
-module _ (laws : LowerLaws) (sets : SetsDecide) (level : Level) where
+module _ (numbers : NumbersDecide) (sets : SetsDecide) (level : Level) where
   pub ellipsoid-agrees : FormDecides IsEllipsoid (norm_ellipsoid level) (AgreeEllipsoid level)
   ellipsoid-agrees a b in-a in-b =
-      grind (arith, values-agree laws.normal_is_one, length-agrees laws.normal_is_one sets.idents level, sets.idents level)
+      grind (arith, values-agree numbers, length-agrees numbers sets.idents level, sets.idents level)
 
   -- ---- prime meridians
 
@@ -44,9 +43,9 @@ module _ (laws : LowerLaws) (sets : SetsDecide) (level : Level) where
   given-agrees a b in-a in-b =
       grind (
         arith,
-        values-agree laws.normal_is_one,
-        zero-agrees laws,
-        unit-agrees laws.normal_is_one sets.idents level kinds.Angle,
+        values-agree numbers,
+        zero-agrees numbers,
+        unit-agrees numbers sets.idents level kinds.Angle,
         sets.idents level,
       )
 
@@ -69,11 +68,11 @@ module _ (laws : LowerLaws) (sets : SetsDecide) (level : Level) where
 
   pub datum-agrees : FormDecides IsDatum (norm_datum level) (AgreeDatum level)
   datum-agrees a b in-a in-b =
-      grind (arith, ellipsoid-agrees, values-agree laws.normal_is_one, sets.idents level)
+      grind (arith, ellipsoid-agrees, values-agree numbers, sets.idents level)
 
   pub ensemble-agrees : FormDecides IsEnsemble (norm_ensemble level) (AgreeEnsemble level)
   ensemble-agrees a b in-a in-b =
-      grind (arith, sets.members level, ellipsoid-agrees, values-agree laws.normal_is_one, sets.idents level)
+      grind (arith, sets.members level, ellipsoid-agrees, values-agree numbers, sets.idents level)
 
   pub geodetic-frame-agrees : FormDecides IsGeodeticFrame (norm_frame level) (AgreeFrame level)
   geodetic-frame-agrees a b in-a in-b = grind (arith, datum-agrees, ensemble-agrees)

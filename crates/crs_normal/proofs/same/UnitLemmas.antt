@@ -1,18 +1,16 @@
 -- Units have one form exactly where they are the same: alone, as an asked kind, and where a missing one is the metre.
-use Rattle.std.proofs.Common.{◌≡◌, ◌↔◌, ℕ, [], Option, Some, None, codes, refl, sym, arith}
-use Rattle.crs_decimal.specs.Prelude.{SameNumber, whole_number, Value, IsNormal, exact}
+use Rattle.std.proofs.Common.{◌≡◌, [], Option, Some, None, codes, refl, sym, arith}
 use Rattle.crs_shape.specs.declared.unit_kind.UnitKind.{UnitKind}
 use Rattle.crs_shape.specs.declared.unit_kind.UnitKind.TheVariants as kinds
 use Rattle.crs_value.specs.Prelude.{IsIdent, IsNamed, IsUnit, IsUnitOf, Suits, UnitParts, kept-none}
 use Rattle.crs_value.specs.Sound.{Each}
 use Rattle.crs_value.specs.declared.values.level.Level.{Level}
-use Rattle.crs_matching.specs.Prelude.{SameIdents, SameNamed, SameLength, SameUnit, or_metre, kind_as, BothOrNeither}
+use Rattle.crs_matching.specs.Prelude.{SameIdents, SameNamed, SameLength, SameUnit, or_metre, kind_as}
 use Rattle.crs_normal.specs.Decides.{FormDecides, Maybe}
-use Rattle.crs_normal.specs.LowerLaws.{LowerLaws}
 use Rattle.crs_normal.specs.SpelledFrames.{norm_member}
-use Rattle.crs_normal.specs.SpelledUnits.{metre, norm_length, norm_unit, norm_units, set_idents, whole_value}
+use Rattle.crs_normal.specs.SpelledUnits.{metre, norm_length, norm_unit, set_idents, whole_value}
 use Rattle.crs_normal.proofs.members.IdentLemmas.{none-form}
-use Rattle.crs_normal.proofs.same.PartLemmas.{NumbersDecide, options-agree, values-agree}
+use Rattle.crs_normal.proofs.same.PartLemmas.{NumbersDecide, values-agree}
 
 -- ---- no identifiers, and a missing unit of length
 
@@ -46,12 +44,6 @@ given-length (Some unit) is = is.0
 pub suits-kind : (asked kind : UnitKind) → Suits asked kind → kind_as asked kind ≡ asked
 suits-kind asked kind suits = grind (arith, suits)
 
--- ---- whole numbers
-
-pub whole-agrees : LowerLaws → (k : ℕ) → IsNormal (whole_value k) → (v : Value) → IsNormal v → (v ≡ whole_value k)
-    ↔ SameNumber (exact v) (whole_number k)
-whole-agrees laws k normal v in-v = let same = laws.normal_is_one v (whole_value k) in-v normal in (same.1, same.0)
-
 -- ---- units
 
 -- the one form decides which identifiers are the same
@@ -61,10 +53,6 @@ IdentsDecide = (level : Level) → FormDecides (Each IsIdent) (set_idents level)
 module _ (numbers : NumbersDecide) (idents : IdentsDecide) (level : Level) where
   pub unit-agrees : (asked : UnitKind) → FormDecides IsUnit (norm_unit level asked) (SameUnit asked level)
   unit-agrees asked a b in-a in-b = grind (arith, values-agree numbers, idents level)
-
-  pub units-agree : (asked : UnitKind) →
-      FormDecides (Maybe IsUnit) (norm_units level asked) (BothOrNeither (SameUnit asked level))
-  units-agree asked = options-agree _ _ _ (unit-agrees asked) _ refl (λ u. refl)
 
   pub length-agrees : FormDecides (Maybe (IsUnitOf kinds.Length)) (norm_length level) (SameLength level)
   length-agrees a b in-a in-b =

@@ -5,7 +5,7 @@ use Rattle.crs_text.specs.Prelude.{Item, leaf, Siblings, End, More, arguments, d
 use Rattle.crs_value.specs.Sound.{Each}
 use Rattle.crs_normal.specs.FormedWithin.{IsFormedWithin}
 use Rattle.crs_normal.specs.SpelledItems.{each, node_of, node_from, number_item, opt}
-use Rattle.crs_normal.specs.TextLaws.{TextLaws}
+use Rattle.crs_normal.specs.LowerLaws.{LowerLaws}
 use Rattle.crs_shape.specs.Prelude.{class_in, class_named}
 use Rattle.crs_shape.specs.declared.class.Class.{Class}
 
@@ -47,14 +47,14 @@ pub run-single : (raw : List ℕ) → IsRun raw → IsInBounds raw → IsSingle 
 run-single [] r b = absurd r
 run-single (c ∷ cs) r b = (r.0, r.1, b)
 
-pub number-single : TextLaws → (raw : List ℕ) → IsInBounds raw → IsSingle number raw
+pub number-single : LowerLaws → (raw : List ℕ) → IsInBounds raw → IsSingle number raw
 number-single laws raw b = run-single raw (laws.run raw (b.0, b.1)) b
 
-pub value-fit : TextLaws → (n : ℕ) (v : Value) → IsNormal v → IsFormedWithin n (number_item v)
+pub value-fit : LowerLaws → (n : ℕ) (v : Value) → IsNormal v → IsFormedWithin n (number_item v)
 value-fit laws n v h =
     let d = laws.denotes v h in fit-leaf n number 0 (plain v) (number-single laws (plain v) (d.0, d.1, d.2))
 
-pub fit-number : {n : ℕ} {items : Siblings} → TextLaws → (v : Value) → IsNormal v → AreFit n items →
+pub fit-number : {n : ℕ} {items : Siblings} → LowerLaws → (v : Value) → IsNormal v → AreFit n items →
     AreFit n (More (number_item v) items)
 fit-number {n = n} laws v h g = fit-more (number_item v) (value-fit laws n v h) g
 
@@ -82,14 +82,14 @@ pub record IsWritable (item : Item) : Type 0 where
   pub within : depth item ≤ 12
 
 -- writable items with the same text are equal but for places and delimiters
-pub one-by-text : TextLaws → (i j : Item) → IsWritable i → IsWritable j → item_text i ≡ item_text j →
+pub one-by-text : LowerLaws → (i j : Item) → IsWritable i → IsWritable j → item_text i ≡ item_text j →
     at_place 0 i ≡ at_place 0 j
 one-by-text laws i j a b e =
     laws.one_node (item_text i) (at_place 0 i) (at_place 0 j) (laws.spells i a.formed a.is_node a.within)
     (subst (λ t. SpellsNode t (at_place 0 j)) (sym e) (laws.spells j b.formed b.is_node b.within))
 
 -- values are equal where the texts of their items are, if each is read from its item
-pub told : {V : Type 0} (item : V → Item) (R : Item → V → Type 0) (Q : V → Type 0) → TextLaws →
+pub told : {V : Type 0} (item : V → Item) (R : Item → V → Type 0) (Q : V → Type 0) → LowerLaws →
     ((i : Item) (a b : V) → R i a → R i b → a ≡ b) →
     ((x : V) → Q x → IsWritable (item x)) → ((x : V) → Q x → (place : ℕ) → R (at_place place (item x)) x) → (a b : V) →
     Q a → Q b →

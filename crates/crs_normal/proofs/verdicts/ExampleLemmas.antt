@@ -1,8 +1,7 @@
 -- A text is normal, or isn't, as was computed of its item.
 use Rattle.std.proofs.Common.{◌≡◌, ℕ, List, Some, sym, ap, subst, ◌∙◌}
-use Rattle.crs_normal.specs.DecimalLaws.{DecimalLaws}
-use Rattle.crs_decimal.specs.Prelude.{Parts, SpellsNumber}
-use Rattle.crs_text.specs.Prelude.{Item, IsNode, depth, SpellsNode, WrittenSpells, at_place, item_text}
+use Rattle.crs_normal.specs.LowerLaws.{LowerLaws}
+use Rattle.crs_text.specs.Prelude.{Item, IsNode, depth, SpellsNode, at_place, item_text}
 use Rattle.crs_shape.specs.declared.class.Class.{Class}
 use Rattle.crs_shape.specs.Prelude.{class_of_root}
 use Rattle.crs_value.specs.declared.values.level.Level.{Level}
@@ -12,41 +11,30 @@ use Rattle.crs_normal.specs.Examples.{IsOtherwiseAt}
 use Rattle.crs_normal.specs.Normal.{IsNormalIn, IsNormalText}
 use Rattle.crs_normal.proofs.made.PlaceLemmas.{text-at}
 use Rattle.crs_normal.proofs.verdicts.NormalVerdict.{formed, normal_in}
-use Rattle.crs_normal.proofs.verdicts.SingleVerdict.{NumberLaws}
 use Rattle.crs_normal.proofs.verdicts.TextItem.{item_of}
 use Rattle.crs_normal.proofs.verdicts.Verdicts.{Fails, Holds, Verdict, at_most, proof, refutation}
-
-pub record TextLaws : Type 0 where
-  pub numbers : NumberLaws
-  pub written : WrittenSpells
-  pub one_node : (bytes : List ℕ) (i j : Item) → SpellsNode bytes i → SpellsNode bytes j → i ≡ j
-
-abbrev pub text-laws : DecimalLaws → ((bytes : List ℕ) (p q : Parts) → SpellsNumber bytes p → SpellsNumber bytes q → p ≡ q) →
-    WrittenSpells → ((bytes : List ℕ) (i j : Item) → SpellsNode bytes i → SpellsNode bytes j → i ≡ j) → TextLaws
-text-laws decimals one_form written one_node =
-    record { numbers = record { decimals = decimals; one_form = one_form }; written = written; one_node = one_node }
 
 -- the item of the text
 abbrev pub placed : List ℕ → Item
 placed bytes = at_place 0 (item_of bytes)
 
 -- the text is written as the item that was read in it, which is a node of this class, not too deep, and well formed
-abbrev pub IsRead : TextLaws → Class → List ℕ → Type 0
+abbrev pub IsRead : LowerLaws → Class → List ℕ → Type 0
 IsRead l c bytes =
     (bytes ≡ item_text (item_of bytes)) × (class_of_root (placed bytes) ≡ Some c) × IsNode (item_of bytes)
-    × Holds (at_most (depth (item_of bytes)) 12) × Holds (formed l.numbers (item_of bytes))
+    × Holds (at_most (depth (item_of bytes)) 12) × Holds (formed l (item_of bytes))
 
-spelled : (l : TextLaws) (c : Class) (bytes : List ℕ) → IsRead l c bytes → SpellsNode bytes (placed bytes)
+spelled : (l : LowerLaws) (c : Class) (bytes : List ℕ) → IsRead l c bytes → SpellsNode bytes (placed bytes)
 spelled l c bytes r =
     subst (λ b. SpellsNode b (placed bytes)) (sym r.0)
-    (l.written (item_of bytes) (proof (formed l.numbers (item_of bytes)) r.4) r.2
+    (l.spells (item_of bytes) (proof (formed l (item_of bytes)) r.4) r.2
     (proof (at_most (depth (item_of bytes)) 12) r.3))
 
-abbrev verdict : TextLaws → (level : Level) (c : Class) (bytes : List ℕ) → Verdict (IsNormalIn level c c (placed bytes))
-verdict l level c bytes = normal_in l.numbers level c c (placed bytes)
+abbrev verdict : LowerLaws → (level : Level) (c : Class) (bytes : List ℕ) → Verdict (IsNormalIn level c c (placed bytes))
+verdict l level c bytes = normal_in l level c c (placed bytes)
 
-pub is-normal : (l : TextLaws) (level : Level) (c : Class) (bytes : List ℕ) → IsRead l c bytes →
-    Holds (normal_in l.numbers level c c (placed bytes)) → IsNormalText level bytes
+pub is-normal : (l : LowerLaws) (level : Level) (c : Class) (bytes : List ℕ) → IsRead l c bytes →
+    Holds (normal_in l level c c (placed bytes)) → IsNormalText level bytes
 is-normal l level c bytes r h = record {
   item = placed bytes;
   class_read = c;
@@ -56,8 +44,8 @@ is-normal l level c bytes r h = record {
   normal = proof (verdict l level c bytes) h;
 }
 
-pub is-otherwise : (l : TextLaws) (level : Level) (c : Class) (bytes : List ℕ) → IsRead l c bytes →
-    Fails (normal_in l.numbers level c c (placed bytes)) → IsOtherwiseAt level bytes
+pub is-otherwise : (l : LowerLaws) (level : Level) (c : Class) (bytes : List ℕ) → IsRead l c bytes →
+    Fails (normal_in l level c c (placed bytes)) → IsOtherwiseAt level bytes
 is-otherwise l level c bytes r h = record {
   item = placed bytes;
   spells = spelled l c bytes r;
@@ -72,7 +60,7 @@ is-otherwise l level c bytes r h = record {
 }
 
 -- what a text of this class spells is read from its item
-pub read-here : (l : TextLaws) (c : Class) (bytes : List ℕ) → IsRead l c bytes → (crs : Crs) → Spells bytes crs →
+pub read-here : (l : LowerLaws) (c : Class) (bytes : List ℕ) → IsRead l c bytes → (crs : Crs) → Spells bytes crs →
     ReadsCrs c (placed bytes) crs
 read-here l c bytes r crs s =
     let same : s.0 ≡ placed bytes = l.one_node bytes s.0 (placed bytes) s.1.0 (spelled l c bytes r) in

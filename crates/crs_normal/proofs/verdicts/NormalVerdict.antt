@@ -16,8 +16,9 @@ use Rattle.crs_value.specs.declared.values.level.Level.TheVariants as levels
 use Rattle.crs_normal.specs.Ascending.{Below}
 use Rattle.crs_normal.specs.Normal.{AreNormalIn, AtLevel, IsFirst, IsNormalIn, IsFirstKeyword, left_out}
 use Rattle.crs_normal.specs.NormalOwn.{Ascend, AreOrdered, HasAxes, HasCodes, Has, HasSets, HasTail, IsCode, LacksEllipsoidal, Lacks, HasOwnForm, Rise, bare_classes, numbers_in, rank, set_classes, words_in}
+use Rattle.crs_normal.specs.LowerLaws.{LowerLaws}
 use Rattle.crs_normal.proofs.verdicts.Verdicts.{Verdict, at_most, both, each, equal, equal_by, implied, negated, none, one_of, some, via}
-use Rattle.crs_normal.proofs.verdicts.SingleVerdict.{NumberLaws, is_code, is_single, is_word, single_in}
+use Rattle.crs_normal.proofs.verdicts.SingleVerdict.{is_code, is_single, is_word, single_in}
 
 -- ---- the arguments of a class
 
@@ -163,18 +164,18 @@ at_level levels.Definition c item =
     each (λ d. [] ≡ those c d (arguments item)) (λ d. over (λ xs. [] ≡ xs) (λ xs. via (λ e. sym e) (λ e. sym e) (none xs)) c d (arguments item)) left_out
 
 abbrev mutual
-  pub formed : NumberLaws → (item : Item) → Verdict (AreFormed item)
+  pub formed : LowerLaws → (item : Item) → Verdict (AreFormed item)
   formed l (leaf kind place raw) = is_single l kind raw
   formed l (node place keyword square first others close) =
       via (λ h. (h.0, h.1.0, h.1.1)) (λ h. (h.0, (h.1, h.2)))
       (both (is_word keyword) (both (formed l first) (all_formed l others)))
 
-  pub all_formed : NumberLaws → (items : Siblings) → Verdict (AreAllFormed items)
+  pub all_formed : LowerLaws → (items : Siblings) → Verdict (AreAllFormed items)
   all_formed l End = Some (inl tt)
   all_formed l (More item items) = both (formed l item) (all_formed l items)
 
 abbrev mutual
-  pub normal_in : NumberLaws → (level : Level) (parent c : Class) (item : Item) → Verdict (IsNormalIn level parent c item)
+  pub normal_in : LowerLaws → (level : Level) (parent c : Class) (item : Item) → Verdict (IsNormalIn level parent c item)
   normal_in l level parent c (leaf kind place raw) = single_in l parent kind raw
   normal_in l level parent c (node place keyword square first others close) =
       via
@@ -192,7 +193,7 @@ abbrev mutual
       (both (at_class (class_in c first) (λ d. IsNormalIn level c d first) (λ d. normal_in l level c d first))
       (all_normal_in l level c others))))))
 
-  pub all_normal_in : NumberLaws → (level : Level) (c : Class) (items : Siblings) → Verdict (AreNormalIn level c items)
+  pub all_normal_in : LowerLaws → (level : Level) (c : Class) (items : Siblings) → Verdict (AreNormalIn level c items)
   all_normal_in l level c End = Some (inl tt)
   all_normal_in l level c (More item items) =
       both (at_class (class_in c item) (λ d. IsNormalIn level c d item) (λ d. normal_in l level c d item))

@@ -8,14 +8,14 @@ use Rattle.crs_text.specs.Prelude.{Item, leaf, doubled, Kind, number, text, word
 use Rattle.crs_text.specs.declared.items.ItemKind.TheVariants as kinds
 use Rattle.crs_shape.specs.declared.class.Class.{Class}
 use Rattle.crs_shape.specs.declared.class.Class.TheVariants as class
-use Rattle.crs_shape.specs.Prelude.{direction_word, system_word}
+use Rattle.crs_shape.specs.Prelude.{direction_word, every_direction, every_type, system_word}
 use Rattle.crs_value.specs.Prelude.{IsText}
-use Rattle.crs_normal.specs.DecimalLaws.{DecimalLaws}
+use Rattle.crs_normal.specs.LowerLaws.{LowerLaws}
 use Rattle.crs_normal.specs.Normal.{IsNumberIn, IsSingleIn, IsWordIn}
 use Rattle.crs_normal.specs.NormalOwn.{IsCode, IsShort}
 use Rattle.crs_normal.specs.SpelledItems.{is_short}
 use Rattle.crs_normal.proofs.made.LeafLemmas.{short-true, true-short}
-use Rattle.crs_normal.proofs.texts.WordFormLemmas.{direction-known, direction_of, type-known, type_of}
+use Rattle.crs_normal.proofs.texts.WordFormLemmas.{AreKnown, direction-known, spelled, type-known}
 use Rattle.crs_normal.proofs.verdicts.Verdicts.{Verdict, both, equal, negated, or_else, refuted_by, shown_by, tested, via}
 use Rattle.crs_normal.proofs.texts.ItemLemmas.{run-single}
 
@@ -40,9 +40,9 @@ is_code other = None
 -- ---- words
 
 -- one of the words of a kind, which are known by their small letters
-module _ {T : Type 0} (word : T → List ℕ) (named : List ℕ → Option T) (known : (t : T) → named (str_to_ascii_lowercase (word t)) ≡ Some t) where
+module _ {T : Type 0} (word : T → List ℕ) (all : List T) (known : AreKnown word all) where
   abbrev found_of : List ℕ → Option T
-  found_of raw = named (str_to_ascii_lowercase raw)
+  found_of raw = spelled word all (str_to_ascii_lowercase raw)
 
   pub no-word : (raw : List ℕ) → found_of raw ≡ None → ¬ ((t : T) × (raw ≡ word t))
   no-word raw e h = let k : None ≡ Some h.0 = sym e ∙ ap found_of h.1 ∙ known h.0 in cc
@@ -56,17 +56,15 @@ module _ {T : Type 0} (word : T → List ℕ) (named : List ℕ → Option T) (k
   word_of raw None e = Some (inr (no-word raw e))
   word_of raw (Some t) e = via (λ p. (t, p)) (other-word raw t e) (equal raw (word t))
 
+  abbrev is_word_of : (raw : List ℕ) → Verdict ((t : T) × (raw ≡ word t))
+  is_word_of raw = word_of raw (found_of raw) refl
+
 abbrev word_in : (c : Class) (raw : List ℕ) → Verdict (IsWordIn c raw)
-word_in class.CoordinateSystem raw = word_of system_word type_of type-known raw (type_of (str_to_ascii_lowercase raw)) refl
-word_in class.Axis raw = word_of direction_word direction_of direction-known raw (direction_of (str_to_ascii_lowercase raw)) refl
+word_in class.CoordinateSystem raw = is_word_of system_word every_type type-known raw
+word_in class.Axis raw = is_word_of direction_word every_direction direction-known raw
 word_in c raw = Some (inl tt)
 
 -- ---- numbers
-
--- what is known of numbers
-pub record NumberLaws : Type 0 where
-  pub decimals : DecimalLaws
-  pub one_form : (bytes : List ℕ) (p q : Parts) → SpellsNumber bytes p → SpellsNumber bytes q → p ≡ q
 
 -- how many zeros there are at the end
 abbrev zeros : List ℕ → ℕ
@@ -110,15 +108,15 @@ abbrev plain_of : (raw : List ℕ) → Verdict (IsPlainOf raw)
 plain_of raw =
     both (tested (is_normal (value_from raw)) (λ e. e) (λ e. e)) (equal raw (plain (value_from raw)))
 
-pub plain-is-plain : NumberLaws → (raw : List ℕ) → IsPlainOf raw → IsPlain raw
-plain-is-plain l raw h = subst IsPlain (sym h.1) (l.decimals.is_plain (value_from raw) h.0)
+pub plain-is-plain : LowerLaws → (raw : List ℕ) → IsPlainOf raw → IsPlain raw
+plain-is-plain l raw h = subst IsPlain (sym h.1) (l.is_plain (value_from raw) h.0)
 
-pub plain-is-single : NumberLaws → (raw : List ℕ) → IsPlainOf raw → IsSingle number raw
+pub plain-is-single : LowerLaws → (raw : List ℕ) → IsPlainOf raw → IsSingle number raw
 plain-is-single l raw h =
     let v : Value = value_from raw in
-    let d : Denotes (plain v) (exact v) = l.decimals.denotes v h.0 in
+    let d : Denotes (plain v) (exact v) = l.denotes v h.0 in
     subst (IsSingle number) (sym h.1)
-    (run-single (plain v) (l.decimals.as_run (plain v) (d.0, d.1)) (d.0, d.1, d.2))
+    (run-single (plain v) (l.run (plain v) (d.0, d.1)) (d.0, d.1, d.2))
 
 -- ---- the one number here that isn't plain
 
@@ -142,29 +140,29 @@ one-in-bounds = (
 pub one-is-single : (raw : List ℕ) → raw ≡ codes "1.0" → IsSingle number raw
 one-is-single raw e = subst (IsSingle number) (sym e) (refl, refl, one-in-bounds)
 
-pub one-is-not-plain : NumberLaws → (raw : List ℕ) → raw ≡ codes "1.0" → ¬ (IsPlain raw)
+pub one-is-not-plain : LowerLaws → (raw : List ℕ) → raw ≡ codes "1.0" → ¬ (IsPlain raw)
 one-is-not-plain l raw e h =
     let p : IsPlain (codes "1.0") = subst IsPlain e h in
     let k : p.parts ≡ one_point_zero = l.one_form (codes "1.0") p.parts one_point_zero p.spells spells-one in
     let f : IsFractionNeeded (Some (codes "0")) = subst (λ q. IsFractionNeeded q.fraction) k p.fraction in f refl
 
-abbrev is_plain_number : NumberLaws → (raw : List ℕ) → Verdict (IsPlain raw)
+abbrev is_plain_number : LowerLaws → (raw : List ℕ) → Verdict (IsPlain raw)
 is_plain_number l raw =
     or_else (shown_by (plain-is-plain l raw) (plain_of raw))
     (refuted_by (one-is-not-plain l raw) (equal raw (codes "1.0")))
 
-abbrev is_single_number : NumberLaws → (raw : List ℕ) → Verdict (IsSingle number raw)
+abbrev is_single_number : LowerLaws → (raw : List ℕ) → Verdict (IsSingle number raw)
 is_single_number l raw =
     or_else (shown_by (plain-is-single l raw) (plain_of raw))
     (shown_by (one-is-single raw) (equal raw (codes "1.0")))
 
 -- ---- single items
 
-abbrev number_in : NumberLaws → (c : Class) (raw : List ℕ) → Verdict (IsNumberIn c raw)
+abbrev number_in : LowerLaws → (c : Class) (raw : List ℕ) → Verdict (IsNumberIn c raw)
 number_in l class.Identifier raw = Some (inl tt)
 number_in l c raw = is_plain_number l raw
 
-abbrev pub single_in : NumberLaws → (c : Class) (kind : Kind) (raw : List ℕ) → Verdict (IsSingleIn c kind raw)
+abbrev pub single_in : LowerLaws → (c : Class) (kind : Kind) (raw : List ℕ) → Verdict (IsSingleIn c kind raw)
 single_in l c number raw = number_in l c raw
 single_in l c text raw = Some (inl tt)
 single_in l c word raw = word_in c raw
@@ -179,7 +177,7 @@ is_text raw =
     shown_by (λ h. ((raw, h.0), (raw, (h.1.0, h.1.1)))) (both (equal raw (doubled raw))
     (both (tested (all_scalars raw) (λ e. e) (λ e. e)) (equal (encode_utf8_all raw) raw)))
 
-abbrev pub is_single : NumberLaws → (kind : Kind) (raw : List ℕ) → Verdict (IsSingle kind raw)
+abbrev pub is_single : LowerLaws → (kind : Kind) (raw : List ℕ) → Verdict (IsSingle kind raw)
 is_single l number raw = is_single_number l raw
 is_single l text raw = is_text raw
 is_single l word raw = is_word raw

@@ -1,9 +1,7 @@
 //! The definition of normal texts on worked examples.
 ghost use Rattle.crs_normal.specs.Examples.{AreNormal, AreNormalAtFullAlone, AreNormalByDefinition, DynamicsWrittenOtherwise, NameAloneIsNormal, GeographicsWrittenOtherwise, HeightsWrittenOtherwise};
 
-use crate::laws::made::decimal_laws;
-use crs_decimal::laws::one_form;
-use crs_text::laws::{one_answer, written_items};
+use crate::laws::lower::lower_laws;
 
 /// Some texts are normal, one of which spells no CRS; those that differ from one of them in a point aren't. Some are
 /// normal by definition; those that also have an identifier, a usage or a remark are normal at the full level alone.
@@ -16,8 +14,5 @@ pub fn worked_examples()
     ensures geographics { GeographicsWrittenOtherwise }
     ensures dynamics { DynamicsWrittenOtherwise }
 {
-    decimal_laws();
-    one_answer();
-    one_form();
-    written_items();
+    lower_laws();
 }

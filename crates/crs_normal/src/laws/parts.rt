@@ -45,22 +45,10 @@ ghost use Rattle.crs_normal.specs.PartTexts.{method_text, parameter_text, projec
 ghost use Rattle.crs_normal.specs.PartTexts.{norm_axis_alone, vertical_text};
 ghost use Rattle.crs_normal.specs.WrittenForm.{IsWrittenForm};
 
-use crate::laws::made::{
-    decimal_laws, made_crs_is_normal, made_members_are_normal, made_parts_are_normal,
-};
-use crate::laws::normal::{
-    normal_axis_is_its_form, normal_crs_is_its_form, normal_frame_is_its_form,
-    normal_members_are_their_forms, normal_parts_are_their_forms, normal_unit_is_its_form,
-};
-use crate::laws::read::{crs_is_read_back, crs_parts_are_read_back, frame_parts_are_read_back};
-use crate::laws::sets::{member_texts_tell_members, members_are_read_back, text_laws};
+use crate::laws::lower::lower_laws;
+use crate::laws::sets::sets_decide;
 use crate::laws::texts::written_forms_are_equal_where_same;
-use crate::laws::values::{
-    same_conversions_have_one_form, same_dynamic_parts_have_one_form, same_frames_have_one_form,
-    same_kinds_have_one_form, same_systems_have_one_form, same_tails_have_one_form,
-    same_units_have_one_form,
-};
-use crs_text::laws::written_items;
+use crs_same::laws::parts_agree_where_same;
 use crs_value::laws::members_read_once;
 use crs_value::laws::parts::{kinds_are_sound, parts_are_sound, parts_read_once};
 
@@ -74,12 +62,8 @@ pub fn closed_texts()
 pub fn identifiers_are_canonical()
     ensures { (level : Level) → IsWrittenForm IsIdent SameIdent (IsSpelledIdent level) (ident_text level) }
 {
-    made_members_are_normal();
-    normal_members_are_their_forms();
-    members_are_read_back();
-    member_texts_tell_members();
-    text_laws();
-    written_items();
+    lower_laws();
+    members_read_once();
     parts_are_sound();
 }
 
@@ -88,13 +72,9 @@ pub fn units_are_canonical()
     ensures { (level : Level) → IsWrittenForm IsUnit (SameUnit kinds.Plain level) (IsSpelledUnit level)
         (unit_text level) }
 {
-    made_members_are_normal();
-    normal_unit_is_its_form();
-    members_are_read_back();
-    member_texts_tell_members();
-    same_units_have_one_form();
-    text_laws();
-    written_items();
+    lower_laws();
+    sets_decide();
+    members_read_once();
     parts_are_sound();
 }
 
@@ -112,21 +92,12 @@ pub fn frame_parts_are_canonical()
         IsWrittenForm IsAxisMeridian (SameAxisMeridian level) (IsSpelledAxisMeridian level)
         (axis_meridian_text level) }
 {
-    made_parts_are_normal();
-    made_members_are_normal();
-    frame_parts_are_read_back();
-    crs_parts_are_read_back();
-    members_are_read_back();
-    normal_parts_are_their_forms();
-    normal_members_are_their_forms();
-    normal_axis_is_its_form();
-    same_frames_have_one_form();
-    same_systems_have_one_form();
+    lower_laws();
+    sets_decide();
+    parts_agree_where_same();
     members_read_once();
     parts_read_once();
     parts_are_sound();
-    text_laws();
-    written_items();
 }
 
 /// The spellings of axes with their own orders and units, of which `UNIT` is a kind of its own. Profile.
@@ -134,14 +105,10 @@ pub fn axes_are_canonical()
     ensures { (level : Level) →
         IsWrittenForm IsAxis (SameAxisAlone level) (IsSpelledAxis level) (axis_text level) }
 {
-    decimal_laws();
-    crs_parts_are_read_back();
-    normal_axis_is_its_form();
-    same_systems_have_one_form();
+    lower_laws();
+    sets_decide();
     parts_read_once();
     parts_are_sound();
-    text_laws();
-    written_items();
 }
 
 /// Axes whose texts are equal have one form. Profile.
@@ -150,7 +117,8 @@ pub fn axis_texts_tell_axes()
         norm_axis_alone level a ≡ norm_axis_alone level b }
 {
     axes_are_canonical();
-    same_systems_have_one_form();
+    lower_laws();
+    sets_decide();
 }
 
 /// The spellings of conversions, their methods and parameters, and geoid models. Profile.
@@ -166,18 +134,12 @@ pub fn conversions_are_canonical()
         IsWrittenForm IsGeoidModel (SameGeoidModel level)
         (IsSpelledGeoidModel level) (geoid_model_text level) }
 {
-    made_parts_are_normal();
-    made_members_are_normal();
-    crs_parts_are_read_back();
-    members_are_read_back();
-    normal_parts_are_their_forms();
-    normal_members_are_their_forms();
-    same_conversions_have_one_form();
+    lower_laws();
+    sets_decide();
+    parts_agree_where_same();
     members_read_once();
     parts_read_once();
     parts_are_sound();
-    text_laws();
-    written_items();
 }
 
 /// The spellings of deformation models and dynamic parts. Profile.
@@ -188,14 +150,11 @@ pub fn dynamic_parts_are_canonical()
     ensures dynamic { (level : Level) →
         IsWrittenForm IsDynamic (SameDynamic level) (IsSpelledDynamic level) (dynamic_text level) }
 {
-    made_parts_are_normal();
-    crs_parts_are_read_back();
-    normal_parts_are_their_forms();
-    same_dynamic_parts_have_one_form();
+    lower_laws();
+    sets_decide();
+    parts_agree_where_same();
     parts_read_once();
     parts_are_sound();
-    text_laws();
-    written_items();
 }
 
 /// The spellings of boxes and extents. Profile.
@@ -205,15 +164,11 @@ pub fn extents_are_canonical()
     ensures extent { (level : Level) →
         IsWrittenForm IsExtent (SameExtent level) (IsSpelledExtent level) (extent_text level) }
 {
-    made_members_are_normal();
-    members_are_read_back();
-    normal_members_are_their_forms();
-    same_tails_have_one_form();
+    lower_laws();
+    sets_decide();
     members_read_once();
     parts_read_once();
     parts_are_sound();
-    text_laws();
-    written_items();
 }
 
 /// The spellings of usages, which are written alike at every level. Profile.
@@ -221,14 +176,10 @@ pub fn usages_are_canonical()
     ensures { (level : Level) →
         IsWrittenForm IsUsage SameUsage (IsSpelledUsage level) (usage_text level) }
 {
-    made_members_are_normal();
-    members_are_read_back();
-    normal_members_are_their_forms();
-    same_tails_have_one_form();
+    lower_laws();
+    sets_decide();
     members_read_once();
     parts_are_sound();
-    text_laws();
-    written_items();
 }
 
 /// The spellings of reference frames and ensembles: geodetic ones where they have an ellipsoid, else vertical ones. Profile.
@@ -239,13 +190,11 @@ pub fn datums_are_canonical()
         IsWrittenForm IsEnsemble (AreSame parts_of_ensemble level)
         (IsSpelledEnsemble level) (ensemble_text level) }
 {
-    made_parts_are_normal();
-    normal_frame_is_its_form();
-    same_frames_have_one_form();
+    lower_laws();
+    sets_decide();
+    parts_agree_where_same();
     parts_read_once();
     parts_are_sound();
-    text_laws();
-    written_items();
 }
 
 /// The spellings of frames of either kind. Profile.
@@ -273,18 +222,13 @@ pub fn kinds_are_canonical()
         IsWrittenForm IsCompound (AreSame parts_of_compound level)
         (IsSpelledCompound level) (compound_text level) }
 {
-    made_parts_are_normal();
-    made_crs_is_normal();
-    crs_parts_are_read_back();
-    crs_is_read_back();
-    normal_crs_is_its_form();
-    same_kinds_have_one_form();
-    written_forms_are_equal_where_same();
+    lower_laws();
+    sets_decide();
+    parts_agree_where_same();
     parts_read_once();
     parts_are_sound();
     kinds_are_sound();
-    text_laws();
-    written_items();
+    written_forms_are_equal_where_same();
 }
 
 /// The spellings of the horizontal parts of compound CRSs. Profile.

@@ -10,15 +10,13 @@ ghost use Rattle.crs_text.specs.Items.{Item};
 ghost use Rattle.crs_text.specs.TextFault.{SpellsNode};
 ghost use Rattle.crs_text.specs.Written.{item_text};
 ghost use Rattle.crs_normal.specs.Closed.{IsClosed};
+ghost use Rattle.crs_normal.specs.Decides.{DecidesSameness};
 ghost use Rattle.crs_normal.specs.Normal.{IsNormalText};
 ghost use Rattle.crs_normal.specs.SpelledCrs.{item_crs, norm_crs};
 
-use crate::laws::made::{decimal_laws, made_crs_is_normal};
-use crate::laws::normal::normal_text_is_its_form;
-use crate::laws::read::crs_is_read_back;
-use crate::laws::values::same_crss_have_one_form;
-use crs_same::laws::{one_axis_each, same_crs_is_equivalence};
-use crs_shape::laws::no_fault_is_shape;
+use crate::laws::lower::lower_laws;
+use crate::laws::sets::sets_decide;
+use crs_same::laws::{parts_agree_where_same, same_crs_is_equivalence};
 use crs_text::laws::written_items;
 use crs_value::laws::{one_answer, spelled_is_sound};
 
@@ -28,6 +26,23 @@ pub fn spelled_crs_is_sound()
 {
     written_items();
     spelled_is_sound();
+}
+
+// A normal text that spells a CRS is the text of the one form of that CRS.
+fn normal_text_is_its_form()
+    ensures { (level : Level) (bytes : List ℕ) (crs : Crs) → IsNormalText level bytes → Spells bytes crs →
+        bytes ≡ item_text (item_crs (norm_crs level crs)) }
+{
+    lower_laws();
+}
+
+// CRSs have one form exactly where they are the same.
+fn same_crss_have_one_form()
+    ensures { DecidesSameness }
+{
+    parts_agree_where_same();
+    lower_laws();
+    sets_decide();
 }
 
 /// Two normal texts of one level are equal, byte for byte, exactly where they spell the same CRS. Profile.
@@ -47,9 +62,7 @@ pub fn normal_texts_are_equal_where_same()
 pub fn written_form_is_normal()
     ensures { (level : Level) (crs : Crs) → IsCrs crs → IsNormalText level (item_text (item_crs (norm_crs level crs))) }
 {
-    decimal_laws();
-    one_axis_each();
-    written_items();
+    lower_laws();
 }
 
 /// The written form of a CRS is an accepted text, which spells the CRS's one form. Profile.
@@ -57,10 +70,7 @@ pub fn written_form_is_accepted()
     ensures { (level : Level) (crs : Crs) → IsCrs crs →
         Spells (item_text (item_crs (norm_crs level crs))) (norm_crs level crs) }
 {
-    made_crs_is_normal();
-    crs_is_read_back();
-    no_fault_is_shape();
-    written_items();
+    lower_laws();
 }
 
 /// The one form of a CRS is the same CRS. Profile.

@@ -4,18 +4,22 @@ use Rattle.crs_normal.specs.AxisAlone.{IsNormalAxis}
 use Rattle.crs_normal.specs.PartTexts.{norm_axis_alone}
 use Rattle.crs_normal.specs.SpelledSystems.{item_axis}
 use Rattle.crs_normal.proofs.made.AloneLemmas.{axis-stands}
+use Rattle.crs_normal.proofs.parts.AxisAloneLemmas.{axis-alone-form}
 use Rattle.crs_normal.proofs.parts.PartLemmas.{canonical-by, told-by}
+use Rattle.crs_normal.proofs.read.SystemLemmas.{axis-alone-read}
+use Rattle.crs_normal.proofs.same.AxisLemmas.{axis-alone-agrees}
 use Rattle.crs_normal.proofs.laws.parts.axes_are_canonical.Goals as goal
 
 pub returns : goal.returns
 returns c level =
-    canonical-by c.text_laws.ensures c.written_items.ensures.formed item_axis (record {
-      decides = c.same_systems_have_one_form.ensures.alone level;
-      made = axis-stands c.decimal_laws.ensures level;
-      reads = λ x s. c.crs_parts_are_read_back.ensures.axis level x 0 s;
-      told = told-by c.text_laws.ensures (λ x. class.Axis) (λ x. IsNormalAxis level) class.Axis ReadsAxis IsAxis
+    let laws = c.lower_laws.ensures in
+    canonical-by laws item_axis (record {
+      decides = axis-alone-agrees laws c.sets_decide.ensures level;
+      made = axis-stands laws level;
+      reads = λ x s. axis-alone-read laws level x s 0;
+      told = told-by laws (λ x. class.Axis) (λ x. IsNormalAxis level) class.Axis ReadsAxis IsAxis
           (norm_axis_alone level) item_axis (λ a b i. c.parts_read_once.ensures.axis class.Axis i a b)
-          (axis-stands c.decimal_laws.ensures level) (λ x s. c.crs_parts_are_read_back.ensures.axis level x 0 s);
+          (axis-stands laws level) (λ x s. axis-alone-read laws level x s 0);
       sound = λ x s. c.parts_are_sound.ensures.axis class.Axis;
-      own = λ x s i v sound normal. c.normal_axis_is_its_form.ensures.alone level i v sound.shaped normal;
+      own = λ x s i v sound normal. axis-alone-form laws.plain_one level i v sound.shaped normal;
     })

@@ -1,25 +1,29 @@
 use Rattle.std.proofs.Common.{arith}
 use Rattle.crs_shape.specs.declared.class.Class.TheVariants as class
-use Rattle.crs_normal.specs.SpelledUsages.{item_box, item_extent}
-use Rattle.crs_normal.proofs.parts.PartLemmas.{canonical-of}
+use Rattle.crs_normal.specs.SpelledUsages.{item_box, item_extent, norm_extent}
+use Rattle.crs_normal.proofs.made.UsageLemmas.{box-made, extent-made}
+use Rattle.crs_normal.proofs.members.ExtentLemmas.{box-read, extent-kept, extent-read}
+use Rattle.crs_normal.proofs.normal.UsageLemmas.{box-form, extent-form}
+use Rattle.crs_normal.proofs.parts.PartLemmas.{canonical-of, unchecked}
+use Rattle.crs_normal.proofs.same.UsageLemmas.{box-agrees, extent-agrees}
 use Rattle.crs_normal.proofs.laws.parts.extents_are_canonical.Goals as goal
 
 pub returns : goal.returns
 returns c = record {
-  bounding_box = λ level. canonical-of c.text_laws.ensures c.written_items.ensures.formed item_box (record {
-    decides = c.same_tails_have_one_form.ensures.bounding_box;
-    made = c.made_members_are_normal.ensures.bounding_box level;
-    reads = c.members_are_read_back.ensures.bounding_box level;
+  bounding_box = λ level. canonical-of c.lower_laws.ensures item_box (record {
+    decides = box-agrees c.lower_laws.ensures.normal_is_one;
+    made = box-made c.lower_laws.ensures level;
+    reads = box-read c.lower_laws.ensures;
     once = c.parts_read_once.ensures.bounding_box;
     sound = c.parts_are_sound.ensures.bounding_box class.BoundingBox;
-    own = λ d i v shaped normal free. c.normal_members_are_their_forms.ensures.bounding_box level d i v shaped normal;
+    own = unchecked (box-form c.lower_laws.ensures.plain_one level class.BoundingBox);
   }) (omega arith);
-  extent = λ level. canonical-of c.text_laws.ensures c.written_items.ensures.formed item_extent (record {
-    decides = c.same_tails_have_one_form.ensures.extent level;
-    made = c.made_members_are_normal.ensures.extent level;
-    reads = c.members_are_read_back.ensures.extent level;
+  extent = λ level. canonical-of c.lower_laws.ensures item_extent (record {
+    decides = extent-agrees c.lower_laws.ensures.normal_is_one c.sets_decide.ensures.idents level;
+    made = extent-made c.lower_laws.ensures level;
+    reads = λ x s. extent-read c.lower_laws.ensures (norm_extent level x) (extent-kept level x s);
     once = c.members_read_once.ensures.extent;
     sound = c.parts_are_sound.ensures.extent class.VerticalExtent;
-    own = λ d i v shaped normal free. c.normal_members_are_their_forms.ensures.extent level d i v shaped normal;
+    own = unchecked (extent-form c.lower_laws.ensures.plain_one level class.VerticalExtent);
   }) (omega arith);
 }

@@ -1,45 +1,57 @@
-use Rattle.std.proofs.Common.{Some, arith}
+use Rattle.std.proofs.Common.{arith, codes}
 use Rattle.crs_shape.specs.declared.class.Class.TheVariants as class
-use Rattle.crs_value.specs.Prelude.{IsAxisMeridian}
-use Rattle.crs_matching.specs.Prelude.{SameAxisMeridian}
-use Rattle.crs_normal.specs.SpelledFrames.{item_ellipsoid, item_member, item_meridian}
-use Rattle.crs_normal.specs.SpelledSystems.{item_axis_meridian, norm_axis_meridian}
-use Rattle.crs_normal.proofs.parts.PartLemmas.{canonical-of, some-decides}
+use Rattle.crs_normal.specs.SpelledFrames.{item_ellipsoid, item_member, item_meridian, norm_member}
+use Rattle.crs_normal.specs.SpelledSystems.{item_axis_meridian}
+use Rattle.crs_normal.proofs.made.AxisLemmas.{axis-meridian-made}
+use Rattle.crs_normal.proofs.made.EllipsoidLemmas.{ellipsoid-made}
+use Rattle.crs_normal.proofs.made.MeridianLemmas.{meridian-made}
+use Rattle.crs_normal.proofs.made.NamedLemmas.{member-made}
+use Rattle.crs_normal.proofs.members.MemberLemmas.{named-kept, named-read}
+use Rattle.crs_normal.proofs.normal.AxisLemmas.{axis_meridian-form}
+use Rattle.crs_normal.proofs.normal.EllipsoidLemmas.{ellipsoid-form, meridian-form}
+use Rattle.crs_normal.proofs.normal.NamedLemmas.{member-form}
+use Rattle.crs_normal.proofs.parts.PartLemmas.{canonical-of, unchecked}
+use Rattle.crs_normal.proofs.read.FrameLemmas.{ellipsoid-read, given-read}
+use Rattle.crs_normal.proofs.read.NameLemmas.{keyword-names}
+use Rattle.crs_normal.proofs.read.SystemLemmas.{axis-meridian-read}
+use Rattle.crs_normal.proofs.same.AxisLemmas.{axis-meridian-agrees}
+use Rattle.crs_normal.proofs.same.FrameLemmas.{ellipsoid-agrees, given-agrees}
+use Rattle.crs_normal.proofs.same.PartLemmas.{decides-parts}
+use Rattle.crs_normal.proofs.same.UnitLemmas.{named-agrees}
 use Rattle.crs_normal.proofs.laws.parts.frame_parts_are_canonical.Goals as goal
 
 pub returns : goal.returns
 returns c = record {
-  ellipsoid = λ level. canonical-of c.text_laws.ensures c.written_items.ensures.formed item_ellipsoid (record {
-    decides = c.same_frames_have_one_form.ensures.ellipsoid level;
-    made = c.made_parts_are_normal.ensures.ellipsoid level;
-    reads = c.frame_parts_are_read_back.ensures.ellipsoid level;
+  ellipsoid = λ level. canonical-of c.lower_laws.ensures item_ellipsoid (record {
+    decides = decides-parts (λ a b in-a in-b. (c.parts_agree_where_same.ensures level).ellipsoid a b) (ellipsoid-agrees c.lower_laws.ensures.normal_is_one c.sets_decide.ensures level);
+    made = ellipsoid-made c.lower_laws.ensures level;
+    reads = ellipsoid-read c.lower_laws.ensures level;
     once = c.parts_read_once.ensures.ellipsoid;
     sound = c.parts_are_sound.ensures.ellipsoid;
-    own = λ d i v shaped normal free. c.normal_parts_are_their_forms.ensures.ellipsoid level d i v shaped normal;
+    own = unchecked (ellipsoid-form c.lower_laws.ensures.plain_one level class.Ellipsoid);
   }) (omega arith);
-  meridian = λ level. canonical-of c.text_laws.ensures c.written_items.ensures.formed item_meridian (record {
-    decides = c.same_frames_have_one_form.ensures.given level;
-    made = c.made_parts_are_normal.ensures.meridian level;
-    reads = c.frame_parts_are_read_back.ensures.given level;
+  meridian = λ level. canonical-of c.lower_laws.ensures item_meridian (record {
+    decides = decides-parts (λ a b in-a in-b. (c.parts_agree_where_same.ensures level).given a b) (given-agrees c.lower_laws.ensures.normal_is_one c.sets_decide.ensures level);
+    made = meridian-made c.lower_laws.ensures level;
+    reads = given-read c.lower_laws.ensures level;
     once = c.parts_read_once.ensures.meridian;
     sound = c.parts_are_sound.ensures.meridian class.PrimeMeridian;
-    own = λ d i v shaped normal free. c.normal_parts_are_their_forms.ensures.meridian level d i v shaped normal;
+    own = unchecked (meridian-form c.lower_laws.ensures.plain_one c.lower_laws.ensures.zero_plain level class.PrimeMeridian);
   }) (omega arith);
-  member = λ level. canonical-of c.text_laws.ensures c.written_items.ensures.formed item_member (record {
-    decides = c.same_frames_have_one_form.ensures.member level;
-    made = c.made_members_are_normal.ensures.member level;
-    reads = c.members_are_read_back.ensures.member level;
+  member = λ level. canonical-of c.lower_laws.ensures item_member (record {
+    decides = named-agrees c.sets_decide.ensures.idents level;
+    made = member-made c.lower_laws.ensures level;
+    reads = λ x s. named-read class.Member (codes "MEMBER") (keyword-names _ _) (norm_member level x) (named-kept level x s);
     once = c.members_read_once.ensures.member;
     sound = c.parts_are_sound.ensures.member class.Member;
-    own = λ d i v shaped normal free. c.normal_members_are_their_forms.ensures.member level d i v shaped normal;
+    own = unchecked (member-form level class.Member);
   }) (omega arith);
-  along = λ level. canonical-of c.text_laws.ensures c.written_items.ensures.formed item_axis_meridian (record {
-    decides = some-decides IsAxisMeridian (norm_axis_meridian level) (SameAxisMeridian level)
-        (λ a b p q. c.same_systems_have_one_form.ensures.meridian level (Some a) (Some b) p q);
-    made = c.made_parts_are_normal.ensures.along level;
-    reads = c.crs_parts_are_read_back.ensures.along level;
+  along = λ level. canonical-of c.lower_laws.ensures item_axis_meridian (record {
+    decides = axis-meridian-agrees c.lower_laws.ensures c.sets_decide.ensures level;
+    made = axis-meridian-made c.lower_laws.ensures level;
+    reads = axis-meridian-read c.lower_laws.ensures level;
     once = c.parts_read_once.ensures.along;
     sound = c.parts_are_sound.ensures.along class.AxisMeridian;
-    own = λ d i v shaped normal free. c.normal_axis_is_its_form.ensures.meridian level d i v shaped normal;
+    own = unchecked (axis_meridian-form c.lower_laws.ensures.plain_one level class.AxisMeridian);
   }) (omega arith);
 }

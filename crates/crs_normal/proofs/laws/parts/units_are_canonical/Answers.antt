@@ -1,21 +1,26 @@
 use Rattle.std.proofs.Common.{arith}
 use Rattle.crs_shape.specs.declared.unit_kind.UnitKind.TheVariants as kinds
+use Rattle.crs_matching.specs.Prelude.{kind_as}
 use Rattle.crs_normal.specs.PartSpellings.{unit_class}
-use Rattle.crs_normal.specs.SpelledUnits.{item_unit}
-use Rattle.crs_normal.proofs.parts.PartLemmas.{canonical-by, made-stands}
+use Rattle.crs_normal.specs.SpelledUnits.{item_unit, norm_unit}
+use Rattle.crs_normal.proofs.made.UnitLemmas.{unit-made}
+use Rattle.crs_normal.proofs.members.MemberUnitLemmas.{unit-kept, unit-read, unit-told}
+use Rattle.crs_normal.proofs.parts.PartLemmas.{canonical-by, good-of, made-stands}
 use Rattle.crs_normal.proofs.parts.PartUnitLemmas.{is-unit_class, kind-in, names-id, own-unit}
+use Rattle.crs_normal.proofs.same.UnitLemmas.{unit-agrees}
 use Rattle.crs_normal.proofs.laws.parts.units_are_canonical.Goals as goal
 
 pub returns : goal.returns
 returns c level =
-    let own = c.normal_unit_is_its_form.ensures in
-    canonical-by c.text_laws.ensures c.written_items.ensures.formed item_unit (record {
-      decides = c.same_units_have_one_form.ensures.one level kinds.Plain;
+    let laws = c.lower_laws.ensures in
+    let kept = unit-kept level kinds.Plain in
+    canonical-by laws item_unit (record {
+      decides = unit-agrees laws.normal_is_one c.sets_decide.ensures.idents level kinds.Plain;
       made = λ x s. made-stands (omega arith)
-          (c.made_members_are_normal.ensures.unit level (unit_class x.kind) kinds.Plain x 0 (kind-in x.kind) s);
-      reads = λ x s. c.members_are_read_back.ensures.unit level (unit_class x.kind) kinds.Plain x 0 (names-id x.kind) s;
-      told = c.member_texts_tell_members.ensures.unit level kinds.Plain;
+          (unit-made laws level (unit_class x.kind) (kind_as kinds.Plain x.kind) x (kind-in x.kind) s 0);
+      reads = λ x s. unit-read laws (unit_class x.kind) (names-id x.kind) (norm_unit level kinds.Plain x) (kept x s) 0;
+      told = λ a b p q. unit-told laws c.members_read_once.ensures.unit (norm_unit level kinds.Plain a) (norm_unit level kinds.Plain b)
+          (kept a p) (kept b q);
       sound = λ x s. c.parts_are_sound.ensures.unit (unit_class x.kind) (is-unit_class x.kind);
-      own = λ x s i v sound normal. own-unit level (own.length level kinds.Plain) (own.angle level kinds.Plain)
-          (own.scale level kinds.Plain) (own.plain level) x.kind (unit_class x.kind) i v sound.shaped normal;
+      own = λ x s i v sound normal. own-unit laws.plain_one level x.kind i v (good-of sound normal);
     })

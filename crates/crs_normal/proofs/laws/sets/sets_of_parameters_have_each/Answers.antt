@@ -24,7 +24,7 @@ pub returns : goal.returns
 unfolding set_parameters
 returns c level test xs h =
     let text = λ (p : ParameterParts). item_text (item_parameter p) in
-    let told = parameter-told c.text_laws.ensures c.members_read_once.ensures.parameter in
+    let told = parameter-told c.lower_laws.ensures c.members_read_once.ensures.parameter in
     let ys = map (norm_parameter level) xs in
     let sound = each-map (norm_parameter level) IsParameter xs (each-so _ _ (parameter-kept level) xs h) in
     same_from_decides {P = list_all test ys ≡ true} (list_all test (in_order text ys)) (list_all test ys) (

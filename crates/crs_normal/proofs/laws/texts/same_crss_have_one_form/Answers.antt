@@ -1,6 +1,6 @@
 use Rattle.crs_normal.proofs.same.CrsLemmas.{crs-agrees}
 use Rattle.crs_normal.proofs.same.PartLemmas.{decides-parts}
-use Rattle.crs_normal.proofs.laws.values.same_crss_have_one_form.Goals as goal
+use Rattle.crs_normal.proofs.laws.texts.same_crss_have_one_form.Goals as goal
 
 pub returns : goal.returns
 returns c level =
