@@ -4,6 +4,7 @@ pub mod AscendLemmas
 pub mod AxisLemmas
 pub mod BehindLemmas
 pub mod CheckLemmas
+pub mod ClassLemmas
 pub mod CompoundLemmas
 pub mod ConversionLemmas
 pub mod CrsLemmas

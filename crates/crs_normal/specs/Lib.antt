@@ -1,4 +1,3 @@
-pub mod AcceptedNormal
 pub mod Ascending
 pub mod AxisAlone
 pub mod CanonicalForm

@@ -11,7 +11,6 @@ use Rattle.crs_value.specs.Prelude.{those, IsAxis, IsAxisUnit, IsUnit, AxisParts
 use Rattle.crs_value.specs.declared.values.level.Level.{Level}
 use Rattle.crs_matching.specs.Prelude.{kind_as}
 use Rattle.crs_normal.specs.AxisAlone.{AreNormalArguments, IsNormalArgument, IsNormalAxis}
-use Rattle.crs_normal.specs.AcceptedNormal.{IsKindIn}
 use Rattle.crs_normal.specs.LowerLaws.{LowerLaws}
 use Rattle.crs_normal.specs.Normal.{IsNormalIn}
 use Rattle.crs_normal.specs.Prelude.{norm_axis_alone, number_node, item_axis, item_axis_meridian, norm_axis_meridians, item_unit, norm_units}
@@ -25,6 +24,7 @@ use Rattle.crs_normal.proofs.read.NameLemmas.{keyword-names}
 use Rattle.crs_normal.proofs.made.ArgumentLemmas.{ArgumentBy, as_runs, fits, laid, may-of, one-of, runs-made, node-made, Argument, text-of}
 use Rattle.crs_normal.proofs.texts.SegmentLemmas.{some-imp}
 use Rattle.crs_normal.proofs.read.ViewLemmas.{each-so}
+use Rattle.crs_normal.proofs.made.ClassLemmas.{IsKindIn}
 
 -- ---- the arguments of an axis by itself
 
@@ -69,7 +69,7 @@ module _ (l : LowerLaws) (level : Level) (u : UnitParts) (h : IsUnit u) where
   plain-alone = record {
     named = keyword-names class.Axis (codes "UNIT");
     fine = λ p. fine-as (omega arith)
-        (λ n. inr (refl, (unit-made l level class.PlainUnit kinds.Plain u refl h p).normal class.Axis)) (plain-stands p).1;
+        (λ n. inr (refl, (unit-made l level class.PlainUnit kinds.Plain u refl h p).1.normal class.Axis)) (plain-stands p).1;
   }
 
   suited : (kind : UnitKind) → IsKindIn class.AxisUnit kind →

@@ -9,7 +9,6 @@ use Rattle.crs_shape.specs.Prelude.{is_keyword, Allowed, SlotParts, class_in, cl
 use Rattle.crs_value.specs.declared.values.level.Level.{Level}
 use Rattle.crs_value.specs.Prelude.{IsText, those, Own as BreaksOwn}
 use Rattle.crs_value.specs.Sound.{Each}
-use Rattle.crs_normal.specs.AcceptedNormal.{IsAcceptedNormal}
 use Rattle.crs_normal.specs.LowerLaws.{LowerLaws}
 use Rattle.crs_normal.specs.Normal.{IsFirstKeyword, IsNormalIn, AreNormalIn, IsNormalNode}
 use Rattle.crs_normal.specs.NormalOwn.{HasOwnForm, Rise, set_classes, Ascend}
@@ -19,7 +18,7 @@ use Rattle.crs_normal.proofs.made.FitLemmas.{given-few, held, more-fit, none-fit
 use Rattle.crs_normal.proofs.read.ViewLemmas.{each-so}
 use Rattle.crs_normal.proofs.made.PlaceLemmas.{placed-ascend}
 use Rattle.crs_normal.proofs.made.LeafLemmas.{number-made, text-made}
-use Rattle.crs_normal.proofs.made.NodeLemmas.{IsOrderly, Made, MadeBy, Run, RunsMadeBy, Sees, as-argument, at-level, classes, each-line, given, line, lines, node-stands, none-orderly, opt-line, AreNormalBy, Stands, sees-by, IsFree, items_in, has-rise}
+use Rattle.crs_normal.proofs.made.NodeLemmas.{IsAcceptedNormal, fine-as, IsOrderly, Made, MadeBy, Run, RunsMadeBy, Sees, as-argument, at-level, classes, each-line, given, line, lines, node-stands, none-orderly, opt-line, AreNormalBy, Stands, sees-by, IsFree, items_in, has-rise}
 use Rattle.crs_normal.proofs.texts.SegmentLemmas.{given-each, some-imp, some-mapped}
 use Rattle.std.proofs.lemmas.Bool.{and_parts}
 
@@ -214,14 +213,7 @@ pub made-of : (level : Level) (most : ℕ) (c : Class) (keyword : List ℕ) (fir
 made-of level most c keyword first others all same letters known written fitting orderly own unbroken p =
     let m = node-made level most c keyword first others all same letters known written fitting orderly own unbroken
     (AreNormalIn level c) (all-normal level c) p in
-    record {
-      is_node = m.0.0;
-      formed = m.0.1.formed;
-      within = m.0.1.within;
-      shaped = m.0.1.shaped;
-      unbroken = m.0.1.unbroken;
-      normal = λ parent. m.1;
-    }
+    (m.0.0, fine-as (omega arith) (λ n parent. m.1) m.0.1)
 
 -- ---- nodes of one text or number
 

@@ -15,13 +15,12 @@ use Rattle.crs_value.specs.declared.values.level.Level.{Level}
 use Rattle.crs_value.specs.Sound.{Each}
 use Rattle.crs_normal.specs.LowerLaws.{LowerLaws}
 use Rattle.crs_normal.specs.CrsClass.{geodetic_class}
-use Rattle.crs_normal.specs.AcceptedNormal.{IsAcceptedNormal}
 use Rattle.crs_normal.specs.SpelledCrs.{geodetic_keyword, item_compound, item_geodetic, item_projected, item_vertical, norm_compound, norm_geodetic, norm_projected, norm_vertical}
 use Rattle.crs_normal.specs.Prelude.{node_of, text_item, norm_tail, tail_items}
 use Rattle.crs_normal.proofs.made.BehindLemmas.{Shows, tail-seen, tail_classes}
 use Rattle.crs_normal.proofs.made.CheckLemmas.{first-number, word-type}
 use Rattle.crs_normal.proofs.made.GeodeticLemmas.{geodetic-made, geodetic-seen}
-use Rattle.crs_normal.proofs.made.NodeLemmas.{Made, Run, alone, as-argument, views, Sees, IsFree}
+use Rattle.crs_normal.proofs.made.NodeLemmas.{IsAcceptedNormal, Made, Run, alone, as-argument, views, Sees, IsFree}
 use Rattle.crs_normal.proofs.made.PlaceLemmas.{none-of}
 use Rattle.crs_normal.proofs.made.ProjectedLemmas.{projected-made, projected-seen}
 use Rattle.crs_normal.proofs.made.SystemLemmas.{IsHeadItem}

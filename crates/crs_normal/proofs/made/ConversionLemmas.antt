@@ -11,14 +11,14 @@ use Rattle.crs_value.specs.declared.values.level.Level.{Level}
 use Rattle.crs_matching.specs.Prelude.{kind_as}
 use Rattle.crs_normal.specs.Prelude.{unit_class, item_conversion, item_method, item_parameter, norm_conversion, norm_method, norm_parameter, set_parameters, item_unit, norm_units}
 use Rattle.crs_normal.specs.LowerLaws.{LowerLaws}
-use Rattle.crs_normal.specs.AcceptedNormal.{IsKindIn, IsAcceptedNormal}
 use Rattle.crs_normal.proofs.made.AscendLemmas.{set-ascends}
 use Rattle.crs_normal.proofs.made.IdentLemmas.{ids-of, ids-orderly, ids_run}
-use Rattle.crs_normal.proofs.made.NodeLemmas.{Made, as-argument, given, IsFree}
+use Rattle.crs_normal.proofs.made.NodeLemmas.{IsAcceptedNormal, Made, as-argument, given, IsFree}
 use Rattle.crs_normal.proofs.made.NamedLemmas.{method-made}
 use Rattle.crs_normal.proofs.made.UnitLemmas.{unit-made}
 use Rattle.crs_normal.proofs.members.ParameterLemmas.{named-as}
 use Rattle.crs_normal.proofs.made.ArgumentLemmas.{made-of, text-of, may-of, number-of, node-of, set-of}
+use Rattle.crs_normal.proofs.made.ClassLemmas.{IsKindIn}
 
 -- ---- parameters: the class of the unit is that of its keyword
 

@@ -8,7 +8,6 @@ use Rattle.crs_value.specs.declared.values.level.Level.{Level}
 use Rattle.crs_value.specs.Prelude.{IsCrs}
 use Rattle.crs_normal.specs.LowerLaws.{LowerLaws}
 use Rattle.crs_normal.specs.CrsClass.{crs_class}
-use Rattle.crs_normal.specs.AcceptedNormal.{IsAcceptedNormal}
 use Rattle.crs_normal.specs.Prelude.{IsNormalText, item_crs, norm_crs}
 use Rattle.crs_normal.proofs.made.CompoundLemmas.{compound-made}
 use Rattle.crs_normal.proofs.made.GeodeticLemmas.{geodetic-made}
@@ -17,18 +16,11 @@ use Rattle.crs_normal.proofs.made.ProjectedLemmas.{projected-made}
 use Rattle.crs_normal.proofs.made.VerticalLemmas.{vertical-made}
 use Rattle.crs_normal.proofs.texts.RootLemmas.{crs-rooted}
 use Rattle.crs_normal.proofs.texts.AcceptedLemmas.{made-stands}
+use Rattle.crs_normal.proofs.made.NodeLemmas.{IsAcceptedNormal, fine-as}
 
 deeper : {level : Level} {c : Class} {n : ℕ} {item : Item} → n ≤ 8 → IsAcceptedNormal level c n item →
     IsAcceptedNormal level c 8 item
-deeper h m =
-    record {
-      is_node = m.is_node;
-      formed = m.formed;
-      within = omega arith;
-      shaped = m.shaped;
-      unbroken = m.unbroken;
-      normal = m.normal;
-    }
+deeper h m = (m.0, fine-as h (λ n. n) m.1)
 
 pub crs-made : LowerLaws → (level : Level) (c : Crs) → IsCrs c → (p : ℕ) →
     IsAcceptedNormal level (crs_class c) 8 (at_place p (item_crs (norm_crs level c)))
@@ -50,5 +42,5 @@ crs-text-normal l level c h =
       spells = made-stands l.spells i m;
       root = crs-rooted level c 0;
       written = sym (text-at 0 i);
-      normal = m.normal (crs_class c);
+      normal = m.1.normal (crs_class c);
     }

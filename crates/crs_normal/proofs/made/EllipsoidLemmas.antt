@@ -11,16 +11,16 @@ use Rattle.crs_value.specs.Prelude.{IsAboveZero, OfEllipsoid, kept-none, those, 
 use Rattle.crs_value.specs.declared.values.level.Level.{Level}
 use Rattle.crs_value.specs.Values.{IdentParts}
 use Rattle.crs_normal.specs.LowerLaws.{LowerLaws}
-use Rattle.crs_normal.specs.AcceptedNormal.{IsKindIn, IsAcceptedNormal}
 use Rattle.crs_normal.specs.Prelude.{item_ellipsoid, norm_ellipsoid, number_item}
 use Rattle.crs_normal.specs.SpelledUnits.{item_unit, metre, norm_length, norm_unit, norm_units}
 use Rattle.crs_normal.proofs.members.IdentLemmas.{none-form}
 use Rattle.crs_normal.proofs.made.IdentLemmas.{ids-of, ids-orderly}
-use Rattle.crs_normal.proofs.made.NodeLemmas.{Made, as-argument}
+use Rattle.crs_normal.proofs.made.NodeLemmas.{IsAcceptedNormal, Made, as-argument}
 use Rattle.crs_normal.proofs.made.PlaceLemmas.{ArePlaced}
 use Rattle.crs_normal.proofs.made.UnitLemmas.{not-below, reads-one, unit-made, unit_as}
 use Rattle.crs_normal.proofs.made.ArgumentLemmas.{made-of, number-of, one-of, text-of}
 use Rattle.crs_normal.proofs.same.UnitLemmas.{metre-is, suits-kind}
+use Rattle.crs_normal.proofs.made.ClassLemmas.{IsKindIn}
 
 -- ---- units
 

@@ -8,18 +8,18 @@ use Rattle.crs_value.specs.declared.values.frame.Frame.TheVariants as frame
 use Rattle.crs_value.specs.declared.values.level.Level.{Level}
 use Rattle.crs_value.specs.Prelude.{IsEllipsoid, IsEnsemble, IsGeodeticFrame, IsVerticalFrame, EllipsoidParts, EnsembleParts, Own as BreaksOwn, AnyOf, anchors, those, IsRepeated, RepeatsAny, IsDatum, DatumParts}
 use Rattle.crs_normal.specs.LowerLaws.{LowerLaws}
-use Rattle.crs_normal.specs.AcceptedNormal.{IsAcceptedNormal, geodetic_frame_class, vertical_frame_class}
 use Rattle.crs_normal.specs.SpelledFrames.{item_ellipsoid, item_ensemble, item_frame, item_member, norm_ellipsoid, norm_ensemble, norm_frame, norm_member, set_members}
 use Rattle.crs_normal.proofs.made.AscendLemmas.{set-ascends}
 use Rattle.crs_normal.proofs.made.EllipsoidLemmas.{ellipsoid-made}
 use Rattle.crs_normal.proofs.made.IdentLemmas.{ids-of, ids-orderly, ids_run}
-use Rattle.crs_normal.proofs.made.NodeLemmas.{IsOrderly, given}
+use Rattle.crs_normal.proofs.made.NodeLemmas.{IsAcceptedNormal, IsOrderly, given}
 use Rattle.crs_normal.proofs.made.NamedLemmas.{member-made}
 use Rattle.crs_normal.proofs.made.ArgumentLemmas.{made-of, one-number, text-of, node-of, set-of, may-number, may-text}
 use Rattle.crs_shape.specs.declared.class.Class.{Class}
 use Rattle.crs_value.specs.Sound.{Each}
 use Rattle.crs_normal.specs.Prelude.{item_datum, item_ellipsoid, norm_datum, norm_ellipsoid, number_node, text_node}
 use Rattle.crs_normal.proofs.made.PlaceLemmas.{ArePlaced}
+use Rattle.crs_normal.proofs.made.ClassLemmas.{geodetic_frame_class, vertical_frame_class}
 
 -- ---- datums
 

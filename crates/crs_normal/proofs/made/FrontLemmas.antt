@@ -11,7 +11,6 @@ use Rattle.crs_value.specs.declared.values.level.Level.{Level}
 use Rattle.crs_value.specs.Prelude.{DynamicParts, IsDynamicOf, MeridianParts, SystemParts, TailParts, OfCrs, Own as BreaksOwn}
 use Rattle.crs_value.specs.Sound.{Each}
 use Rattle.crs_normal.specs.LowerLaws.{LowerLaws}
-use Rattle.crs_normal.specs.AcceptedNormal.{IsAcceptedNormal, geodetic_frame_class, vertical_frame_class}
 use Rattle.crs_normal.specs.NormalOwn.{HasAxes, HasOwnForm, HasTail}
 use Rattle.crs_normal.specs.Normal.{IsFirstKeyword}
 use Rattle.crs_normal.specs.SpelledFrames.{greenwich, item_frame, item_meridian, norm_frame, norm_given, norm_meridian}
@@ -20,11 +19,12 @@ use Rattle.crs_normal.proofs.made.SystemLemmas.{IsFew}
 use Rattle.crs_normal.proofs.made.BehindLemmas.{Shows, behind, crs_classes, system-seen, tail-seen}
 use Rattle.crs_normal.proofs.made.EllipsoidLemmas.{placed-some}
 use Rattle.crs_normal.proofs.made.DynamicLemmas.{IsSteady, dynamic_classes, dynamic_run, no-bad-dynamic}
-use Rattle.crs_normal.proofs.made.NodeLemmas.{IsOrderly, Run, Sees, alone, given, items_in, none-shown, views, IsFree}
+use Rattle.crs_normal.proofs.made.NodeLemmas.{IsAcceptedNormal, IsOrderly, Run, Sees, alone, given, items_in, none-shown, views, IsFree}
 use Rattle.crs_normal.proofs.made.ArgumentLemmas.{Argument, as_runs, fit, lay, made-of}
 use Rattle.crs_normal.proofs.made.PlaceLemmas.{ArePlaced}
 use Rattle.crs_normal.proofs.made.CheckLemmas.{IsSystemIn, has-axes, no-bad-systems}
 use Rattle.crs_normal.proofs.made.TailLemmas.{has-tail, no-repeats}
+use Rattle.crs_normal.proofs.made.ClassLemmas.{geodetic_frame_class, vertical_frame_class}
 
 -- ---- the frame as an argument, of one class or the other
 

@@ -12,7 +12,6 @@ use Rattle.crs_value.specs.declared.values.level.Level.{Level}
 use Rattle.crs_value.specs.Sound.{Each}
 use Rattle.crs_normal.specs.LowerLaws.{LowerLaws}
 use Rattle.crs_normal.specs.CrsClass.{geodetic_class}
-use Rattle.crs_normal.specs.AcceptedNormal.{IsAcceptedNormal}
 use Rattle.crs_normal.specs.Normal.{IsFirstKeyword}
 use Rattle.crs_normal.specs.NormalOwn.{Has, HasAxes, HasTail, HasOwnForm, words_in}
 use Rattle.crs_normal.specs.SpelledCrs.{geodetic_keyword, item_geodetic, norm_geodetic}
@@ -24,7 +23,7 @@ use Rattle.crs_normal.proofs.made.CheckLemmas.{IsSystemSeen, IsSystemIn}
 use Rattle.crs_normal.proofs.made.DynamicLemmas.{dynamic-of}
 use Rattle.crs_normal.proofs.made.FrameLemmas.{geodetic-frame-made}
 use Rattle.crs_normal.proofs.made.FrontLemmas.{NamesFrame, meridian-there, crs-node-made, frame-named, frame-fits, frame-seen}
-use Rattle.crs_normal.proofs.made.NodeLemmas.{Sees}
+use Rattle.crs_normal.proofs.made.NodeLemmas.{IsAcceptedNormal, Sees}
 use Rattle.crs_normal.proofs.made.PlaceLemmas.{same-of}
 use Rattle.crs_normal.proofs.made.MeridianLemmas.{meridian-of}
 use Rattle.crs_normal.proofs.made.TailLemmas.{NamesTail, tail_arguments, tail-orderly}

@@ -10,7 +10,6 @@ use Rattle.crs_value.specs.declared.values.level.Level.{Level}
 use Rattle.crs_value.specs.Sound.{Each}
 use Rattle.crs_value.specs.Values.{IdentParts}
 use Rattle.crs_normal.specs.LowerLaws.{LowerLaws}
-use Rattle.crs_normal.specs.AcceptedNormal.{IsAcceptedNormal}
 use Rattle.crs_normal.specs.NormalOwn.{Ascend, IsCode}
 use Rattle.crs_normal.specs.Prelude.{in_order, code_item, text_node, item_ident, set_idents}
 use Rattle.crs_normal.proofs.made.AscendLemmas.{set-ascends}
@@ -18,7 +17,7 @@ use Rattle.crs_normal.proofs.read.ViewLemmas.{each-so}
 use Rattle.crs_normal.proofs.members.SetLemmas.{each-in_order}
 use Rattle.crs_normal.proofs.made.ArgumentLemmas.{each-of, Argument, made-of, may-of, may-text, one-of, text-of, as_runs}
 use Rattle.crs_normal.proofs.made.LeafLemmas.{IsCodeKind, code-kind, code-made, code_kind}
-use Rattle.crs_normal.proofs.made.NodeLemmas.{IsOrderly, Made, Run, as-argument, given, line, none-orderly, IsFree}
+use Rattle.crs_normal.proofs.made.NodeLemmas.{IsAcceptedNormal, IsOrderly, Made, Run, as-argument, given, line, none-orderly, IsFree}
 use Rattle.crs_normal.proofs.texts.SegmentLemmas.{each-map}
 
 -- ---- identifiers, with the kinds of the code and the version

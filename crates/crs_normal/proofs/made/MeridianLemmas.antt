@@ -11,14 +11,13 @@ use Rattle.crs_value.specs.Prelude.{kept-none, those, IsMeridian, IsUnitOf, Meri
 use Rattle.crs_value.specs.declared.values.level.Level.{Level}
 use Rattle.crs_value.specs.Values.{IdentParts}
 use Rattle.crs_normal.specs.LowerLaws.{LowerLaws}
-use Rattle.crs_normal.specs.AcceptedNormal.{IsAcceptedNormal}
 use Rattle.crs_normal.specs.NormalOwn.{HasNoUnitAtZero}
 use Rattle.crs_normal.specs.SpelledFrames.{greenwich, is_zero, item_meridian, norm_given, norm_meridian}
 use Rattle.crs_normal.specs.Prelude.{number_item, item_unit, norm_units, whole_value}
 use Rattle.crs_normal.proofs.made.EllipsoidLemmas.{given-unit}
 use Rattle.crs_normal.proofs.members.IdentLemmas.{none-form}
 use Rattle.crs_normal.proofs.made.IdentLemmas.{ids-of, ids-orderly}
-use Rattle.crs_normal.proofs.made.NodeLemmas.{Made, as-argument, given}
+use Rattle.crs_normal.proofs.made.NodeLemmas.{IsAcceptedNormal, Made, as-argument, given}
 use Rattle.crs_normal.proofs.made.PlaceLemmas.{ArePlaced, same-of}
 use Rattle.crs_normal.proofs.made.ArgumentLemmas.{made-of, may-of, number-of, text-of, Argument}
 use Rattle.crs_normal.proofs.texts.SegmentLemmas.{placed-none}

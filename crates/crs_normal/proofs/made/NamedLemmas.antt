@@ -7,7 +7,6 @@ use Rattle.crs_shape.specs.Prelude.{is_keyword, class_named, named_slots, slots_
 use Rattle.crs_value.specs.Prelude.{GeoidModelParts, MethodParts, DeformationModelParts, IsNamed, IsGeoidModel, IsMethod, IsDeformationModel, IsMember, MemberParts, NamedParts, Own as BreaksOwn}
 use Rattle.crs_value.specs.declared.values.level.Level.{Level}
 use Rattle.crs_normal.specs.LowerLaws.{LowerLaws}
-use Rattle.crs_normal.specs.AcceptedNormal.{IsAcceptedNormal}
 use Rattle.crs_normal.specs.Normal.{IsFirstKeyword}
 use Rattle.crs_normal.specs.NormalOwn.{HasOwnForm}
 use Rattle.crs_normal.specs.Prelude.{item_geoid_model, item_method, norm_geoid_model, norm_method, item_member, norm_member}
@@ -15,6 +14,7 @@ use Rattle.crs_normal.specs.SpelledDynamic.{item_deformation_model, norm_deforma
 use Rattle.crs_normal.proofs.made.IdentLemmas.{ids-of, ids-orderly}
 use Rattle.crs_normal.proofs.made.ArgumentLemmas.{made-of, text-of}
 use Rattle.crs_normal.proofs.members.MemberLemmas.{item_named}
+use Rattle.crs_normal.proofs.made.NodeLemmas.{IsAcceptedNormal}
 
 named-made : LowerLaws → (level : Level) (c : Class) (keyword : List ℕ) (m : NamedParts) → IsWord keyword →
     IsTrue (is_keyword c keyword) → IsFirstKeyword c keyword → slots_of c ≡ named_slots →

@@ -7,7 +7,6 @@ use Rattle.crs_shape.specs.declared.class.Class.{Class}
 use Rattle.crs_shape.specs.Prelude.{is_keyword, Allowed, class_in, Shaped, AreShaped, slots_of}
 use Rattle.crs_value.specs.Prelude.{AtClass, Breaks, BreaksAmong, kept, kept-none, kept-where_none, is_same, those, Own as BreaksOwn}
 use Rattle.crs_value.specs.declared.values.level.Level.{Level}
-use Rattle.crs_normal.specs.AcceptedNormal.{IsAcceptedNormal}
 use Rattle.crs_normal.specs.Normal.{AtLevel, IsNormalIn, left_out}
 use Rattle.crs_normal.specs.NormalOwn.{Ascend, rank, set_classes, Rise}
 use Rattle.crs_value.specs.Sound.{Each}
@@ -64,10 +63,9 @@ fine-as h f x =
 abbrev pub Stands : (Item → Type 0) → Class → ℕ → Item → Type 0
 Stands N c most item = IsNode item × IsFine N most c item
 
-pub stands-of : {level : Level} {c : Class} {n : ℕ} {item : Item} → IsAcceptedNormal level c n item →
-    Stands (λ i. (parent : Class) → IsNormalIn level parent c i) c n item
-stands-of m =
-    (m.is_node, record { formed = m.formed; within = m.within; shaped = m.shaped; unbroken = m.unbroken; normal = m.normal })
+-- such a node, which is normal in whichever node it is
+abbrev pub IsAcceptedNormal : Level → Class → ℕ → Item → Type 0
+IsAcceptedNormal level c = Stands (λ i. (parent : Class) → IsNormalIn level parent c i) c
 
 -- an argument at any place
 pub record MadeBy (N : Class → Class → Item → Type 0) (most : ℕ) (parent c : Class) (item : Item) : Type 0 where
@@ -219,7 +217,7 @@ module _ (N : Class → Class → Item → Type 0) (most : ℕ) (c : Class) (key
 pub as-argument : {level : Level} {n most : ℕ} {parent c : Class} {j : Item} → n ≤ most → class_in parent j ≡ Some c →
     ((p : ℕ) → IsAcceptedNormal level c n (at_place p j)) → Made level most parent c j
 as-argument {parent = parent} h named made =
-    record { named = named; fine = λ p. fine-as h (λ n. n parent) (stands-of (made p)).1 }
+    record { named = named; fine = λ p. fine-as h (λ n. n parent) (made p).1 }
 
 -- what is in a node of these classes
 pub views : {c : Class} {runs : List Run} {item : Item} (es : List Class) → Sees c runs item →

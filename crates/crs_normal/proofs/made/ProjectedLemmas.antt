@@ -7,7 +7,6 @@ use Rattle.crs_shape.specs.Prelude.{is_keyword, class_named, dimensions_of}
 use Rattle.crs_value.specs.Prelude.{BaseParts, ProjectedParts, those, IsBase, IsProjected, Own as BreaksOwn}
 use Rattle.crs_value.specs.declared.values.level.Level.{Level}
 use Rattle.crs_normal.specs.LowerLaws.{LowerLaws}
-use Rattle.crs_normal.specs.AcceptedNormal.{IsAcceptedNormal}
 use Rattle.crs_normal.specs.Prelude.{item_conversion, norm_conversion, item_frame, norm_frame, item_unit, norm_units}
 use Rattle.crs_normal.specs.SpelledCrs.{item_base, item_projected, norm_base, norm_projected}
 use Rattle.crs_normal.proofs.made.SystemLemmas.{IsFew}
@@ -19,7 +18,7 @@ use Rattle.crs_normal.proofs.made.EllipsoidLemmas.{given-unit}
 use Rattle.crs_normal.proofs.made.FrameLemmas.{geodetic-frame-made}
 use Rattle.crs_normal.proofs.made.FrontLemmas.{meridian-there, crs-node-made, frame-named, frame-fits, frame-seen}
 use Rattle.crs_normal.proofs.made.IdentLemmas.{ids-of, ids-orderly}
-use Rattle.crs_normal.proofs.made.NodeLemmas.{Sees, views, none-shown}
+use Rattle.crs_normal.proofs.made.NodeLemmas.{IsAcceptedNormal, Sees, views, none-shown}
 use Rattle.crs_normal.proofs.made.MeridianLemmas.{meridian-of}
 use Rattle.crs_normal.proofs.made.TailLemmas.{tail_arguments, tail-orderly}
 use Rattle.crs_normal.proofs.normal.DimensionLemmas.{small-projected}

@@ -10,7 +10,6 @@ use Rattle.crs_shape.specs.Prelude.{is_keyword, class_named, slots_of, unit_slot
 use Rattle.crs_value.specs.Prelude.{IsAboveZero, NotAbove, AnyOf, OfUnit, those, ReadsNumber, IsUnit, UnitParts, Own as BreaksOwn}
 use Rattle.crs_value.specs.declared.values.level.Level.{Level}
 use Rattle.crs_normal.specs.LowerLaws.{LowerLaws}
-use Rattle.crs_normal.specs.AcceptedNormal.{IsKindIn, IsAcceptedNormal}
 use Rattle.crs_normal.specs.Normal.{IsFirstKeyword}
 use Rattle.crs_normal.specs.NormalOwn.{HasOwnForm}
 use Rattle.crs_normal.specs.Prelude.{number_item, item_unit, set_idents}
@@ -18,6 +17,8 @@ use Rattle.crs_normal.proofs.made.IdentLemmas.{ids-of, ids-orderly}
 use Rattle.crs_normal.proofs.made.PlaceLemmas.{ArePlaced, none-of}
 use Rattle.crs_normal.proofs.read.NameLemmas.{keyword-names}
 use Rattle.crs_normal.proofs.made.ArgumentLemmas.{Argument, fit, made-of, number-of, text-of}
+use Rattle.crs_normal.proofs.made.ClassLemmas.{IsKindIn}
+use Rattle.crs_normal.proofs.made.NodeLemmas.{IsAcceptedNormal}
 
 -- ---- numbers
 

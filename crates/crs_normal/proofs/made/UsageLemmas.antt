@@ -8,10 +8,9 @@ use Rattle.crs_value.specs.declared.values.level.Level.{Level}
 use Rattle.crs_value.specs.declared.values.level.Level.TheVariants as levels
 use Rattle.crs_value.specs.Prelude.{those, IsBox, IsExtent, IsUsage, BoxParts, ExtentParts, SaysSome, UsageParts, Own as BreaksOwn}
 use Rattle.crs_normal.specs.LowerLaws.{LowerLaws}
-use Rattle.crs_normal.specs.AcceptedNormal.{IsAcceptedNormal}
 use Rattle.crs_normal.specs.Prelude.{node_from, item_unit, norm_length, item_box, item_extent, item_usage, norm_extent, norm_usage}
 use Rattle.crs_normal.proofs.made.EllipsoidLemmas.{length-argument, placed-some}
-use Rattle.crs_normal.proofs.made.NodeLemmas.{IsOrderly, as-argument, none-orderly}
+use Rattle.crs_normal.proofs.made.NodeLemmas.{IsAcceptedNormal, IsOrderly, as-argument, none-orderly}
 use Rattle.crs_normal.proofs.made.ArgumentLemmas.{Argument, as_runs, fit, lay, made-of, may-of, may-text, number-of, one-of, may-node}
 use Rattle.crs_normal.specs.Normal.{IsFirstKeyword}
 use Rattle.crs_normal.specs.NormalOwn.{HasOwnForm}

@@ -8,7 +8,6 @@ use Rattle.crs_value.specs.declared.values.frame.Frame.{Frame}
 use Rattle.crs_value.specs.declared.values.frame.Frame.TheVariants as frame
 use Rattle.crs_value.specs.declared.values.level.Level.{Level}
 use Rattle.crs_normal.specs.LowerLaws.{LowerLaws}
-use Rattle.crs_normal.specs.AcceptedNormal.{IsAcceptedNormal, vertical_frame_class}
 use Rattle.crs_normal.specs.Prelude.{item_geoid_model, norm_geoid_model, set_geoid_models, item_vertical, norm_vertical, item_frame, norm_frame}
 use Rattle.crs_normal.proofs.made.AscendLemmas.{set-ascends}
 use Rattle.crs_normal.proofs.made.SystemLemmas.{IsFew}
@@ -21,6 +20,8 @@ use Rattle.crs_normal.proofs.normal.DimensionLemmas.{small-vertical}
 use Rattle.crs_normal.proofs.read.NameLemmas.{keyword-names}
 use Rattle.crs_normal.proofs.made.ArgumentLemmas.{Argument, text-of, node-of, set-of, as_runs}
 use Rattle.crs_normal.proofs.made.FrontLemmas.{crs-node-made, frame-fits, frame-seen}
+use Rattle.crs_normal.proofs.made.ClassLemmas.{vertical_frame_class}
+use Rattle.crs_normal.proofs.made.NodeLemmas.{IsAcceptedNormal}
 
 -- ---- the frame, of one class or the other
 

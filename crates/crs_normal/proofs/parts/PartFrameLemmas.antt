@@ -9,7 +9,6 @@ use Rattle.crs_value.specs.declared.values.frame.Frame.TheVariants as frame
 use Rattle.crs_value.specs.declared.values.level.Level.{Level}
 use Rattle.crs_same.specs.Prelude.{AreSame, parts_of_datum, parts_of_ensemble, parts_of_frame}
 use Rattle.crs_normal.specs.Prelude.{IsWrittenForm, item_datum, item_ensemble, norm_datum, norm_ellipsoid, norm_ensemble}
-use Rattle.crs_normal.specs.AcceptedNormal.{IsAcceptedNormal}
 use Rattle.crs_normal.specs.PartSpellings.{IsFrame, IsSpelledDatum, IsSpelledEnsemble, IsSpelledFrame, datum_class, ensemble_class}
 use Rattle.crs_normal.specs.PartTexts.{datum_keyword, datum_text, ensemble_text, frame_text, item_own_datum}
 use Rattle.crs_normal.specs.LowerLaws.{LowerLaws}
@@ -22,6 +21,7 @@ use Rattle.crs_normal.proofs.read.DatumLemmas.{ellipsoid-in, geodetic-back, vert
 use Rattle.crs_normal.proofs.read.FrameLemmas.{datum-read, ensemble-read}
 use Rattle.crs_normal.proofs.texts.WrittenFormLemmas.{IsOneText, written-form}
 use Rattle.crs_normal.proofs.read.NameLemmas.{keyword-names}
+use Rattle.crs_normal.proofs.made.NodeLemmas.{IsAcceptedNormal}
 
 -- ---- with an ellipsoid or without
 

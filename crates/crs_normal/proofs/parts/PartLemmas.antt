@@ -8,7 +8,6 @@ use Rattle.crs_value.specs.declared.values.level.Level.{Level}
 use Rattle.crs_normal.specs.Prelude.{IsWrittenForm, IsClosed}
 use Rattle.crs_normal.specs.Decides.{FormDecides}
 use Rattle.crs_normal.specs.WithoutPlaces.{without_places}
-use Rattle.crs_normal.specs.AcceptedNormal.{IsAcceptedNormal}
 use Rattle.crs_normal.specs.Normal.{IsNormalIn}
 use Rattle.crs_normal.specs.LowerLaws.{LowerLaws}
 use Rattle.crs_normal.specs.SpelledAs.{IsSpelledAs, IsSpelledBy}
@@ -18,7 +17,7 @@ use Rattle.crs_normal.proofs.normal.FormLemmas.{Form, IsGood, without_places-tex
 use Rattle.crs_normal.proofs.texts.ItemLemmas.{IsWritable, one-by-text}
 use Rattle.crs_normal.proofs.made.PlaceLemmas.{text-at, placed-twice}
 use Rattle.crs_normal.proofs.texts.WrittenFormLemmas.{written-form}
-use Rattle.crs_normal.proofs.made.NodeLemmas.{Stands, fine-as, stands-of}
+use Rattle.crs_normal.proofs.made.NodeLemmas.{IsAcceptedNormal, Stands, fine-as}
 use Rattle.crs_normal.proofs.texts.AcceptedLemmas.{written-at}
 
 -- an item that is accepted as one of its class, and normal in this sense
@@ -31,7 +30,7 @@ sound-of m = record { formed = m.1.formed; shaped = m.1.shaped; unbroken = m.1.u
 
 pub made-stands : {level : Level} {c : Class} {n : ℕ} {item : Item} → n ≤ 8 → IsAcceptedNormal level c n item →
     IsStanding c (IsNormalIn level c c) item
-made-stands {c = c} l made = let s = stands-of made in (s.0, fine-as l (λ n. n c) s.1)
+made-stands {c = c} l made = (made.0, fine-as l (λ n. n c) made.1)
 
 -- it is good
 pub good-of : {level : Level} {c : Class} {item : Item} → IsSound c item → IsNormalIn level c c item → IsGood level c c item

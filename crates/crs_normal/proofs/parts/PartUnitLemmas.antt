@@ -7,11 +7,11 @@ use Rattle.crs_shape.specs.Prelude.{is_keyword, class_named}
 use Rattle.crs_value.specs.Prelude.{IsUnitClass, ReadsUnit}
 use Rattle.crs_value.specs.declared.values.level.Level.{Level}
 use Rattle.crs_matching.specs.Prelude.{kind_as}
-use Rattle.crs_normal.specs.AcceptedNormal.{IsKindIn}
 use Rattle.crs_normal.specs.Prelude.{unit_class, item_unit, norm_unit}
 use Rattle.crs_normal.proofs.normal.FormLemmas.{Form}
 use Rattle.crs_normal.proofs.normal.LeafLemmas.{PlainIsOne}
 use Rattle.crs_normal.proofs.normal.UnitLemmas.{in-angle, in-length, in-plain, in-scale, unit-form}
+use Rattle.crs_normal.proofs.made.ClassLemmas.{IsKindIn}
 
 pub kind-in : (kind : UnitKind) → IsKindIn (unit_class kind) (kind_as kinds.Plain kind)
 kind-in kinds.Length = refl

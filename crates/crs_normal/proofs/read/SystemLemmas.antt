@@ -22,7 +22,7 @@ use Rattle.crs_normal.proofs.read.NameLemmas.{keyword-names}
 use Rattle.crs_normal.proofs.made.IdentLemmas.{idents-sound}
 use Rattle.crs_normal.proofs.made.AxisLemmas.{whole-normal, asked-in}
 use Rattle.crs_normal.proofs.made.SystemLemmas.{at-all}
-use Rattle.crs_normal.specs.AcceptedNormal.{IsKindIn}
+use Rattle.crs_normal.proofs.made.ClassLemmas.{IsKindIn}
 
 -- ---- the meridian of an axis
 

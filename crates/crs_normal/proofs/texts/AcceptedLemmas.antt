@@ -7,11 +7,11 @@ use Rattle.crs_value.specs.declared.values.crs.Crs.{Crs}
 use Rattle.crs_value.specs.declared.values.level.Level.{Level}
 use Rattle.crs_value.specs.Prelude.{ReadsCrs, SpellsCrs, Spells}
 use Rattle.crs_normal.specs.CrsClass.{crs_class}
-use Rattle.crs_normal.specs.AcceptedNormal.{IsAcceptedNormal}
 use Rattle.crs_normal.specs.SpelledCrs.{item_crs, norm_crs}
 use Rattle.crs_normal.proofs.made.PlaceLemmas.{text-at, placed-twice}
 use Rattle.crs_normal.proofs.texts.RootLemmas.{crs-rooted}
 use Rattle.crs_normal.proofs.texts.ItemLemmas.{IsWritable}
+use Rattle.crs_normal.proofs.made.NodeLemmas.{IsAcceptedNormal}
 
 abbrev pub NoFaultIsShape : Type 0
 NoFaultIsShape = (c : Class) (item : Item) → IsFree (Inside c item) ↔ Shaped c item
@@ -30,8 +30,8 @@ made-spells : NoFaultIsShape → (level : Level) (c : Class) (most : ℕ) (item 
 made-spells law level c most item value root made reads = record {
   class_read = c;
   root = root;
-  shaped = free-at-root law c item root made.shaped;
-  unbroken = made.unbroken;
+  shaped = free-at-root law c item root made.1.shaped;
+  unbroken = made.1.unbroken;
   reads = reads;
 }
 
@@ -43,7 +43,7 @@ written-at written item w =
 pub made-stands : WrittenSpells → {level : Level} {c : Class} (item : Item) →
     IsAcceptedNormal level c 8 (at_place 0 item) → SpellsNode (item_text item) (at_place 0 item)
 made-stands written item made =
-    written-at written item (record { formed = made.formed; is_node = made.is_node; within = omega arith })
+    written-at written item (record { formed = made.1.formed; is_node = made.0; within = omega arith })
 
 pub form-spells : NoFaultIsShape → WrittenSpells → (level : Level) (c : Crs) →
     IsAcceptedNormal level (crs_class c) 8 (at_place 0 (item_crs (norm_crs level c))) →
