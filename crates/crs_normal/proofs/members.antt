@@ -1,3 +1,4 @@
+pub mod AgreeLemmas
 pub mod ExtentLemmas
 pub mod IdentLemmas
 pub mod MemberLemmas

@@ -5,7 +5,6 @@ pub mod Closed
 pub mod CrsClass
 pub mod Decides
 pub mod Examples
-pub mod FormedWithin
 pub mod LowerLaws
 pub mod Normal
 pub mod NormalOwn

@@ -1,18 +1,15 @@
--- Boxes and extents of a usage: their items read as them wherever they are, and their one form
--- agrees with sameness.
-use Rattle.std.proofs.Common.{◌≡◌, ℕ, ◌+◌, codes, IfSome, Option, Some, None, [], ◌∷◌, refl}
+-- Boxes and extents of a usage: their items read as them wherever they are.
+use Rattle.std.proofs.Common.{◌≡◌, ℕ, ◌+◌, IfSome, Option, Some, None, [], ◌∷◌, refl}
 use Rattle.crs_decimal.specs.Prelude.{IsNormal}
 use Rattle.crs_text.specs.Prelude.{at_place}
 use Rattle.crs_shape.specs.declared.class.Class.TheVariants as class
 use Rattle.crs_shape.specs.declared.unit_kind.UnitKind.TheVariants as kinds
 use Rattle.crs_value.specs.declared.values.level.Level.{Level}
 use Rattle.crs_value.specs.Prelude.{ReadsBox, ReadsExtent, IsUnit, IsUnitOf, IsBox, IsExtent, BoxParts, ExtentParts, UnitParts}
-use Rattle.crs_normal.specs.FormedWithin.{IsFormedWithin}
-use Rattle.crs_normal.specs.Prelude.{number_item, item_unit, norm_length, item_box, item_extent, norm_extent}
+use Rattle.crs_normal.specs.Prelude.{item_unit, norm_length, item_box, item_extent, norm_extent}
 use Rattle.crs_normal.specs.LowerLaws.{LowerLaws}
-use Rattle.crs_normal.proofs.texts.ItemLemmas.{fit-end, fit-node, fit-number, fit-opt, value-fit}
 use Rattle.crs_normal.proofs.texts.SegmentLemmas.{a-number, if-any, opt-field, seen, some-imp}
-use Rattle.crs_normal.proofs.members.MemberUnitLemmas.{number-read, unit-fit, unit-in, unit-kept, unit-read}
+use Rattle.crs_normal.proofs.members.MemberUnitLemmas.{number-read, unit-in, unit-kept, unit-read}
 use Rattle.crs_normal.proofs.read.NameLemmas.{keyword-names}
 use Rattle.crs_normal.proofs.same.UnitLemmas.{metre-is, suits-kind}
 
@@ -38,11 +35,6 @@ box-read laws b s place = record {
   east = number-read laws b.east s.east 0;
 }
 
-pub box-fit : LowerLaws → (b : BoxParts) → IsBox b → IsFormedWithin 1 (item_box b)
-box-fit laws b s =
-    fit-node (codes "BBOX") (number_item b.south) (refl, refl) (value-fit laws 0 b.south s.south)
-    (fit-number laws b.west s.west (fit-number laws b.north s.north (fit-number laws b.east s.east fit-end)))
-
 -- ---- extents
 
 -- an extent whose unit, if it is written, is of length by its own keyword
@@ -64,12 +56,6 @@ extent-read laws e s place =
       unit = opt-field look class.LengthUnit item_unit _ _ refl
           (some-imp _ _ (λ u q. unit-read laws class.LengthUnit (keyword-names _ _) u q.0) e.unit s.unit);
     }
-
-pub extent-fit : LowerLaws → (e : ExtentParts) → IsWrittenExtent e → IsFormedWithin 4 (item_extent e)
-extent-fit laws e s =
-    fit-node (codes "VERTICALEXTENT") (number_item e.minimum) (refl, refl) (value-fit laws 3 e.minimum s.minimum)
-    (fit-number laws e.maximum s.maximum
-    (fit-opt item_unit IsLength (λ u q. unit-fit laws u q.0) e.unit s.unit fit-end))
 
 pub extent-kept : (level : Level) (e : ExtentParts) → IsExtent e → IsWrittenExtent (norm_extent level e)
 extent-kept level e s = record { minimum = s.minimum; maximum = s.maximum; unit = length-kept level e.unit s.unit }

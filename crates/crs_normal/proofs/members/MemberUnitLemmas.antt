@@ -1,26 +1,21 @@
--- Units within the members of sets: their items read as them wherever they are, and their one form
--- agrees with sameness.
-use Rattle.std.proofs.Common.{ap, ◌∙◌, ◌≡◌, ◌≤◌, ℕ, ◌+◌, codes, Some, List, [], ◌∷◌, length, refl, arith, map, ◌++◌}
+-- Units within the members of sets: their items read as them wherever they are.
+use Rattle.std.proofs.Common.{ap, ◌∙◌, ◌≡◌, ℕ, ◌+◌, codes, Some, List, [], ◌∷◌, length, refl, map, ◌++◌}
 use Rattle.crs_decimal.specs.Prelude.{Value, IsNormal}
-use Rattle.crs_text.specs.Prelude.{Item, End, at_place, item_text}
+use Rattle.crs_text.specs.Prelude.{Item, at_place}
 use Rattle.crs_shape.specs.declared.class.Class.{Class}
 use Rattle.crs_shape.specs.declared.class.Class.TheVariants as class
 use Rattle.crs_shape.specs.declared.unit_kind.UnitKind.{UnitKind}
 use Rattle.crs_shape.specs.Prelude.{class_named, unit_word}
 use Rattle.crs_value.specs.declared.values.level.Level.{Level}
-use Rattle.crs_value.specs.Prelude.{ReadsIds, ReadsNumber, ReadsUnit, IsIdent, IsUnit, UnitParts, IsReadOnce}
+use Rattle.crs_value.specs.Prelude.{ReadsIds, ReadsNumber, ReadsUnit, IsIdent, IsUnit, UnitParts}
 use Rattle.crs_value.specs.Sound.{Each}
 use Rattle.crs_value.specs.Values.{IdentParts}
-use Rattle.crs_normal.specs.FormedWithin.{IsFormedWithin}
-use Rattle.crs_normal.specs.Prelude.{each, number_item, text_item, item_ident, item_unit, norm_unit}
+use Rattle.crs_normal.specs.Prelude.{number_item, item_ident, item_unit, norm_unit}
 use Rattle.crs_normal.specs.LowerLaws.{LowerLaws}
-use Rattle.crs_normal.proofs.members.IdentLemmas.{ident-fit, ident-read, text-fit, writable}
-use Rattle.crs_normal.proofs.texts.ItemLemmas.{AreFit, fit-deeper, fit-each, fit-end, fit-node, fit-number, told}
+use Rattle.crs_normal.proofs.members.IdentLemmas.{ident-read}
 use Rattle.crs_normal.proofs.texts.SegmentLemmas.{IsIn, Seen, Segment, a-number, a-text, all-of, each-field, items_of, seen}
 use Rattle.crs_normal.proofs.read.ViewLemmas.{each-so}
-use Rattle.crs_normal.proofs.read.NameLemmas.{keyword-names}
 use Rattle.crs_normal.proofs.made.IdentLemmas.{idents-sound}
-use Rattle.crs_normal.proofs.made.UnitLemmas.{unit-letters}
 
 -- ---- the identifiers of a node
 
@@ -36,11 +31,6 @@ pub identifiers-back : {c : Class} {ss : List (Segment c)} {item : Item} → See
     ReadsIds c item identifiers
 identifiers-back look identifiers same s =
     each-field look class.Identifier item_ident _ _ same (each-so _ _ ident-read identifiers s)
-
-pub identifiers-fit : LowerLaws → (n : ℕ) → 2 ≤ n → (identifiers : List IdentParts) → Each IsIdent identifiers →
-    AreFit n (each item_ident identifiers End)
-identifiers-fit laws n l identifiers s =
-    fit-each item_ident IsIdent (λ x q. fit-deeper 2 n (item_ident x) l (ident-fit laws x q)) identifiers s fit-end
 
 -- ---- numbers
 
@@ -63,19 +53,6 @@ unit-read laws c e u s place =
       factor = number-read laws u.factor s.factor 0;
       identifiers = identifiers-back look u.identifiers refl s.identifiers;
     }
-
-pub unit-fit : LowerLaws → (u : UnitParts) → IsUnit u → IsFormedWithin 3 (item_unit u)
-unit-fit laws u s =
-    fit-node (unit_word u.kind) (text_item u.name) (unit-letters u.kind) (text-fit 2 u.name s.name)
-    (fit-number laws u.factor s.factor (identifiers-fit laws 2 (omega arith) u.identifiers s.identifiers))
-
--- the class is any in which `ID` is an identifier
-pub unit-told : LowerLaws → IsReadOnce ReadsUnit → (a b : UnitParts) → IsUnit a → IsUnit b →
-    item_text (item_unit a) ≡ item_text (item_unit b) → a ≡ b
-unit-told laws once =
-    told item_unit (ReadsUnit class.LengthUnit) IsUnit laws (once class.LengthUnit)
-    (λ x s. writable 3 (item_unit x) (omega arith) (unit-fit laws x s) tt)
-    (unit-read laws class.LengthUnit (keyword-names _ _))
 
 pub unit-kept : (level : Level) (asked : UnitKind) (u : UnitParts) → IsUnit u → IsUnit (norm_unit level asked u)
 unit-kept level asked u s = record {

@@ -1,27 +1,21 @@
 -- Parameters: the item of one reads as it wherever it is, with a unit of the class that its keyword
--- names, and as sets they have one form.
-use Rattle.std.proofs.Common.{rules, ◌≡◌, ◌↔◌, ◌⊎◌, inl, inr, ℕ, ◌+◌, codes, IfSome, Option, Some, None, List, [], ◌∷◌, refl, arith, map, ◌++◌}
+-- names.
+use Rattle.std.proofs.Common.{rules, ◌≡◌, ◌⊎◌, inl, inr, ℕ, ◌+◌, codes, IfSome, Option, Some, None, List, [], ◌∷◌, refl, map, ◌++◌}
 use Rattle.crs_decimal.specs.Prelude.{Value}
-use Rattle.crs_text.specs.Prelude.{Item, End, More, at_place, item_text}
+use Rattle.crs_text.specs.Prelude.{Item, End, More, at_place}
 use Rattle.crs_shape.specs.declared.class.Class.{Class}
 use Rattle.crs_shape.specs.declared.class.Class.TheVariants as class
 use Rattle.crs_shape.specs.declared.unit_kind.UnitKind.{UnitKind}
 use Rattle.crs_shape.specs.declared.unit_kind.UnitKind.TheVariants as kinds
 use Rattle.crs_shape.specs.Prelude.{is_keyword, class_named, unit_word}
-use Rattle.crs_value.specs.Prelude.{ParameterParts, ReadsElse, ReadsIds, ReadsAsUnit, ReadsParameter, ReadsUnitOf, parameter_units, IsIdent, IsUnit, IsParameter, UnitParts, IsReadOnce, ReadsIdent}
+use Rattle.crs_value.specs.Prelude.{ParameterParts, ReadsElse, ReadsIds, ReadsAsUnit, ReadsParameter, ReadsUnitOf, parameter_units, IsIdent, IsUnit, IsParameter, UnitParts}
 use Rattle.crs_value.specs.declared.values.level.Level.{Level}
 use Rattle.crs_value.specs.Sound.{Each}
 use Rattle.crs_value.specs.Values.{IdentParts}
-use Rattle.crs_matching.specs.Prelude.{SameParameter, SameSet}
-use Rattle.crs_normal.specs.Prelude.{unit_class, item_parameter, norm_parameter, set_parameters, each, node_of, number_item, opt, text_item, item_ident, item_unit, norm_units}
-use Rattle.crs_normal.specs.FormedWithin.{IsFormedWithin}
+use Rattle.crs_normal.specs.Prelude.{unit_class, item_parameter, norm_parameter, each, node_of, number_item, opt, text_item, item_ident, item_unit, norm_units}
 use Rattle.crs_normal.specs.LowerLaws.{LowerLaws}
-use Rattle.crs_normal.proofs.members.IdentLemmas.{idents-agree, text-fit, writable}
-use Rattle.crs_normal.proofs.texts.ItemLemmas.{fit-node, fit-number, fit-opt, told}
 use Rattle.crs_normal.proofs.texts.SegmentLemmas.{IsIn, MayIn, Seen, Segment, a-number, a-text, if-any, items_of, lacks, placed-at, seen}
-use Rattle.crs_normal.proofs.members.MemberUnitLemmas.{NamesId, identifiers-back, identifiers-fit, identifiers-of, number-read, unit-fit, unit-kept, unit-read}
-use Rattle.crs_normal.proofs.same.ConversionLemmas.{parameter-agrees}
-use Rattle.crs_normal.proofs.members.SetLemmas.{set-agrees}
+use Rattle.crs_normal.proofs.members.MemberUnitLemmas.{NamesId, identifiers-back, identifiers-of, number-read, unit-kept, unit-read}
 use Rattle.crs_normal.proofs.read.NameLemmas.{keyword-names}
 use Rattle.crs_normal.proofs.made.IdentLemmas.{idents-sound}
 
@@ -98,12 +92,6 @@ parameter-read laws p s place =
       identifiers = both.1;
     }
 
-pub parameter-fit : LowerLaws → (p : ParameterParts) → IsParameter p → IsFormedWithin 4 (item_parameter p)
-parameter-fit laws p s =
-    fit-node (codes "PARAMETER") (text_item p.name) (refl, refl) (text-fit 3 p.name s.name)
-    (fit-number laws p.value s.value (fit-opt item_unit IsUnit (unit-fit laws) p.unit s.unit
-    (identifiers-fit laws 3 (omega arith) p.identifiers s.identifiers)))
-
 pub units-kept : (level : Level) (asked : UnitKind) (o : Option UnitParts) → IfSome o IsUnit →
     IfSome (norm_units level asked o) IsUnit
 units-kept level asked None s = s
@@ -116,19 +104,3 @@ parameter-kept level p s = record {
   unit = units-kept level kinds.Plain p.unit s.unit;
   identifiers = idents-sound level p.identifiers s.identifiers;
 }
-
-pub parameter-told : LowerLaws → IsReadOnce ReadsParameter → (a b : ParameterParts) → IsParameter a → IsParameter b →
-    item_text (item_parameter a) ≡ item_text (item_parameter b) → a ≡ b
-parameter-told laws once =
-    told item_parameter (ReadsParameter class.Parameter) IsParameter laws (once class.Parameter)
-    (λ x s. writable 4 (item_parameter x) (omega arith) (parameter-fit laws x s) tt) (parameter-read laws)
-
-pub parameters-agree : LowerLaws → IsReadOnce ReadsIdent → IsReadOnce ReadsParameter → (level : Level) (xs ys : List ParameterParts) →
-    Each IsParameter xs → Each IsParameter ys →
-    (set_parameters level xs ≡ set_parameters level ys) ↔ SameSet (SameParameter level) xs ys
-unfolding set_parameters
-parameters-agree laws idents once level xs ys p q =
-    set-agrees (norm_parameter level) (λ x. item_text (item_parameter x)) IsParameter (SameParameter level)
-    (parameter-agrees laws.normal_is_one (idents-agree laws idents) level)
-    (λ a b s t. parameter-told laws once (norm_parameter level a) (norm_parameter level b) (parameter-kept level a s)
-    (parameter-kept level b t)) xs ys p q

@@ -203,16 +203,20 @@ module _ {V A : Type 0} (norm : V → A) (bytes : A → List ℕ) (Q : V → Typ
   norm-tells : NormTells → Tells bytes IsNormOf
   norm-tells tells a b p q e = sym p.2 ∙ tells p.0 q.0 p.1 q.1 (ap bytes p.2 ∙ e ∙ sym (ap bytes q.2)) ∙ q.2
 
+  -- each of the normal values is among them in order
+  pub set-has : NormTells → (xs : List V) → Each Q xs → (z : A) → IsIn z (map norm xs) → IsIn z (in_order bytes (map norm xs))
+  set-has tells xs g z = in_order-has bytes IsNormOf (norm-tells tells) z (map norm xs) (norms xs g)
+
   moved : NormTells → (xs ys : List V) → Each Q xs → in_order bytes (map norm xs) ≡ in_order bytes (map norm ys) →
       (z : A) → IsIn z (map norm xs) → IsIn z (map norm ys)
   moved tells xs ys g e z p =
       in_order-back bytes z (map norm ys)
-      (subst (λ l. IsIn z l) e (in_order-has bytes IsNormOf (norm-tells tells) z (map norm xs) (norms xs g) p))
+      (subst (λ l. IsIn z l) e (set-has tells xs g z p))
 
   kept : Agrees → NormTells → (xs ys : List V) → Each Q xs → Each Q ys → AllHaveSame Same xs ys →
       (z : A) → IsIn z (in_order bytes (map norm xs)) → IsIn z (in_order bytes (map norm ys))
   kept agree tells xs ys g h s z p =
-      in_order-has bytes IsNormOf (norm-tells tells) z (map norm ys) (norms ys h)
+      set-has tells ys h z
       ((all-have agree xs ys g h).1 s z (in_order-back bytes z (map norm xs) p))
 
   pub set-agrees : Agrees → NormTells → (xs ys : List V) → Each Q xs → Each Q ys →

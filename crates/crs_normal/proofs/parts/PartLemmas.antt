@@ -57,8 +57,7 @@ writable-at c N i m =
 
 -- equal texts are of equal values, where all are read as items of one class
 pub told-by : {V : Type 0} → LowerLaws → (c : V → Class) (N : V → Item → Type 0) (d : Class) (Reads : Class → Item → V → Type 0) (Is : V → Type 0) (form : V → V) (item : V → Item) →
-    ((a b : V) (i : Item) → Reads d i a → Reads d i b → a ≡ b) →
-    ((x : V) → Is x → IsStanding (c x) (N x) (at_place 0 (item (form x)))) →
+    IsReadOnce Reads → ((x : V) → Is x → IsStanding (c x) (N x) (at_place 0 (item (form x)))) →
     ((x : V) → Is x → Reads d (at_place 0 (item (form x))) (form x)) →
     (a b : V) → Is a → Is b → item_text (item (form a)) ≡ item_text (item (form b)) → form a ≡ form b
 told-by laws c N d Reads Is form item once made reads a b p q e =
@@ -69,7 +68,15 @@ told-by laws c N d Reads Is form item once made reads a b p q e =
     ∙ one-by-text laws (at_place 0 i) (at_place 0 j) (writable-at (c a) (N a) i (made a p))
     (writable-at (c b) (N b) j (made b q)) (text-at 0 i ∙ e ∙ sym (text-at 0 j))
     ∙ placed-twice 0 0 j in
-    once (form a) (form b) (at_place 0 j) (subst (λ k. Reads d k (form a)) same (reads a p)) (reads b q)
+    once d (at_place 0 j) (form a) (form b) (subst (λ k. Reads d k (form a)) same (reads a p)) (reads b q)
+
+pub told-of : {V : Type 0} → LowerLaws → {level : Level} {c : Class} {most : ℕ} {Reads : Class → Item → V → Type 0} {Is : V → Type 0} {form : V → V} (item : V → Item) →
+    IsReadOnce Reads → most ≤ 8 →
+    ((x : V) → Is x → (place : ℕ) → IsAcceptedNormal level c most (at_place place (item (form x)))) →
+    ((x : V) → Is x → (place : ℕ) → Reads c (at_place place (item (form x))) (form x)) →
+    (a b : V) → Is a → Is b → item_text (item (form a)) ≡ item_text (item (form b)) → form a ≡ form b
+told-of laws {level = level} {c = c} {Reads = Reads} {Is = Is} {form = form} item once few made reads =
+    told-by laws (λ x. c) (λ x. IsNormalIn level c c) c Reads Is form item once (λ x s. made-stands few (made x s 0)) (λ x s. reads x s 0)
 
 module _ {V : Type 0} (laws : LowerLaws) {c : V → Class} {N : V → Item → Type 0} {Reads : Class → Item → V → Type 0} {Is : V → Type 0} {Same : V → V → Type 0} {form : V → V} (item : V → Item) (known : IsKnownBy c N Reads Is Same form item) where
   abbrev at-start : V → Item
@@ -147,14 +154,12 @@ pub record IsKnownOf {V : Type 0} (level : Level) (c : Class) (most : ℕ) (Read
 pub canonical-of : {V : Type 0} → LowerLaws → {level : Level} {c : Class} {most : ℕ} {Reads : Class → Item → V → Type 0} {Is : V → Type 0} {Same : V → V → Type 0} {form : V → V} (item : V → Item) →
     IsKnownOf level c most Reads Is Same form item → most ≤ 8 →
     IsWrittenForm Is Same (λ x. IsSpelledAs level c Reads Same x) (λ x. item_text (item (form x)))
-canonical-of laws {level = level} {c = c} {Reads = Reads} {Is = Is} {form = form} item k few =
-    let stands : (x : _) → Is x → IsStanding c (IsNormalIn level c c) (at_place 0 (item (form x))) =
-    λ x s. made-stands few (k.made x s 0) in
+canonical-of laws {level = level} {c = c} item k few =
     canonical-by laws item (record {
       decides = k.decides;
-      made = stands;
+      made = λ x s. made-stands few (k.made x s 0);
       reads = λ x s. k.reads x s 0;
-      told = told-by laws (λ x. c) _ c Reads Is form item (λ a b i. k.once c i a b) stands (λ x s. k.reads x s 0);
+      told = told-of laws item k.once few k.made k.reads;
       sound = λ x s. k.sound;
       own = λ x s i v sound normal reads. k.own i v (good-of sound normal) (sound.unbroken, reads);
     })

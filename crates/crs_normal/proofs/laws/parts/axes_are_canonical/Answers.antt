@@ -18,7 +18,7 @@ returns c level =
       made = axis-stands laws level;
       reads = λ x s. axis-alone-read laws level x s 0;
       told = told-by laws (λ x. class.Axis) (λ x. IsNormalAxis level) class.Axis ReadsAxis IsAxis
-          (norm_axis_alone level) item_axis (λ a b i. c.parts_read_once.ensures.axis class.Axis i a b)
+          (norm_axis_alone level) item_axis c.parts_read_once.ensures.axis
           (axis-stands laws level) (λ x s. axis-alone-read laws level x s 0);
       sound = λ x s. c.parts_are_sound.ensures.axis class.Axis;
       own = λ x s i v sound normal. axis-alone-form laws.plain_one level i v sound.shaped normal;

@@ -1,14 +1,15 @@
-use Rattle.crs_normal.proofs.members.IdentLemmas.{idents-agree}
-use Rattle.crs_normal.proofs.members.MemberLemmas.{geoids-agree, members-agree}
-use Rattle.crs_normal.proofs.members.ParameterLemmas.{parameters-agree}
-use Rattle.crs_normal.proofs.members.UsageLemmas.{usages-agree}
+use Rattle.crs_normal.proofs.members.AgreeLemmas.{geoids-agree, idents-agree, members-agree, parameters-agree, usages-agree}
 use Rattle.crs_normal.proofs.laws.sets.sets_decide.Goals as goal
 
 pub returns : goal.returns
-returns c = record {
-  idents = idents-agree c.lower_laws.ensures c.members_read_once.ensures.ident;
-  members = members-agree c.lower_laws.ensures c.members_read_once.ensures.ident c.members_read_once.ensures.member;
-  parameters = parameters-agree c.lower_laws.ensures c.members_read_once.ensures.ident c.members_read_once.ensures.parameter;
-  geoid_models = geoids-agree c.lower_laws.ensures c.members_read_once.ensures.ident c.members_read_once.ensures.geoid_model;
-  usages = usages-agree c.lower_laws.ensures c.members_read_once.ensures.ident c.members_read_once.ensures.usage;
-}
+returns c =
+    let laws = c.lower_laws.ensures in
+    let once = c.members_read_once.ensures in
+    let idents = idents-agree laws once.ident in
+    record {
+      idents = idents;
+      members = λ level. members-agree laws idents level once.member;
+      parameters = λ level. parameters-agree laws idents level once.parameter;
+      geoid_models = λ level. geoids-agree laws idents level once.geoid_model;
+      usages = λ level. usages-agree laws idents level once.usage;
+    }

@@ -5,11 +5,10 @@ use Rattle.std.specs.List.{list_all}
 use Rattle.crs_text.specs.Prelude.{item_text}
 use Rattle.crs_value.specs.Prelude.{IsParameter, ParameterParts}
 use Rattle.crs_value.specs.Sound.{Each}
+use Rattle.crs_matching.specs.Prelude.{SameParameter}
 use Rattle.crs_normal.specs.Prelude.{in_order, item_parameter, norm_parameter, set_parameters}
-use Rattle.crs_normal.proofs.members.ParameterLemmas.{parameter-kept, parameter-told}
-use Rattle.crs_normal.proofs.members.SetLemmas.{each-has, each-in_order, each-of, in_order-has}
-use Rattle.crs_normal.proofs.read.ViewLemmas.{each-so}
-use Rattle.crs_normal.proofs.texts.SegmentLemmas.{each-map}
+use Rattle.crs_normal.proofs.members.AgreeLemmas.{parameter-told}
+use Rattle.crs_normal.proofs.members.SetLemmas.{each-has, each-in_order, each-of, set-has}
 use Rattle.crs_normal.proofs.laws.sets.sets_of_parameters_have_each.Goals as goal
 
 all-to : {A : Type 0} (test : A → Bool) (xs : List A) → list_all test xs ≡ true → Each (λ x. test x ≡ true) xs
@@ -24,11 +23,11 @@ pub returns : goal.returns
 unfolding set_parameters
 returns c level test xs h =
     let text = λ (p : ParameterParts). item_text (item_parameter p) in
-    let told = parameter-told c.lower_laws.ensures c.members_read_once.ensures.parameter in
+    let told = parameter-told c.lower_laws.ensures c.members_read_once.ensures.parameter level in
     let ys = map (norm_parameter level) xs in
-    let sound = each-map (norm_parameter level) IsParameter xs (each-so _ _ (parameter-kept level) xs h) in
     same_from_decides {P = list_all test ys ≡ true} (list_all test (in_order text ys)) (list_all test ys) (
       λ e. all-from test ys (each-of (λ y. test y ≡ true) ys (λ z q.
-          each-has (λ y. test y ≡ true) (in_order text ys) z (all-to test (in_order text ys) e) (in_order-has text IsParameter told z ys sound q))),
+          each-has (λ y. test y ≡ true) (in_order text ys) z (all-to test (in_order text ys) e)
+          (set-has (norm_parameter level) text IsParameter (SameParameter level) told xs h z q))),
       λ e. all-from test (in_order text ys) (each-in_order text (λ y. test y ≡ true) ys (all-to test ys e)),
     ) (λ e. e, λ e. e)
