@@ -43,7 +43,7 @@ ghost use Rattle.crs_normal.specs.PartTexts.{ellipsoid_text, ensemble_text, exte
 ghost use Rattle.crs_normal.specs.PartTexts.{geoid_model_text, horizontal_text, ident_text, member_text, meridian_text};
 ghost use Rattle.crs_normal.specs.PartTexts.{method_text, parameter_text, projected_text, unit_text, usage_text};
 ghost use Rattle.crs_normal.specs.PartTexts.{norm_axis_alone, vertical_text};
-ghost use Rattle.crs_normal.specs.WrittenForm.{IsWrittenForm};
+ghost use Rattle.crs_normal.specs.WrittenForm.{AreWrittenForms};
 
 use crate::laws::lower::lower_laws;
 use crate::laws::sets::sets_decide;
@@ -60,7 +60,7 @@ pub fn closed_texts()
 
 /// The spellings of identifiers by themselves. Profile.
 pub fn identifiers_are_canonical()
-    ensures { (level : Level) → IsWrittenForm IsIdent SameIdent (IsSpelledIdent level) (ident_text level) }
+    ensures { AreWrittenForms IsIdent (λ level. SameIdent) IsSpelledIdent ident_text }
 {
     lower_laws();
     members_read_once();
@@ -69,8 +69,7 @@ pub fn identifiers_are_canonical()
 
 /// The spellings of units, of which `UNIT` is a kind of its own. Profile.
 pub fn units_are_canonical()
-    ensures { (level : Level) → IsWrittenForm IsUnit (SameUnit kinds.Plain level) (IsSpelledUnit level)
-        (unit_text level) }
+    ensures { AreWrittenForms IsUnit (SameUnit kinds.Plain) IsSpelledUnit unit_text }
 {
     lower_laws();
     sets_decide();
@@ -80,17 +79,10 @@ pub fn units_are_canonical()
 
 /// The spellings of ellipsoids, prime meridians, members of ensembles and the meridians of axes. Profile.
 pub fn frame_parts_are_canonical()
-    ensures ellipsoid { (level : Level) →
-        IsWrittenForm IsEllipsoid (AreSame parts_of_ellipsoid level)
-        (IsSpelledEllipsoid level) (ellipsoid_text level) }
-    ensures meridian { (level : Level) →
-        IsWrittenForm IsMeridian (AreSame parts_of_given level)
-        (IsSpelledMeridian level) (meridian_text level) }
-    ensures member { (level : Level) →
-        IsWrittenForm IsMember (SameMember level) (IsSpelledMember level) (member_text level) }
-    ensures along { (level : Level) →
-        IsWrittenForm IsAxisMeridian (SameAxisMeridian level) (IsSpelledAxisMeridian level)
-        (axis_meridian_text level) }
+    ensures ellipsoid { AreWrittenForms IsEllipsoid (AreSame parts_of_ellipsoid) IsSpelledEllipsoid ellipsoid_text }
+    ensures meridian { AreWrittenForms IsMeridian (AreSame parts_of_given) IsSpelledMeridian meridian_text }
+    ensures member { AreWrittenForms IsMember SameMember IsSpelledMember member_text }
+    ensures along { AreWrittenForms IsAxisMeridian SameAxisMeridian IsSpelledAxisMeridian axis_meridian_text }
 {
     lower_laws();
     sets_decide();
@@ -102,8 +94,7 @@ pub fn frame_parts_are_canonical()
 
 /// The spellings of axes with their own orders and units, of which `UNIT` is a kind of its own. Profile.
 pub fn axes_are_canonical()
-    ensures { (level : Level) →
-        IsWrittenForm IsAxis (SameAxisAlone level) (IsSpelledAxis level) (axis_text level) }
+    ensures { AreWrittenForms IsAxis SameAxisAlone IsSpelledAxis axis_text }
 {
     lower_laws();
     sets_decide();
@@ -123,16 +114,11 @@ pub fn axis_texts_tell_axes()
 
 /// The spellings of conversions, their methods and parameters, and geoid models. Profile.
 pub fn conversions_are_canonical()
-    ensures method { (level : Level) →
-        IsWrittenForm IsMethod (AreSame parts_of_method level) (IsSpelledMethod level) (method_text level) }
-    ensures parameter { (level : Level) →
-        IsWrittenForm IsParameter (SameParameter level) (IsSpelledParameter level) (parameter_text level) }
-    ensures conversion { (level : Level) →
-        IsWrittenForm IsConversion (AreSame parts_of_conversion level)
-        (IsSpelledConversion level) (conversion_text level) }
-    ensures geoid_model { (level : Level) →
-        IsWrittenForm IsGeoidModel (SameGeoidModel level)
-        (IsSpelledGeoidModel level) (geoid_model_text level) }
+    ensures method { AreWrittenForms IsMethod (AreSame parts_of_method) IsSpelledMethod method_text }
+    ensures parameter { AreWrittenForms IsParameter SameParameter IsSpelledParameter parameter_text }
+    ensures conversion { AreWrittenForms IsConversion (AreSame parts_of_conversion) IsSpelledConversion
+        conversion_text }
+    ensures geoid_model { AreWrittenForms IsGeoidModel SameGeoidModel IsSpelledGeoidModel geoid_model_text }
 {
     lower_laws();
     sets_decide();
@@ -144,11 +130,9 @@ pub fn conversions_are_canonical()
 
 /// The spellings of deformation models and dynamic parts. Profile.
 pub fn dynamic_parts_are_canonical()
-    ensures deformation_model { (level : Level) →
-        IsWrittenForm IsDeformationModel (SameDeformationModel level) (IsSpelledDeformationModel level)
-        (deformation_model_text level) }
-    ensures dynamic { (level : Level) →
-        IsWrittenForm IsDynamic (SameDynamic level) (IsSpelledDynamic level) (dynamic_text level) }
+    ensures deformation_model { AreWrittenForms IsDeformationModel SameDeformationModel IsSpelledDeformationModel
+        deformation_model_text }
+    ensures dynamic { AreWrittenForms IsDynamic SameDynamic IsSpelledDynamic dynamic_text }
 {
     lower_laws();
     sets_decide();
@@ -159,10 +143,8 @@ pub fn dynamic_parts_are_canonical()
 
 /// The spellings of boxes and extents. Profile.
 pub fn extents_are_canonical()
-    ensures bounding_box { (level : Level) →
-        IsWrittenForm IsBox SameBox (IsSpelledBox level) (box_text level) }
-    ensures extent { (level : Level) →
-        IsWrittenForm IsExtent (SameExtent level) (IsSpelledExtent level) (extent_text level) }
+    ensures bounding_box { AreWrittenForms IsBox (λ level. SameBox) IsSpelledBox box_text }
+    ensures extent { AreWrittenForms IsExtent SameExtent IsSpelledExtent extent_text }
 {
     lower_laws();
     sets_decide();
@@ -173,8 +155,7 @@ pub fn extents_are_canonical()
 
 /// The spellings of usages, which are written alike at every level. Profile.
 pub fn usages_are_canonical()
-    ensures { (level : Level) →
-        IsWrittenForm IsUsage SameUsage (IsSpelledUsage level) (usage_text level) }
+    ensures { AreWrittenForms IsUsage (λ level. SameUsage) IsSpelledUsage usage_text }
 {
     lower_laws();
     sets_decide();
@@ -184,11 +165,8 @@ pub fn usages_are_canonical()
 
 /// The spellings of reference frames and ensembles: geodetic ones where they have an ellipsoid, else vertical ones. Profile.
 pub fn datums_are_canonical()
-    ensures datum { (level : Level) →
-        IsWrittenForm IsDatum (AreSame parts_of_datum level) (IsSpelledDatum level) (datum_text level) }
-    ensures ensemble { (level : Level) →
-        IsWrittenForm IsEnsemble (AreSame parts_of_ensemble level)
-        (IsSpelledEnsemble level) (ensemble_text level) }
+    ensures datum { AreWrittenForms IsDatum (AreSame parts_of_datum) IsSpelledDatum datum_text }
+    ensures ensemble { AreWrittenForms IsEnsemble (AreSame parts_of_ensemble) IsSpelledEnsemble ensemble_text }
 {
     lower_laws();
     sets_decide();
@@ -199,28 +177,18 @@ pub fn datums_are_canonical()
 
 /// The spellings of frames of either kind. Profile.
 pub fn frames_are_canonical()
-    ensures { (level : Level) →
-        IsWrittenForm IsFrame (AreSame parts_of_frame level) (IsSpelledFrame level) (frame_text level) }
+    ensures { AreWrittenForms IsFrame (AreSame parts_of_frame) IsSpelledFrame frame_text }
 {
     datums_are_canonical();
 }
 
 /// The spellings of geodetic, projected, vertical and compound CRSs, and of base CRSs. Profile.
 pub fn kinds_are_canonical()
-    ensures base { (level : Level) →
-        IsWrittenForm IsBase (AreSame parts_of_base level) (IsSpelledBase level) (base_text level) }
-    ensures geodetic { (level : Level) →
-        IsWrittenForm IsGeodetic (AreSame parts_of_geodetic level)
-        (IsSpelledGeodetic level) (geodetic_text level) }
-    ensures projected { (level : Level) →
-        IsWrittenForm IsProjected (AreSame parts_of_projected level)
-        (IsSpelledProjected level) (projected_text level) }
-    ensures vertical { (level : Level) →
-        IsWrittenForm IsVertical (AreSame parts_of_vertical level)
-        (IsSpelledVertical level) (vertical_text level) }
-    ensures compound { (level : Level) →
-        IsWrittenForm IsCompound (AreSame parts_of_compound level)
-        (IsSpelledCompound level) (compound_text level) }
+    ensures base { AreWrittenForms IsBase (AreSame parts_of_base) IsSpelledBase base_text }
+    ensures geodetic { AreWrittenForms IsGeodetic (AreSame parts_of_geodetic) IsSpelledGeodetic geodetic_text }
+    ensures projected { AreWrittenForms IsProjected (AreSame parts_of_projected) IsSpelledProjected projected_text }
+    ensures vertical { AreWrittenForms IsVertical (AreSame parts_of_vertical) IsSpelledVertical vertical_text }
+    ensures compound { AreWrittenForms IsCompound (AreSame parts_of_compound) IsSpelledCompound compound_text }
 {
     lower_laws();
     sets_decide();
@@ -233,9 +201,7 @@ pub fn kinds_are_canonical()
 
 /// The spellings of the horizontal parts of compound CRSs. Profile.
 pub fn horizontals_are_canonical()
-    ensures { (level : Level) →
-        IsWrittenForm IsHorizontalPart (AreSame parts_of_horizontal level)
-        (IsSpelledHorizontal level) (horizontal_text level) }
+    ensures { AreWrittenForms IsHorizontalPart (AreSame parts_of_horizontal) IsSpelledHorizontal horizontal_text }
 {
     kinds_are_canonical();
     written_forms_are_equal_where_same();
