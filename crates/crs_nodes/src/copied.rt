@@ -52,9 +52,7 @@ fn next_of(
     requires { Holds items.now at }
     ensures { IfSome result (λ found. IsNext items.now at kind found.0 found.1) }
 {
-    let Some(id) = at else {
-        return None;
-    };
+    let id = at?;
     if items.kind(id) != kind {
         return None;
     }
@@ -69,11 +67,7 @@ fn next_plain(items: &Items<'_>, at: Option<ItemId>) -> Option<(ItemId, Option<I
     ensures plain { IfSome result (λ found. IsPlainNumber (item_at items.now found.0)) }
 {
     let (number, next) = next_of(items, at, ItemKind::Number)?;
-    if is_plainly(items.raw(number)) {
-        Some((number, next))
-    } else {
-        None
-    }
+    is_plainly(items.raw(number)).then_some((number, next))
 }
 
 // Nothing comes next.
@@ -81,10 +75,7 @@ fn next_plain(items: &Items<'_>, at: Option<ItemId>) -> Option<(ItemId, Option<I
 fn none_next(at: Option<ItemId>) -> Option<()>
     ensures { IfSome result (λ _. (tree : Item) → ahead tree at ≡ End) }
 {
-    match at {
-        None => Some(()),
-        Some(_) => None,
-    }
+    at.is_none().then_some(())
 }
 
 // ---- numbers and keywords
@@ -133,11 +124,7 @@ fn short_ident(items: &Items<'_>, id: ItemId) -> Option<()>
     let (_authority, at) = next_of(items, at, ItemKind::Text)?;
     let (code, at) = next_of(items, at, ItemKind::Number)?;
     none_next(at)?;
-    if is_short(items.raw(code)) {
-        Some(())
-    } else {
-        None
-    }
+    is_short(items.raw(code)).then_some(())
 }
 
 fn ends(items: &Items<'_>, at: Option<ItemId>, level: Level) -> Option<()>
@@ -150,8 +137,7 @@ fn ends(items: &Items<'_>, at: Option<ItemId>, level: Level) -> Option<()>
     if !keeps(level) || items.next(id).is_some() {
         return None;
     }
-    short_ident(items, id)?;
-    Some(())
+    short_ident(items, id)
 }
 
 fn said_unit(items: &Items<'_>, id: ItemId, level: Level) -> Option<()>
@@ -259,11 +245,7 @@ fn plain_order(items: &Items<'_>, id: ItemId, position: u64) -> Option<()>
     let at = opened(items, id, b"ORDER")?;
     let (number, at) = next_of(items, at, ItemKind::Number)?;
     none_next(at)?;
-    if is_position(items.raw(number), position) {
-        Some(())
-    } else {
-        None
-    }
+    is_position(items.raw(number), position).then_some(())
 }
 
 fn plain_axis(items: &Items<'_>, id: ItemId, position: u64, level: Level) -> Option<()>

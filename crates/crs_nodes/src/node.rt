@@ -180,10 +180,7 @@ impl<'i, 'a> Node<'i, 'a> {
         ensures { (value : List ℕ) → ReadsFirst ReadsText (single_of (skip 1 (arguments (item self.now)))) value →
             value ≡ result.now }
     {
-        match self.single(1) {
-            None => b"",
-            Some(code) => code,
-        }
+        self.single(1).unwrap_or(b"")
     }
 
     /// The version of an identifier. Profile.
