@@ -265,7 +265,8 @@ fn plain_axis(items: &Items<'_>, id: ItemId, position: u64, level: Level) -> Opt
         return None;
     }
     said_unit(items, unit, level)?;
-    ends(items, at, level)
+    ends(items, at, level)?;
+    Some(())
 }
 
 // ---- copies
