@@ -1,5 +1,5 @@
-//! Nodes of the commonest forms that are canonical as they stand: what is written of one is a copy of its bytes. That a
-//! node isn't said to be of its form says nothing: it is written part by part.
+//! Nodes of the commonest forms that are canonical as they stand: what is written of one is a copy of its bytes. A node
+//! that isn't found to have its form may be canonical too: it is written part by part.
 ghost use Rattle.std.specs.Prelude.{◌≡◌, IfSome, IsTrue, codes};
 ghost use Rattle.crs_decimal.specs.Plain.{plain};
 ghost use Rattle.crs_text.specs.Items.{End, HasId, Item};

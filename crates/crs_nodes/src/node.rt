@@ -7,8 +7,8 @@ use crs_shape::Class;
 use crs_text::{ItemId, ItemKind, Items};
 use crs_value::{Direction, UnitKind};
 
-/// An item as one of a class. Of an item from which no value of the class is read, as none is in an accepted text, it
-/// isn't promised what is found. Profile.
+/// An item as one of a class. What is found in an item from which no value of the class is read isn't promised; an
+/// accepted text has no such item. Profile.
 #[derive(Clone, Copy)]
 pub struct Node<'i, 'a> {
     /// The items of the text.
