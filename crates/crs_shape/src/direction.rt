@@ -83,11 +83,7 @@ const DIRECTIONS: [Direction; 22] = [
 fn if_spelled(word: &[u8], direction: Direction) -> Option<Direction>
     ensures { IfSome result (λ value. SpellsWord word.now (direction_word value)) }
 {
-    if is_spelled(direction.word().as_bytes(), word) {
-        Some(direction)
-    } else {
-        None
-    }
+    is_spelled(direction.word().as_bytes(), word).then_some(direction)
 }
 
 // The direction that a word spells, if it is the one that most words with its first letter, or else with its last, are.

@@ -7,6 +7,7 @@ ghost use Rattle.crs_shape.specs.Left.{may_go, slots_left, classes_left, end_lef
 use crate::class::Class;
 use crate::fitting::Walk;
 use crate::keyword::is_root;
+use crate::rows::every_class;
 use crate::table::row;
 use std::marker::Model;
 
@@ -89,59 +90,14 @@ fn may_go(walk: Walk, parent: Class, class: Class) -> bool
     walk.after(row(parent), class).is_some()
 }
 
-// all classes
-macro_rules! all {
-    ($($class:ident),* $(,)?) => { &[$(Class::$class),*] };
+// these classes
+macro_rules! classes {
+    (() $($class:ident)+) => { &[$(Class::$class),+] };
 }
 
 /// All classes, in the order of the table. Profile.
 pub fn classes() -> &'static [Class]
     ensures { result.now ≡ every_class }
 {
-    all![
-        Number,
-        Text,
-        Word,
-        GeodeticCrs,
-        GeographicCrs,
-        ProjectedCrs,
-        VerticalCrs,
-        CompoundCrs,
-        BaseCrs,
-        Dynamic,
-        FrameEpoch,
-        DeformationModel,
-        GeodeticFrame,
-        VerticalFrame,
-        GeodeticEnsemble,
-        VerticalEnsemble,
-        Member,
-        EnsembleAccuracy,
-        Anchor,
-        AnchorEpoch,
-        Ellipsoid,
-        PrimeMeridian,
-        PlainUnit,
-        LengthUnit,
-        AngleUnit,
-        ScaleUnit,
-        AxisUnit,
-        CoordinateSystem,
-        Axis,
-        AxisMeridian,
-        Order,
-        Conversion,
-        Method,
-        Parameter,
-        GeoidModel,
-        Usage,
-        Scope,
-        Area,
-        BoundingBox,
-        VerticalExtent,
-        Identifier,
-        Citation,
-        Uri,
-        Remark,
-    ]
+    every_class!(classes, ())
 }

@@ -7,7 +7,7 @@ ghost use Rattle.crs_shape.specs.Shape.{has_class};
 
 use crate::class::Class;
 use crate::keyword_classes::classes_by;
-use crate::rows::{row, rows};
+use crate::rows::{every_class, row, rows};
 use crate::slot::has;
 use crs_text::{Keyword, laws};
 

@@ -6,7 +6,7 @@ ghost use Rattle.crs_shape.specs.KeywordTable.{is_part, argument_classes};
 
 use crate::class::Class;
 use crate::class_set::{ClassSet, set};
-use crate::rows::{row, rows};
+use crate::rows::{every_class, row, rows};
 
 // the classes of a class's slots
 macro_rules! parts_of {

@@ -214,26 +214,31 @@ macro_rules! row {
     (Remark, $table:ident, $with:tt) => { $table! { $with [Remark] one(Text) } };
 }
 
+// calls the macro `$each` with `$with` and all classes, in the order of `Class`
+macro_rules! every_class {
+    ($each:ident, $with:tt) => {
+        $each! {
+            $with
+            Number Text Word GeodeticCrs GeographicCrs ProjectedCrs VerticalCrs CompoundCrs BaseCrs
+            Dynamic FrameEpoch DeformationModel GeodeticFrame VerticalFrame GeodeticEnsemble
+            VerticalEnsemble Member EnsembleAccuracy Anchor AnchorEpoch Ellipsoid PrimeMeridian
+            PlainUnit LengthUnit AngleUnit ScaleUnit AxisUnit CoordinateSystem Axis AxisMeridian
+            Order Conversion Method Parameter GeoidModel Usage Scope Area BoundingBox VerticalExtent
+            Identifier Citation Uri Remark
+        }
+    };
+}
+
 // a table with a row for each class
 macro_rules! rows {
-    ($table:ident, $class:expr) => {
-        rows!(
-            $table,
-            $class,
-            Number Text Word GeodeticCrs GeographicCrs ProjectedCrs VerticalCrs CompoundCrs BaseCrs
-            Dynamic GeodeticFrame VerticalFrame GeodeticEnsemble VerticalEnsemble Ellipsoid
-            PrimeMeridian PlainUnit LengthUnit AngleUnit ScaleUnit AxisUnit CoordinateSystem Axis
-            AxisMeridian Conversion Parameter Member Method GeoidModel DeformationModel Usage
-            BoundingBox VerticalExtent Identifier FrameEpoch AnchorEpoch EnsembleAccuracy Order
-            Anchor Scope Area Citation Uri Remark
-        )
-    };
-    ($table:ident, $class:expr, $($of:ident)+) => {
+    ($table:ident, $class:expr) => { every_class!(rows, ($table, $class)) };
+    (($table:ident, $class:expr) $($of:ident)+) => {
         match $class {
             $(Class::$of => row!($of, $table, ()),)+
         }
     };
 }
 
+pub(crate) use every_class;
 pub(crate) use row;
 pub(crate) use rows;

@@ -7,7 +7,7 @@ ghost use Rattle.crs_shape.specs.Slots.{is_class};
 ghost use Rattle.crs_shape.specs.Sought.{kind_for, SoughtParts};
 
 use crate::class::Class;
-use crate::rows::{row, rows};
+use crate::rows::{every_class, row, rows};
 use crate::table::{class_by, is_class, is_clear};
 use crs_text::{ItemId, ItemKind, Items, Keyword, laws};
 use std::marker::Model;

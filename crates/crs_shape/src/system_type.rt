@@ -35,11 +35,7 @@ const SYSTEM_TYPES: [SystemType; 4] = [
 fn if_spelled(word: &[u8], system_type: SystemType) -> Option<SystemType>
     ensures { IfSome result (λ value. SpellsWord word.now (system_word value)) }
 {
-    if is_spelled(system_type.word().as_bytes(), word) {
-        Some(system_type)
-    } else {
-        None
-    }
+    is_spelled(system_type.word().as_bytes(), word).then_some(system_type)
 }
 
 // The type that a word spells, if it is the one with its first letter.

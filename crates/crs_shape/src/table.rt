@@ -10,7 +10,7 @@ use crate::class_set::{ClassSet, set};
 use crate::keyword::has_keyword;
 use crate::keyword_classes::{classes_by, rivals_of};
 use crate::part::is_part;
-use crate::rows::{row, rows};
+use crate::rows::{every_class, row, rows};
 use crate::slot::Slot;
 use crs_text::{Keyword, laws};
 
