@@ -53,30 +53,37 @@ pub enum Direction {
     Unspecified,
 }
 
-const DIRECTIONS: [Direction; 22] = [
-    Direction::North,
-    Direction::NorthNorthEast,
-    Direction::NorthEast,
-    Direction::EastNorthEast,
-    Direction::East,
-    Direction::EastSouthEast,
-    Direction::SouthEast,
-    Direction::SouthSouthEast,
-    Direction::South,
-    Direction::SouthSouthWest,
-    Direction::SouthWest,
-    Direction::WestSouthWest,
-    Direction::West,
-    Direction::WestNorthWest,
-    Direction::NorthWest,
-    Direction::NorthNorthWest,
-    Direction::GeocentricX,
-    Direction::GeocentricY,
-    Direction::GeocentricZ,
-    Direction::Up,
-    Direction::Down,
-    Direction::Unspecified,
-];
+// calls the macro `$each` with `$with` and all directions, each with its word
+macro_rules! directions {
+    ($each:ident, $with:tt) => {
+        $each! {
+            $with
+            North "north", NorthNorthEast "northNorthEast", NorthEast "northEast",
+            EastNorthEast "eastNorthEast", East "east", EastSouthEast "eastSouthEast",
+            SouthEast "southEast", SouthSouthEast "southSouthEast", South "south",
+            SouthSouthWest "southSouthWest", SouthWest "southWest", WestSouthWest "westSouthWest",
+            West "west", WestNorthWest "westNorthWest", NorthWest "northWest",
+            NorthNorthWest "northNorthWest", GeocentricX "geocentricX", GeocentricY "geocentricY",
+            GeocentricZ "geocentricZ", Up "up", Down "down", Unspecified "unspecified"
+        }
+    };
+}
+
+// all directions
+macro_rules! list {
+    (() $($direction:ident $word:literal),+) => { [$(Direction::$direction),+] };
+}
+
+// the word of a direction
+macro_rules! word_of {
+    (($of:expr) $($direction:ident $word:literal),+) => {
+        match $of {
+            $(Direction::$direction => $word,)+
+        }
+    };
+}
+
+const DIRECTIONS: [Direction; 22] = directions!(list, ());
 
 // The direction, if the word spells it.
 #[inline(always)]
@@ -125,30 +132,7 @@ impl Direction {
     pub fn word(&self) -> &'static str
         ensures { result.now ≡ direction_word self.now }
     {
-        match self {
-            Direction::North => "north",
-            Direction::NorthNorthEast => "northNorthEast",
-            Direction::NorthEast => "northEast",
-            Direction::EastNorthEast => "eastNorthEast",
-            Direction::East => "east",
-            Direction::EastSouthEast => "eastSouthEast",
-            Direction::SouthEast => "southEast",
-            Direction::SouthSouthEast => "southSouthEast",
-            Direction::South => "south",
-            Direction::SouthSouthWest => "southSouthWest",
-            Direction::SouthWest => "southWest",
-            Direction::WestSouthWest => "westSouthWest",
-            Direction::West => "west",
-            Direction::WestNorthWest => "westNorthWest",
-            Direction::NorthWest => "northWest",
-            Direction::NorthNorthWest => "northNorthWest",
-            Direction::GeocentricX => "geocentricX",
-            Direction::GeocentricY => "geocentricY",
-            Direction::GeocentricZ => "geocentricZ",
-            Direction::Up => "up",
-            Direction::Down => "down",
-            Direction::Unspecified => "unspecified",
-        }
+        directions!(word_of, (self))
     }
 
     /// The direction that a word spells, letter case aside; None where it spells none. ISO 19162:2019, "Axis direction".
