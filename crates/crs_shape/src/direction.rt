@@ -93,7 +93,7 @@ fn if_spelled(word: &[u8], direction: Direction) -> Option<Direction>
     is_spelled(direction.word().as_bytes(), word).then_some(direction)
 }
 
-// The direction that a word spells, if it is the one that most words with its first letter, or else with its last, are.
+// The direction that a word spells, if it is the commonest with the word's first letter, or a geocentric one.
 fn common(word: &[u8]) -> Option<Direction>
     ensures { IfSome result (λ value. SpellsWord word.now (direction_word value)) }
 {

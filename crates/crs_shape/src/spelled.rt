@@ -2,8 +2,8 @@
 ghost use Rattle.std.specs.Prelude.{◌≡◌, ◌↔◌, IsTrue, map};
 ghost use Rattle.std.specs.Char.{to_ascii_lowercase};
 
-// Whether bytes spell this word, letter case aside. Mostly they are the word as it is written, which is told by a few
-// machine words where that is a constant.
+// Whether bytes spell this word, letter case aside. Mostly they are the word as it is written, which takes the comparison
+// of a few machine words where the word is a constant.
 #[inline(always)]
 pub(crate) fn is_spelled(word: &[u8], bytes: &[u8]) -> bool
     ensures { IsTrue result ↔ (map to_ascii_lowercase word.now ≡ map to_ascii_lowercase bytes.now) }
