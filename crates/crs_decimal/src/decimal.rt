@@ -129,10 +129,7 @@ impl Decimal {
         if self.is_negative() || self.power() < 0 {
             return None;
         }
-        match scaled(self.digits(), self.power() as usize) {
-            None => None,
-            Some(number) => u64::try_from(number).ok(),
-        }
+        u64::try_from(scaled(self.digits(), self.power() as usize)?).ok()
     }
 
     /// Whether this is that whole number.

@@ -114,12 +114,8 @@ fn unsigned_plain(raw: &[u8]) -> Option<&[u8]>
     }
     match rest_of(raw, count) {
         [] => Some(raw),
-        [b'.', fraction @ ..] => {
-            if are_digits(fraction) {
-                Some(front_with(raw, count, kept_len(fraction)))
-            } else {
-                None
-            }
+        [b'.', fraction @ ..] if are_digits(fraction) => {
+            Some(front_with(raw, count, kept_len(fraction)))
         }
         _ => None,
     }

@@ -9,7 +9,7 @@ ghost use Rattle.crs_decimal.specs.Value.{IsNormal, exact};
 use crate::cutting::{Spelled, read};
 use crate::decimal::Decimal;
 use crate::fault::NumberFault;
-use crate::short::read_short;
+use crate::short::{read_short, small_power};
 
 impl Decimal {
     /// Reads a number, `[sign] (digits [. [digits]] | . digits) [E [sign] digits]`, with `e` for
@@ -106,19 +106,8 @@ fn exponent_value(digits: &[u8]) -> usize
 fn power_between(up: usize, down: usize) -> Option<i32>
     ensures { MatchOption result (IsFar up down) (IsPowerBetween up down) }
 {
-    if up >= down {
-        let power = up - down;
-        if power <= 40 {
-            Some(power as i32)
-        } else {
-            None
-        }
-    } else {
-        let power = down - up;
-        if power <= 40 {
-            Some(-(power as i32))
-        } else {
-            None
-        }
+    if up.abs_diff(down) > 40 {
+        return None;
     }
+    Some(small_power(up, down))
 }

@@ -133,11 +133,10 @@ fn stripped(number: u64) -> (u64, usize)
     (digits, zeros)
 }
 
-// the power of ten that is 10^up / 10^down
+/// The power of ten that is 10^up / 10^down.
 #[inline(always)]
-fn small_power(up: usize, down: usize) -> i32
-    requires up { up ≤ 40 }
-    requires down { down ≤ 40 }
+pub(crate) fn small_power(up: usize, down: usize) -> i32
+    requires { (up ≤ down + 40) × (down ≤ up + 40) }
     ensures { IsPowerBetween up down result }
 {
     if up >= down {

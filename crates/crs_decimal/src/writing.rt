@@ -1,6 +1,6 @@
 ghost use Rattle.std.specs.Prelude.{◌≡◌, ℕ, suc, IsTrue, ◌+◌, ◌<◌, ◌≤◌, List, [], ◌∷◌, ◌++◌};
 ghost use Rattle.std.specs.Prelude.{length, take, replicate, MatchResult};
-ghost use Rattle.crs_decimal.specs.Plain.{AppendsPlain, plain, scaled, with_period, padded};
+ghost use Rattle.crs_decimal.specs.Plain.{AppendsPlain, scaled, with_period, padded};
 ghost use Rattle.crs_decimal.specs.Value.{IsNormal, is_power};
 
 use crate::decimal::Decimal;
@@ -18,15 +18,6 @@ impl Decimal {
             (λ _. AppendsPlain self.now out.old.items out.new.items)
             (λ _. out.new.items ≡ out.old.items) }
         ensures normal { IsNormal self.now }
-    {
-        let _normal = self.is_negative();
-        self.write_plain(out)
-    }
-
-    fn write_plain(&self, out: &mut Vec<u8>) -> Result<(), AllocError>
-        ensures { MatchResult result
-            (λ _. out.new.items ≡ out.old.items ++ plain self.now)
-            (λ _. out.new.items ≡ out.old.items) }
     {
         let mut text = Text::new();
         if self.is_negative() {

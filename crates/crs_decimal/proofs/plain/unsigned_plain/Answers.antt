@@ -13,8 +13,8 @@ returns-in-empty-clause-plain c =
     let none : c.rest_of.result.now ≡ [] = nil_from_length _ (search rules) in
     whole-plain raw count c.digits_len-count.ensures.value trim (sym c.rest_of.ensures ∙ none)
 
-pub returns-then-are_digits : goal.returns-then-are_digits
-returns-then-are_digits c =
+pub returns-in-46 : goal.returns-in-46
+returns-in-46 c =
     let raw = c.args.raw.now in
     let count = c.digits_len-count.result in
     let rest = c.rest_of.result.now in

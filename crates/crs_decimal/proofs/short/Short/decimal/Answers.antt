@@ -3,10 +3,11 @@ use Rattle.std.proofs.lemmas.Int.{to_z-of_z}
 use Rattle.crs_decimal.proofs.ShortLemmas.{zeros_few, short_number}
 use Rattle.crs_decimal.proofs.short.Short.decimal.Goals as goal
 
-pub small_power-requires-clause-up : goal.small_power-requires-clause-up
-small_power-requires-clause-up c =
+pub small_power-requires : goal.small_power-requires
+small_power-requires c =
     let s = c.stripped-digits in
-    omega (arith, zeros_few c.args.self.value s.result.0 s.result.1 c.requires.1.small s.ensures.number s.ensures.last)
+    let few = zeros_few c.args.self.value s.result.0 s.result.1 c.requires.1.small s.ensures.number s.ensures.last in
+    (omega (arith, few), omega (arith, c.requires.1.few))
 
 pub returns : goal.returns
 returns c = λ p cut.
