@@ -26,11 +26,7 @@ pub fn same_axis_meridians<'a>(
 ) -> bool
     ensures { IsTrue result ↔ BothOrNeither (SameAxisMeridian level) a.now b.now }
 {
-    match (a, b) {
-        (None, None) => true,
-        (Some(x), Some(y)) => same_axis_meridian(x, y, level),
-        (None, Some(_)) | (Some(_), None) => false,
-    }
+    both_or_neither!(a, b, |x, y| same_axis_meridian(x, y, level))
 }
 
 /// Whether two directions are equal. Profile.

@@ -2,6 +2,17 @@
 //! positions. A single part is the same or not: no path leads into it.
 #![tactic(auto)]
 
+// Whether two values are both missing, or both there and the same, as the last expression says.
+macro_rules! both_or_neither {
+    ($a:ident, $b:ident, |$x:ident, $y:ident| $same:expr) => {
+        match ($a, $b) {
+            (None, None) => true,
+            (Some($x), Some($y)) => $same,
+            (None, Some(_)) | (Some(_), None) => false,
+        }
+    };
+}
+
 mod axes;
 mod idents;
 pub mod laws;

@@ -97,9 +97,5 @@ pub fn same_models<'a>(
 ) -> bool
     ensures { IsTrue result ↔ BothOrNeither (SameDeformationModel level) (option_copied a.entry) (option_copied b.entry) }
 {
-    match (a, b) {
-        (None, None) => true,
-        (Some(x), Some(y)) => same_deformation_model(x, y, level),
-        (None, Some(_)) | (Some(_), None) => false,
-    }
+    both_or_neither!(a, b, |x, y| same_deformation_model(x, y, level))
 }

@@ -17,9 +17,5 @@ pub fn same_value(a: &Decimal, b: &Decimal) -> bool
 pub fn same_optional_value(a: Option<Decimal>, b: Option<Decimal>) -> bool
     ensures { IsTrue result ↔ BothOrNeither SameValue a b }
 {
-    match (a, b) {
-        (None, None) => true,
-        (Some(x), Some(y)) => same_value(&x, &y),
-        (None, Some(_)) | (Some(_), None) => false,
-    }
+    both_or_neither!(a, b, |x, y| same_value(&x, &y))
 }

@@ -40,9 +40,9 @@ fn all_have_same<T: Member>(members: &[T], others: &[T], level: Level) -> bool
     true
 }
 
-// Whether each of many members has a same one among many others. In order it compares each with the one at its place,
-// and else with one of its key: one before it, which has a same one, if there is such, so that another one is compared
-// once, however often a member is repeated.
+// Whether each of many members has a same one among many others. Each is compared with the one at its place first, and
+// then with those of its key: a member before it, which has a same one already, and one of the others. So a repeated
+// member is looked for among the others only once.
 fn all_of_many_have_same<T: Member>(
     members: &[T],
     others: &[T],

@@ -13,9 +13,5 @@ pub fn same_text(a: &[u8], b: &[u8]) -> bool
 pub fn same_optional_text(a: Option<&[u8]>, b: Option<&[u8]>) -> bool
     ensures { IsTrue result ↔ (option_copied a.entry ≡ option_copied b.entry) }
 {
-    match (a, b) {
-        (None, None) => true,
-        (Some(x), Some(y)) => same_text(x, y),
-        (None, Some(_)) | (Some(_), None) => false,
-    }
+    both_or_neither!(a, b, |x, y| same_text(x, y))
 }

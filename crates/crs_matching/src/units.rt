@@ -56,11 +56,7 @@ pub fn same_units_asked<'a>(
     ensures { IsTrue result ↔
         BothOrNeither (SameUnitAsked asked.0 asked.1 level) (option_copied a.entry) (option_copied b.entry) }
 {
-    match (a, b) {
-        (None, None) => true,
-        (Some(x), Some(y)) => same_unit_asked(asked, x, y, level),
-        (None, Some(_)) | (Some(_), None) => false,
-    }
+    both_or_neither!(a, b, |x, y| same_unit_asked(asked, x, y, level))
 }
 
 /// The same, where this kind is asked of both. Profile.

@@ -25,11 +25,7 @@ pub fn same_box(a: &BoundingBox, b: &BoundingBox, _level: Level) -> bool
 fn same_boxes(a: &Option<BoundingBox>, b: &Option<BoundingBox>) -> bool
     ensures { IsTrue result ↔ BothOrNeither SameBox a.now b.now }
 {
-    match (a, b) {
-        (None, None) => true,
-        (Some(x), Some(y)) => same_box(x, y, Level::Full),
-        (None, Some(_)) | (Some(_), None) => false,
-    }
+    both_or_neither!(a, b, |x, y| same_box(x, y, Level::Full))
 }
 
 /// Whether two vertical extents are the same: minimum, maximum and unit. A missing unit is the metre.
@@ -45,11 +41,7 @@ pub fn same_extent<'a>(a: &Extent<'a>, b: &Extent<'a>, level: Level) -> bool
 fn same_extents<'a>(a: &Option<Extent<'a>>, b: &Option<Extent<'a>>, level: Level) -> bool
     ensures { IsTrue result ↔ BothOrNeither (SameExtent level) a.now b.now }
 {
-    match (a, b) {
-        (None, None) => true,
-        (Some(x), Some(y)) => same_extent(x, y, level),
-        (None, Some(_)) | (Some(_), None) => false,
-    }
+    both_or_neither!(a, b, |x, y| same_extent(x, y, level))
 }
 
 /// Whether two usages are the same: scope, area, bounding box and vertical extent, each in both or in neither. A usage
@@ -77,19 +69,13 @@ impl Member for Usage<'_> {
     }
 }
 
-fn has_same_usage<'a>(usage: &Usage<'a>, others: &[Usage<'a>]) -> bool
-    ensures { IsTrue result ↔ HasSame SameUsage usage.now others.now }
-{
-    has_same(usage, others, Level::Full)
-}
-
 // Among these and the bare one, if there is one.
 fn has_same_in<'a>(usage: &Usage<'a>, bare: Option<&Usage<'a>>, others: &[Usage<'a>]) -> bool
     ensures { IsTrue result ↔ HasSame SameUsage usage.now (with_bare (option_copied bare.entry) others.now) }
 {
     match bare {
-        None => has_same_usage(usage, others),
-        Some(bare) => same_usage(usage, bare, Level::Full) || has_same_usage(usage, others),
+        None => has_same(usage, others, Level::Full),
+        Some(bare) => same_usage(usage, bare, Level::Full) || has_same(usage, others, Level::Full),
     }
 }
 
@@ -144,27 +130,13 @@ fn is_met_in<'a>(
     requires before { AllHaveSame SameUsage (take at usages.now) (with_bare (option_copied bare) others.now) }
     ensures { IsTrue result ↔ HasSame SameUsage usage.now (with_bare (option_copied bare.entry) others.now) }
 {
-    if is_same_in(usage, bare, others, at) {
+    if is_same_at(usage, others, at, Level::Full) {
         return true;
     }
     laws::same_usage_is_equivalence();
     let guess = guesses.of(at);
-    is_same_usage_at(usage, &usages[..at], guess.before)
+    is_same_at(usage, &usages[..at], guess.before, Level::Full)
         || is_found_in(usage, bare, others, guess.other)
-}
-
-fn is_same_in<'a>(
-    usage: &Usage<'a>,
-    bare: Option<&Usage<'a>>,
-    others: &[Usage<'a>],
-    place: usize,
-) -> bool
-    ensures { IsTrue result → HasSame SameUsage usage.now (with_bare (option_copied bare.entry) others.now) }
-{
-    match bare {
-        None => is_same_usage_at(usage, others, place),
-        Some(_) => is_same_usage_at(usage, others, place),
-    }
 }
 
 fn is_found_in<'a>(
@@ -176,21 +148,10 @@ fn is_found_in<'a>(
     ensures { IsTrue result ↔ HasSame SameUsage usage.now (with_bare (option_copied bare.entry) others.now) }
 {
     match bare {
-        None => is_found_usage(usage, others, place),
-        Some(bare) => same_usage(usage, bare, Level::Full) || is_found_usage(usage, others, place),
+        None => is_found(usage, others, place, Level::Full),
+        Some(bare) => same_usage(usage, bare, Level::Full)
+            || is_found(usage, others, place, Level::Full),
     }
-}
-
-fn is_same_usage_at<'a>(usage: &Usage<'a>, usages: &[Usage<'a>], place: usize) -> bool
-    ensures { IsTrue result → HasSame SameUsage usage.now usages.now }
-{
-    is_same_at(usage, usages, place, Level::Full)
-}
-
-fn is_found_usage<'a>(usage: &Usage<'a>, others: &[Usage<'a>], place: usize) -> bool
-    ensures { IsTrue result ↔ HasSame SameUsage usage.now others.now }
-{
-    is_found(usage, others, place, Level::Full)
 }
 
 fn all_have_same_in<'a>(
