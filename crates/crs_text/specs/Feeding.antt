@@ -1,5 +1,5 @@
 -- A bridge: how far the front of a text is settled, and what is known of the token that isn't.
-use Rattle.std.specs.Prelude.{◌≡◌, ℕ, ◌+◌, ◌≤◌, ◌<◌, IsTrue, IsUtf8, ◌⊎◌, Option, Some, None, List}
+use Rattle.std.specs.Prelude.{◌≡◌, ℕ, ◌+◌, ◌≤◌, ◌<◌, IsTrue, ◌⊎◌, Option, Some, None, List}
 use Rattle.std.specs.Prelude.{◌∷◌, ◌++◌}
 use Rattle.std.specs.Prelude.{[], length, take, drop}
 use Rattle.std.specs.List.{list_all}
@@ -10,6 +10,7 @@ use Rattle.crs_text.specs.Settled.{FormsSettled, SettledFronts, IsRunSettled, Is
 use Rattle.crs_text.specs.Settled.{IsSettledRefusal}
 use Rattle.crs_text.specs.Settled.{IsTakenSoFar}
 use Rattle.crs_text.specs.Table.{Flat}
+use Rattle.crs_text.specs.Utf8.{IsValidTo}
 use Rattle.crs_text.specs.Rows.{Shows}
 use Rattle.crs_text.specs.Refusal.{RefusedAt}
 use Rattle.crs_text.specs.declared.refusal.Reason.{Reason}
@@ -65,10 +66,6 @@ IsInsideTo after n = (n ≤ length after) × IsInside (take n after)
 -- quote that may still be doubled
 abbrev pub IsOpenTo : List ℕ → ℕ → Type 0
 IsOpenTo after n = IsInsideTo after n × ((drop n after ≡ []) ⊎ (drop n after ≡ 34 ∷ []))
-
--- so many of the bytes are well-formed UTF-8
-abbrev pub IsValidTo : List ℕ → ℕ → Type 0
-IsValidTo after n = (n ≤ length after) × IsUtf8 (take n after)
 
 -- what is left and isn't settled: nothing is known; a word or a run to the end; a quote, after
 -- which so many bytes are inside the text, and so many are well-formed

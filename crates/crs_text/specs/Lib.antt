@@ -23,6 +23,5 @@ pub mod TextFault
 pub mod Tokens
 pub mod Tree
 pub mod Utf8
-pub mod Utf8Form
 pub mod Viable
 pub mod Written

@@ -2,7 +2,6 @@
 ghost use Rattle.std.specs.Prelude.{◌≡◌, ◌++◌, [], None, take, IfErr, MatchResult};
 ghost use Rattle.crs_text.specs.Settled.{IsTakenSoFar, IsPieceFault, IsWantUnrefused};
 ghost use Rattle.crs_text.specs.TextFault.{SpellsNode, IsTextFault};
-ghost use Rattle.crs_text.specs.Scan.{IsReached};
 ghost use Rattle.crs_text.specs.Feeding.{IsSettledTo, IsRefusalOf};
 
 use crate::fault::Fault;
@@ -65,14 +64,9 @@ impl Feeder {
             (λ _. (self.new ≡ self.old ++ piece.now) × IsTakenSoFar self.new)
             (IsPieceFault self.old piece.now self.new) }
     {
-        match refused(&self.refusal) {
-            Ok(()) => {}
-            Err(fault) => return Err(fault),
-        }
+        refused(&self.refusal)?;
         let fed = self.bytes.len();
-        if let Err(refused) = self.bytes.extend_from_slice(piece) {
-            return Err(Fault::Memory(refused));
-        }
+        self.bytes.extend_from_slice(piece).map_err(Fault::Memory)?;
         match read_on(&mut self.table, &self.bytes, piece, self.held) {
             Ok(held) => {
                 self.held = held;
@@ -96,10 +90,9 @@ impl Feeder {
         ensures answer { MatchResult result (SpellsNode self.now) (IsTextFault self.now) }
         ensures memory { IfErr result (IsWantUnrefused self.now) }
     {
-        match refused(&self.refusal) {
-            Ok(()) => finished(self.alloc, &self.bytes, &self.table, self.held.at),
-            Err(fault) => Err(fault),
-        }
+        refused(&self.refusal)?;
+        let table = self.table.copied(self.alloc).map_err(Fault::Memory)?;
+        items_in(table, &self.bytes, self.held.at)
     }
 }
 
@@ -124,16 +117,5 @@ fn cut_back(alloc: Global, bytes: &mut Vec<u8>, table: &mut Table, fed: usize) -
     Held {
         at: after_white(bytes, 0),
         pending: Pending::Unknown,
-    }
-}
-
-// The items of the bytes, of which the table shows those before this place.
-fn finished<'a>(alloc: Global, text: &'a [u8], table: &Table, at: usize) -> Result<Items<'a>, Fault>
-    requires { IsReached text.now table.now at }
-    ensures { MatchResult result (SpellsNode text.now) (IsTextFault text.now) }
-{
-    match table.copied(alloc) {
-        Ok(copy) => items_in(copy, text, at),
-        Err(refused) => Err(Fault::Memory(refused)),
     }
 }

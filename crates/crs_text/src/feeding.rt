@@ -1,15 +1,13 @@
 //! How far the front of a text is settled while more of it may come. What is pending at its end is scanned
 //! from where the last piece left it.
 ghost use Rattle.std.specs.Prelude.{◌<◌, length, IfSome, MatchBool, MatchResult};
-ghost use Rattle.crs_text.specs.Quoted.{BeginsWith, IsShutAt};
-ghost use Rattle.crs_text.specs.Utf8.{IsUtf8Front};
+ghost use Rattle.crs_text.specs.Quoted.{IsShutAt};
+ghost use Rattle.crs_text.specs.Utf8.{IsUtf8Front, IsValidTo};
 ghost use Rattle.crs_text.specs.Settled.{IsRunSettled};
 ghost use Rattle.crs_text.specs.Lexing.{IsLexed};
 ghost use Rattle.crs_text.specs.Feeding.{IsFlawSettled, IsLexedSettled, IsSettledTo, IsUnsettledAt, IsFedTo};
 ghost use Rattle.crs_text.specs.Feeding.{IsFedBefore, IsStepFrom, IsSettledFault, IsPendingIn, IsPendingBefore};
-ghost use Rattle.crs_text.specs.Feeding.{StaysPending, IsInsideTo, IsOpenTo, IsValidTo};
-ghost use Rattle.crs_text.specs.Tokens as tokens;
-ghost use Rattle.crs_decimal.specs.Spelling as spelling;
+ghost use Rattle.crs_text.specs.Feeding.{StaysPending, IsInsideTo, IsOpenTo};
 
 use crate::fault::Fault;
 use crate::lexing::{Lexed, closing_quote, rest_of, token_at};
@@ -17,7 +15,7 @@ use crate::refusal::Reason;
 use crate::runs::{run_length, word_length};
 use crate::scanning::{after_white, take_lexed};
 use crate::table::Table;
-use bstr::validate;
+use crate::utf8::valid_length;
 
 /// What is known of a token that isn't settled.
 #[derive(Clone, Copy)]
@@ -104,19 +102,6 @@ fn settle_all(table: &mut Table, text: &[u8], from: usize) -> Result<usize, Faul
     Ok(at)
 }
 
-// How many of the bytes are well-formed UTF-8; None where no more bytes complete the others.
-fn valid_length(bytes: &[u8]) -> Option<usize>
-    ensures { IfSome result (λ n. IsValidTo bytes.now n × IsUtf8Front bytes.now) }
-{
-    match validate(bytes) {
-        Ok(()) => Some(bytes.len()),
-        Err(e) => match e.error_len() {
-            None => Some(e.valid_up_to()),
-            Some(_) => None,
-        },
-    }
-}
-
 // How many of the bytes are well-formed UTF-8, of which so many are known to be; None where no more bytes complete
 // the others.
 fn valid_to(after: &[u8], known: usize) -> Option<usize>
@@ -124,8 +109,8 @@ fn valid_to(after: &[u8], known: usize) -> Option<usize>
     ensures { IfSome result (λ n. IsValidTo after.now n × IsUtf8Front after.now) }
 {
     match valid_length(rest_of(after, known)) {
-        Some(more) => Some(known + more),
-        None => None,
+        Ok(more) => Some(known + more),
+        Err(_) => None,
     }
 }
 
@@ -159,13 +144,9 @@ fn stays_open(left: &[u8], inside: usize, valid: usize) -> Option<Pending>
     ensures { IfSome result (StaysPending left.now) }
 {
     let after = rest_of(left, 1);
-    match open_to(after, inside) {
-        Some(inside) => match valid_to(after, valid) {
-            Some(valid) => Some(Pending::Text { inside, valid }),
-            None => None,
-        },
-        None => None,
-    }
+    let inside = open_to(after, inside)?;
+    let valid = valid_to(after, valid)?;
+    Some(Pending::Text { inside, valid })
 }
 
 // What was pending before this piece, if it still is.
@@ -174,32 +155,10 @@ fn stays(left: &[u8], piece: &[u8], pending: Pending) -> Option<Pending>
     ensures { IfSome result (StaysPending left.now) }
 {
     match pending {
-        Pending::Unknown => None,
-        Pending::Word => stays_word(left, piece),
-        Pending::Run => stays_run(left, piece),
+        Pending::Word if word_length(piece) == piece.len() => Some(pending),
+        Pending::Run if run_length(piece) == piece.len() => Some(pending),
         Pending::Text { inside, valid } => stays_open(left, inside, valid),
-    }
-}
-
-fn stays_word(left: &[u8], piece: &[u8]) -> Option<Pending>
-    requires { IsPendingBefore left.now piece.now Pending.Word }
-    ensures { IfSome result (StaysPending left.now) }
-{
-    if word_length(piece) == piece.len() {
-        Some(Pending::Word)
-    } else {
-        None
-    }
-}
-
-fn stays_run(left: &[u8], piece: &[u8]) -> Option<Pending>
-    requires { IsPendingBefore left.now piece.now Pending.Run }
-    ensures { IfSome result (StaysPending left.now) }
-{
-    if run_length(piece) == piece.len() {
-        Some(Pending::Run)
-    } else {
-        None
+        Pending::Unknown | Pending::Word | Pending::Run => None,
     }
 }
 
@@ -208,8 +167,8 @@ fn pending_of(left: &[u8]) -> Pending
     ensures { IsPendingIn left.now result }
 {
     match left {
-        [b'A'..=b'Z' | b'a'..=b'z', ..] => pending_word(left),
-        [b'0'..=b'9' | b'+' | b'-' | b'.', ..] => pending_run(left),
+        [b'A'..=b'Z' | b'a'..=b'z', ..] if word_length(left) == left.len() => Pending::Word,
+        [b'0'..=b'9' | b'+' | b'-' | b'.', ..] if run_length(left) == left.len() => Pending::Run,
         [b'"', ..] => Pending::Text {
             inside: 0,
             valid: 0,
@@ -218,40 +177,16 @@ fn pending_of(left: &[u8]) -> Pending
     }
 }
 
-fn pending_word(left: &[u8]) -> Pending
-    requires { BeginsWith tokens.is_letter left.now }
-    ensures { IsPendingIn left.now result }
-{
-    if word_length(left) == left.len() {
-        Pending::Word
-    } else {
-        Pending::Unknown
-    }
-}
-
-fn pending_run(left: &[u8]) -> Pending
-    requires { BeginsWith spelling.is_run_start left.now }
-    ensures { IsPendingIn left.now result }
-{
-    if run_length(left) == left.len() {
-        Pending::Run
-    } else {
-        Pending::Unknown
-    }
-}
-
 // Takes the settled tokens from this place on.
 fn read_tokens(table: &mut Table, text: &[u8], from: usize) -> Result<Held, Fault>
     requires { IsSettledTo text.now table.old from }
     ensures { MatchResult result (IsFedTo text.now table.new) (IsSettledFault text.now) }
 {
-    match settle_all(table, text, from) {
-        Ok(at) => Ok(Held {
-            at,
-            pending: pending_of(rest_of(text, at)),
-        }),
-        Err(fault) => Err(fault),
-    }
+    let at = settle_all(table, text, from)?;
+    Ok(Held {
+        at,
+        pending: pending_of(rest_of(text, at)),
+    })
 }
 
 /// Takes what the last piece of the text settles.

@@ -181,7 +181,7 @@ impl<'a> Items<'a> {
         if row.kind != ItemKind::Node {
             return None;
         }
-        let length = written_length(rows_of(&self.rows, id.0, row.size))?;
+        let length = written_length(part_of(&self.rows, id.0, row.size))?;
         if row.place + length == row.close + 1 {
             Some(part_of(source, row.place, length))
         } else {
@@ -265,13 +265,6 @@ fn raw_place(kind: ItemKind, place: usize) -> usize
     }
 }
 
-fn rows_of(rows: &[Row], start: usize, count: usize) -> &[Row]
-    requires { start + count ≤ length rows.now }
-    ensures { result.now ≡ take count (drop start rows.now) }
-{
-    &rows[start..start + count]
-}
-
 fn has_square(row: &Row) -> bool
     ensures { IsTrue result → IsSquare row.now.kind row.now.square }
 {
@@ -308,9 +301,9 @@ fn written_length(rows: &[Row]) -> Option<usize>
     Some(length)
 }
 
-fn part_of(source: &[u8], start: usize, count: usize) -> &[u8]
-    requires { start + count ≤ length source.now }
-    ensures { result.now ≡ take count (drop start source.now) }
+fn part_of<T>(all: &[T], start: usize, count: usize) -> &[T]
+    requires { start + count ≤ length all.now }
+    ensures { result.now ≡ take count (drop start all.now) }
 {
-    &source[start..start + count]
+    &all[start..start + count]
 }

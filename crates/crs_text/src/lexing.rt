@@ -11,7 +11,7 @@ use crate::refusal::Reason;
 use crate::runs::{
     digit_length, ends_run, is_digit, letters_length, plain_ascii_length, run_length, word_length,
 };
-use crate::utf8::{Utf8Form, judge};
+use crate::utf8::valid_length;
 use bstr::ByteSlice;
 use crs_decimal::{Decimal, NumberFault};
 
@@ -62,10 +62,7 @@ fn plain_length(bytes: &[u8]) -> usize
 fn begins_with_quote(bytes: &[u8]) -> bool
     ensures { MatchBool result (bytes.now ≡ 34 ∷ drop 1 bytes.now) (StopsAt is_quote bytes.now) }
 {
-    match bytes {
-        [b'"', ..] => true,
-        _ => false,
-    }
+    matches!(bytes, [b'"', ..])
 }
 
 /// The place of the closing quote in the bytes after an opening one: the first quote that isn't doubled.
@@ -133,10 +130,9 @@ fn any_quoted(left: &[u8]) -> Lexed
     let after = rest_of(left, 1);
     match closing_quote(after) {
         Some(length) => closed(left, length),
-        None => match judge(after) {
-            Utf8Form::WellFormed => flaw(Reason::OpenText, 0),
-            Utf8Form::Cut => flaw(Reason::OpenText, 0),
-            Utf8Form::IllFormed { valid } => flaw(Reason::NotUtf8, 1 + valid),
+        None => match valid_length(after) {
+            Ok(_) => flaw(Reason::OpenText, 0),
+            Err(valid) => flaw(Reason::NotUtf8, 1 + valid),
         },
     }
 }
@@ -147,11 +143,10 @@ fn closed(left: &[u8], length: usize) -> Lexed
     requires shut { IsShutAt (drop 1 left.now) length }
     ensures { IsLexed left.now result }
 {
-    match judge(front_of(rest_of(left, 1), length + 1)) {
-        Utf8Form::WellFormed => Lexed::Text { length },
+    match valid_length(front_of(rest_of(left, 1), length + 1)) {
         // A quote ends every sequence: bytes that end in one are well-formed or ill-formed.
-        Utf8Form::Cut => Lexed::Text { length },
-        Utf8Form::IllFormed { valid } => flaw(Reason::NotUtf8, valid + 1),
+        Ok(_) => Lexed::Text { length },
+        Err(valid) => flaw(Reason::NotUtf8, valid + 1),
     }
 }
 

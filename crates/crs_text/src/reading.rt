@@ -21,10 +21,8 @@ const BYTES_A_ROW: usize = 8;
 pub fn read_items<'a>(alloc: Global, text: &'a [u8]) -> Result<Items<'a>, Fault>
     ensures { MatchResult result (SpellsNode text.now) (IsTextFault text.now) }
 {
-    match Table::with_room(alloc, text.len() / BYTES_A_ROW) {
-        Ok(table) => items_in(table, text, white_length(text)),
-        Err(refused) => Err(Fault::Memory(refused)),
-    }
+    let table = Table::with_room(alloc, text.len() / BYTES_A_ROW).map_err(Fault::Memory)?;
+    items_in(table, text, white_length(text))
 }
 
 /// The items of a text, of which the table shows those before this place.
@@ -33,8 +31,6 @@ pub(crate) fn items_in<'a>(mut table: Table, text: &'a [u8], at: usize) -> Resul
     requires { IsReached text.now table at }
     ensures { MatchResult result (SpellsNode text.now) (IsTextFault text.now) }
 {
-    match scan_from(&mut table, text, at) {
-        Ok(()) => Ok(Items::from_table(text, table)),
-        Err(fault) => Err(fault),
-    }
+    scan_from(&mut table, text, at)?;
+    Ok(Items::from_table(text, table))
 }

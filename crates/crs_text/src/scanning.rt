@@ -256,8 +256,8 @@ fn go_on(table: &mut Table, text: &[u8], at: &mut usize, taken: usize)
     *at = after_white(text, end);
 }
 
-// Takes this token, which begins here, and a comma right behind it; moves the place past them and white space. What it
-// is is known where this is called, so that each kind has code of its own.
+// Takes this token, which begins here, and a comma right behind it; moves the place past them and white space. Each
+// caller knows what kind of token it is, so that each kind has code of its own.
 #[inline(always)]
 fn pass(table: &mut Table, text: &[u8], at: &mut usize, lexed: Lexed) -> Result<(), Fault>
     requires more { at.old < length text.now }

@@ -32,7 +32,7 @@ pub(crate) enum Position {
 #[derive(Clone, Copy)]
 pub(crate) enum Opened {
     Taken,
-    /// It follows a word, and as many as may be are open.
+    /// It follows a word, but no more delimiters may be open.
     TooDeep,
     Refused,
 }
@@ -93,7 +93,7 @@ impl Model for Table {
 }
 
 impl Table {
-    // A table of no row, in this vector.
+    // A table with no row, over this vector.
     fn over(rows: Vec<Row>) -> Self
         requires { rows.items ≡ [] }
         ensures { result ≡ flat start }

@@ -1,30 +1,20 @@
-//! The bytes after an opening quote, judged as UTF-8.
-ghost use Rattle.crs_text.specs.Utf8Form.{HasUtf8Form};
+//! Bytes judged as UTF-8.
+ghost use Rattle.std.specs.Prelude.{MatchResult};
+ghost use Rattle.crs_text.specs.Utf8.{IsLongestUtf8, IsUtf8Front, IsValidTo};
 
 use bstr::validate;
 
-/// What bytes are as UTF-8.
-#[derive(Clone, Copy)]
-pub(crate) enum Utf8Form {
-    /// All of them are well-formed.
-    WellFormed,
-    /// They end within a sequence that more bytes can complete.
-    Cut,
-    /// No bytes after them make them well-formed; `valid` is the length in bytes of their longest well-formed front.
-    IllFormed { valid: usize },
-}
-
-/// What the bytes are as UTF-8: profile.
-pub(crate) fn judge(bytes: &[u8]) -> Utf8Form
-    ensures { HasUtf8Form bytes.now result }
+/// How many bytes in front are well-formed UTF-8: `Err` where no bytes to come complete the others. Profile.
+pub(crate) fn valid_length(bytes: &[u8]) -> Result<usize, usize>
+    ensures { MatchResult result
+        (λ n. IsValidTo bytes.now n × IsUtf8Front bytes.now)
+        (λ n. ¬ (IsUtf8Front bytes.now) × IsLongestUtf8 bytes.now n) }
 {
     match validate(bytes) {
-        Ok(()) => Utf8Form::WellFormed,
+        Ok(()) => Ok(bytes.len()),
         Err(e) => match e.error_len() {
-            None => Utf8Form::Cut,
-            Some(_) => Utf8Form::IllFormed {
-                valid: e.valid_up_to(),
-            },
+            None => Ok(e.valid_up_to()),
+            Some(_) => Err(e.valid_up_to()),
         },
     }
 }

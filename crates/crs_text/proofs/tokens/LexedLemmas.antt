@@ -41,10 +41,10 @@ module _ (left : List ℕ) (quote : left ≡ 34 ∷ drop 1 left) where
         omega (arith, l, s.1),
       )
 
-  pub lexed_cut : (n : ℕ) → IsShutAt (drop 1 left) n → ¬ (IsUtf8 (take (n + 1) (drop 1 left))) → IsUtf8Front (take (n + 1) (drop 1 left)) → ⊥
-  lexed_cut n s not front =
+  pub whole_at_quote : (n : ℕ) → IsShutAt (drop 1 left) n → IsUtf8Front (take (n + 1) (drop 1 left)) → IsUtf8 (take (n + 1) (drop 1 left))
+  whole_at_quote n s front =
       let e = with_quote (drop 1 left) n s in
-      not (subst IsUtf8 (sym e) (IsUtf8-from_front_at_quote (take n (drop 1 left)) (subst IsUtf8Front e front)))
+      subst IsUtf8 (sym e) (IsUtf8-from_front_at_quote (take n (drop 1 left)) (subst IsUtf8Front e front))
 
   pub flawed_inside : (n valid : ℕ) → IsShutAt (drop 1 left) n → ¬ (IsUtf8Front (take (n + 1) (drop 1 left))) → IsLongestUtf8 (take (n + 1) (drop 1 left)) valid → IsFlaw NotUtf8 left (valid + 1)
   flawed_inside n valid s not longest =
