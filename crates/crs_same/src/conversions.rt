@@ -46,15 +46,7 @@ fn walk_parameters<'b, 'a>(
 ) -> Found<'b, 'a>
     ensures { Walked (sets at (SameParameter level) content.Parameters a.now b.now) found.entry result }
 {
-    let (these, others) = (a.as_slice(), b.as_slice());
-    if found.is_done() || same_parameters(these, others, a.guesses(b, level), level) {
-        return found;
-    }
-    found.differing(
-        at,
-        Content::Parameters(Members::new(these), Members::new(others)),
-        Content::Parameters(Members::new(others), Members::new(these)),
-    )
+    walk_sets!(found, at, a, b, level, same_parameters, Parameters)
 }
 
 #[tactic(auto, using(crate::proofs::WalkedLemmas::part_rules))]
@@ -67,15 +59,7 @@ pub(crate) fn walk_geoid_models<'b, 'a>(
 ) -> Found<'b, 'a>
     ensures { Walked (sets at (SameGeoidModel level) content.GeoidModels a.now b.now) found.entry result }
 {
-    let (these, others) = (a.as_slice(), b.as_slice());
-    if found.is_done() || same_geoid_models(these, others, a.guesses(b, level), level) {
-        return found;
-    }
-    found.differing(
-        at,
-        Content::GeoidModels(Members::new(these), Members::new(others)),
-        Content::GeoidModels(Members::new(others), Members::new(these)),
-    )
+    walk_sets!(found, at, a, b, level, same_geoid_models, GeoidModels)
 }
 
 #[tactic(auto, unfolding(crate::specs::PartsOfCrs::parts_of_conversion))]
@@ -93,8 +77,7 @@ pub(crate) fn walk_conversion<'b, 'a>(
         return found;
     }
     let found = found.text(&at, Step::Name, a.name, b.name);
-    let method = at.then(Step::Method);
-    let found = walk_method(found, method, &a.method, &b.method, level);
+    let found = walk_method(found, at.then(Step::Method), &a.method, &b.method, level);
     let parameters = at.then(Step::Parameters);
     let found = walk_parameters(found, parameters, &a.parameters, &b.parameters, level);
     found.identifiers(&at, Step::Id, level, &a.identifiers, &b.identifiers)

@@ -86,14 +86,11 @@ fn walk_geodetic<'b, 'a>(
 {
     let found = walk_kind(found, &at, a.system.system_type, b.system.system_type);
     let found = found.text(&at, Step::Name, a.name, b.name);
-    let dynamic = at.then(Step::Dynamic);
-    let found = walk_dynamic(found, dynamic, &a.dynamic, &b.dynamic, level);
-    let datum = at.then(Step::Datum);
-    let found = walk_frame(found, datum, &a.frame, &b.frame, level);
+    let found = walk_dynamic(found, at.then(Step::Dynamic), &a.dynamic, &b.dynamic, level);
+    let found = walk_frame(found, at.then(Step::Datum), &a.frame, &b.frame, level);
     let meridian = at.then(Step::Meridian);
     let found = walk_meridian(found, meridian, &a.meridian, &b.meridian, level);
-    let system = at.then(Step::System);
-    let found = walk_system(found, system, &a.system, &b.system, level);
+    let found = walk_system(found, at.then(Step::System), &a.system, &b.system, level);
     walk_tail(found, at, &a.tail, &b.tail, level)
 }
 
@@ -120,10 +117,8 @@ fn walk_base<'b, 'a>(
     ensures { Walked (parts_of_base at level a.now b.now) found.entry result }
 {
     let found = found.text(&at, Step::Name, a.name, b.name);
-    let dynamic = at.then(Step::Dynamic);
-    let found = walk_dynamic(found, dynamic, &a.dynamic, &b.dynamic, level);
-    let datum = at.then(Step::Datum);
-    let found = walk_frame(found, datum, &a.frame, &b.frame, level);
+    let found = walk_dynamic(found, at.then(Step::Dynamic), &a.dynamic, &b.dynamic, level);
+    let found = walk_frame(found, at.then(Step::Datum), &a.frame, &b.frame, level);
     let meridian = at.then(Step::Meridian);
     let found = walk_meridian(found, meridian, &a.meridian, &b.meridian, level);
     let asked = (UnitKind::Angle, UnitKind::Angle);
@@ -152,12 +147,10 @@ fn walk_projected<'b, 'a>(
     ensures { Walked (parts_of_projected at level a.now b.now) found.entry result }
 {
     let found = found.text(&at, Step::Name, a.name, b.name);
-    let base = at.then(Step::Base);
-    let found = walk_base(found, base, &a.base, &b.base, level);
+    let found = walk_base(found, at.then(Step::Base), &a.base, &b.base, level);
     let conversion = at.then(Step::Conversion);
     let found = walk_conversion(found, conversion, &a.conversion, &b.conversion, level);
-    let system = at.then(Step::System);
-    let found = walk_system(found, system, &a.system, &b.system, level);
+    let found = walk_system(found, at.then(Step::System), &a.system, &b.system, level);
     walk_tail(found, at, &a.tail, &b.tail, level)
 }
 
@@ -183,12 +176,9 @@ fn walk_vertical<'b, 'a>(
     ensures { Walked (parts_of_vertical at level a.now b.now) found.entry result }
 {
     let found = found.text(&at, Step::Name, a.name, b.name);
-    let dynamic = at.then(Step::Dynamic);
-    let found = walk_dynamic(found, dynamic, &a.dynamic, &b.dynamic, level);
-    let datum = at.then(Step::Datum);
-    let found = walk_frame(found, datum, &a.frame, &b.frame, level);
-    let system = at.then(Step::System);
-    let found = walk_system(found, system, &a.system, &b.system, level);
+    let found = walk_dynamic(found, at.then(Step::Dynamic), &a.dynamic, &b.dynamic, level);
+    let found = walk_frame(found, at.then(Step::Datum), &a.frame, &b.frame, level);
+    let found = walk_system(found, at.then(Step::System), &a.system, &b.system, level);
     let geoid = at.then(Step::Geoid);
     let found = walk_geoid_models(found, geoid, &a.geoid_models, &b.geoid_models, level);
     walk_tail(found, at, &a.tail, &b.tail, level)

@@ -61,16 +61,6 @@ impl<'b, 'a> Difference<'b, 'a> {
     {
         &self.second
     }
-
-    fn new(path: Path, first: Content<'b, 'a>, second: Content<'b, 'a>) -> Difference<'b, 'a>
-        ensures { result ≡ record { path = path; first = first.entry; second = second.entry } }
-    {
-        Difference {
-            path,
-            first,
-            second,
-        }
-    }
 }
 
 /// The parts in which two CRSs differ, in the order of the canonical text. Profile.
@@ -94,14 +84,6 @@ impl<'b, 'a> Differences<'b, 'a> {
         ensures { result.now ≡ self.now }
     {
         &self.differences
-    }
-
-    fn new(alloc: Global) -> Differences<'b, 'a>
-        ensures { result ≡ [] }
-    {
-        Differences {
-            differences: Vec::new(alloc),
-        }
     }
 
     // These and one more.
@@ -137,7 +119,9 @@ impl<'b, 'a> Found<'b, 'a> {
     pub(crate) fn all(alloc: Global) -> Found<'b, 'a>
         ensures { result ≡ found.All [] }
     {
-        Found::All(Differences::new(alloc))
+        Found::All(Differences {
+            differences: Vec::new(alloc),
+        })
     }
 
     // Whether nothing more is looked for.
@@ -197,18 +181,23 @@ impl<'b, 'a> Found<'b, 'a> {
         ensures { Told path (first.entry) (second.entry) self.entry result }
     {
         match self {
-            Found::All(differences) => match differences.with(Difference::new(
-                path, first, second,
-            )) {
-                Ok(more) => Found::All(more),
-                Err(error) => Found::Refused(error),
-            },
+            Found::All(differences) => {
+                let difference = Difference {
+                    path,
+                    first,
+                    second,
+                };
+                match differences.with(difference) {
+                    Ok(more) => Found::All(more),
+                    Err(error) => Found::Refused(error),
+                }
+            }
             Found::First(_before) => Found::First(Some(path)),
             Found::Refused(_error) => unreachable!(),
         }
     }
 
-    // With a part more that is never the same, unless nothing more is looked for.
+    // With one part more, which is never the same, unless nothing more is looked for.
     #[tactic(auto, using(crate::proofs::WalkedLemmas::walked_rules))]
     pub(crate) fn differing(
         self,
@@ -241,7 +230,7 @@ impl<'b, 'a> Found<'b, 'a> {
         self.alone(at, step, Content::word(first), Content::word(second))
     }
 
-    // A part that is never the same, as one that one side alone has.
+    // A part that is never the same, such as one that only one side has.
     pub(crate) fn alone(
         self,
         at: &Path,

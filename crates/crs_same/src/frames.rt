@@ -1,13 +1,12 @@
 //! Ellipsoids, prime meridians, reference frames and ensembles.
 ghost use Rattle.std.specs.Prelude.{◌≡◌, ◌≤◌, ◌↔◌, [], IsTrue, None, length};
 ghost use Rattle.std.specs.Option.{option_copied};
-ghost use Rattle.crs_shape.specs.declared.unit_kind.UnitKind.TheVariants as kinds;
 ghost use Rattle.crs_value.specs.declared.values.frame.Frame.TheVariants as frame;
 ghost use Rattle.crs_same.specs.declared.content.Content.TheVariants as content;
 ghost use Rattle.crs_same.specs.PartsOfFrames.{parts_of_ellipsoid, parts_of_ellipsoids, parts_of_given, datum_word};
 ghost use Rattle.crs_same.specs.PartsOfFrames.{unit_of, or_greenwich, parts_of_meridian};
 ghost use Rattle.crs_same.specs.PartsOfFrames.{parts_of_datum, parts_of_ensemble, parts_of_frame};
-ghost use Rattle.crs_same.specs.SingleParts.{units, sets};
+ghost use Rattle.crs_same.specs.SingleParts.{sets};
 ghost use Rattle.crs_same.specs.Walked.{Walked};
 ghost use Rattle.crs_same.specs.Parts.{AreSame};
 ghost use Rattle.crs_matching.specs.SameFrames.{SameMember};
@@ -81,19 +80,6 @@ fn unit_of<'b, 'a>(meridian: &'b Meridian<'a>) -> Option<&'b Unit<'a>>
     meridian.unit.as_ref()
 }
 
-fn walk_meridian_units<'b, 'a>(
-    found: Found<'b, 'a>,
-    at: Path,
-    a: Option<&'b Unit<'a>>,
-    b: Option<&'b Unit<'a>>,
-    level: Level,
-) -> Found<'b, 'a>
-    ensures { Walked (units at level kinds.Angle kinds.Angle (option_copied a.entry) (option_copied b.entry))
-        found.entry result }
-{
-    found.unit(at, level, (UnitKind::Angle, UnitKind::Angle), a, b)
-}
-
 fn walk_given<'b, 'a>(
     found: Found<'b, 'a>,
     at: Path,
@@ -106,8 +92,8 @@ fn walk_given<'b, 'a>(
 {
     let found = found.text(&at, Step::Name, a.name, b.name);
     let found = found.number(&at, Step::Longitude, &a.longitude, &b.longitude);
-    let unit = at.then(Step::Unit);
-    let found = walk_meridian_units(found, unit, unit_of(a), unit_of(b), level);
+    let asked = (UnitKind::Angle, UnitKind::Angle);
+    let found = found.unit(at.then(Step::Unit), level, asked, unit_of(a), unit_of(b));
     found.identifiers(&at, Step::Id, level, &a.identifiers, &b.identifiers)
 }
 
@@ -129,8 +115,8 @@ fn walk_before_greenwich<'b, 'a>(
 {
     let found = found.text(&at, Step::Name, meridian.name, b"Greenwich");
     let found = found.number(&at, Step::Longitude, &meridian.longitude, &Decimal::zero());
-    let unit = at.then(Step::Unit);
-    let found = walk_meridian_units(found, unit, unit_of(meridian), None, level);
+    let asked = (UnitKind::Angle, UnitKind::Angle);
+    let found = found.unit(at.then(Step::Unit), level, asked, unit_of(meridian), None);
     let identifiers = meridian.identifiers.as_slice();
     found.identifiers_of(&at, Step::Id, level, identifiers, no_identifiers())
 }
@@ -147,8 +133,8 @@ fn walk_behind_greenwich<'b, 'a>(
 {
     let found = found.text(&at, Step::Name, b"Greenwich", meridian.name);
     let found = found.number(&at, Step::Longitude, &Decimal::zero(), &meridian.longitude);
-    let unit = at.then(Step::Unit);
-    let found = walk_meridian_units(found, unit, None, unit_of(meridian), level);
+    let asked = (UnitKind::Angle, UnitKind::Angle);
+    let found = found.unit(at.then(Step::Unit), level, asked, None, unit_of(meridian));
     let identifiers = meridian.identifiers.as_slice();
     found.identifiers_of(&at, Step::Id, level, no_identifiers(), identifiers)
 }
@@ -193,15 +179,7 @@ fn walk_members<'b, 'a>(
 ) -> Found<'b, 'a>
     ensures { Walked (sets at (SameMember level) content.Members a.now b.now) found.entry result }
 {
-    let (these, others) = (a.as_slice(), b.as_slice());
-    if found.is_done() || same_members(these, others, a.guesses(b, level), level) {
-        return found;
-    }
-    found.differing(
-        at,
-        Content::Members(Members::new(these), Members::new(others)),
-        Content::Members(Members::new(others), Members::new(these)),
-    )
+    walk_sets!(found, at, a, b, level, same_members, Members)
 }
 
 fn walk_datum<'b, 'a>(
@@ -233,8 +211,7 @@ fn walk_ensemble<'b, 'a>(
     ensures { Walked (parts_of_ensemble at level a.now b.now) found.entry result }
 {
     let found = found.text(&at, Step::Name, a.name, b.name);
-    let members = at.then(Step::Members);
-    let found = walk_members(found, members, &a.members, &b.members, level);
+    let found = walk_members(found, at.then(Step::Members), &a.members, &b.members, level);
     let below = at.then(Step::Ellipsoid);
     let found = walk_ellipsoids(found, below, &a.ellipsoid, &b.ellipsoid, level);
     let found = found.number(&at, Step::Accuracy, &a.accuracy, &b.accuracy);

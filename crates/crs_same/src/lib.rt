@@ -2,6 +2,21 @@
 //! filled in, sorted or spelled.
 #![tactic(auto)]
 
+// A walk over two lists that are taken as sets: where they aren't the same, with one part more.
+macro_rules! walk_sets {
+    ($found:ident, $at:ident, $a:ident, $b:ident, $level:ident, $same:ident, $content:ident) => {{
+        let (these, others) = ($a.as_slice(), $b.as_slice());
+        if $found.is_done() || $same(these, others, $a.guesses($b, $level), $level) {
+            return $found;
+        }
+        $found.differing(
+            $at,
+            Content::$content(Members::new(these), Members::new(others)),
+            Content::$content(Members::new(others), Members::new(these)),
+        )
+    }};
+}
+
 mod content;
 mod conversions;
 mod crs;

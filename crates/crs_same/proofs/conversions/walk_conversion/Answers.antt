@@ -8,7 +8,7 @@ unfolding parts_of_conversion
 returns c =
     rw (← c.a.view_is, ← c.b.view_is) (
     via c.text-found.result c.text-found.ensures (
-    via c.walk_method-found.result (rw (← c.then-method.ensures) c.walk_method-found.ensures) (
+    via c.walk_method-found.result (rw (← c.then.ensures) c.walk_method-found.ensures) (
     via c.walk_parameters-found.result (rw (← c.then-parameters.ensures) c.walk_parameters-found.ensures) (
     c.identifiers.ensures))))
 

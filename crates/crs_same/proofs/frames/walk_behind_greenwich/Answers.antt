@@ -6,5 +6,5 @@ pub returns : goal.returns
 returns c =
     via c.text-found.result (rw (← c.meridian.view_is) c.text-found.ensures) (
     via c.number-found.result (search rules) (
-    via c.walk_meridian_units-found.result (rw (← c.then-unit.ensures, ← c.unit_of.ensures) c.walk_meridian_units-found.ensures)
+    via c.unit-found.result (rw (← c.then.ensures, ← c.unit_of.ensures) (search rules))
     (search rules)))
