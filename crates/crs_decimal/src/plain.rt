@@ -66,7 +66,7 @@ fn is_below_zero(rest: &[u8]) -> bool
     rest.len() > 1 && is_unsigned(rest)
 }
 
-/// Whether these bytes are a plain spelling, as is told at a glance of most that are. Profile.
+/// Whether these bytes are a plain spelling, by a quick test that some plain spellings fail. Profile.
 #[inline]
 pub fn is_plain(raw: &[u8]) -> bool
     ensures { IsTrue result → IsPlain raw.now }
@@ -77,7 +77,7 @@ pub fn is_plain(raw: &[u8]) -> bool
     }
 }
 
-// Up to where a fraction's last digit is that isn't a zero.
+// How long a fraction is without the zeros at its end.
 fn kept_len(fraction: &[u8]) -> usize
     ensures bound { result ≤ length fraction.now }
     ensures zeros { fraction.now ≡ take result fraction.now ++ replicate (length fraction.now - result) 48 }
@@ -102,8 +102,8 @@ fn front_with(raw: &[u8], count: usize, kept: usize) -> &[u8]
     }
 }
 
-// The plain spelling of the number that bytes spell, which have no sign, where it is told at a glance: these bytes, or
-// these bytes without the zeros at the end of a fraction.
+// The plain spelling of the number that these bytes spell, which have no sign, where a quick test finds it: these
+// bytes, or these without the zeros at the end of a fraction.
 fn unsigned_plain(raw: &[u8]) -> Option<&[u8]>
     ensures plain { IfSome result (λ part. IsUnsigned part.now) }
     ensures same { IfSome result (λ part. (number : Number) → Denotes raw.now number → Denotes part.now number) }
@@ -121,7 +121,7 @@ fn unsigned_plain(raw: &[u8]) -> Option<&[u8]>
     }
 }
 
-/// The plain spelling of the number that bytes spell, where it is told at a glance and is part of them. Profile.
+/// The plain spelling of the number that these bytes spell, where a quick test finds it as a part of them. Profile.
 pub fn plain_of(raw: &[u8]) -> Option<&[u8]>
     ensures plain { IfSome result (λ part. IsPlain part.now) }
     ensures same { IfSome result (λ part. (number : Number) → Denotes raw.now number → Denotes part.now number) }
