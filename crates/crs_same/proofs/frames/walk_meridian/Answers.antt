@@ -13,3 +13,11 @@ returns-in-None-None c = rw (c.in-None-None.is-0, c.in-None-None.is-1) (greenwic
 pub returns-in-Some-Some : goal.returns-in-Some-Some
 unfolding parts_of_meridian
 returns-in-Some-Some c = rw (c.in-Some-Some.is-0, c.in-Some-Some.is-1) c.walk_given.ensures
+
+pub returns-in-None-Some : goal.returns-in-None-Some
+unfolding parts_of_meridian
+returns-in-None-Some c = rw (c.in-None-Some.is-0, c.in-None-Some.is-1) c.walk_behind_greenwich.ensures
+
+pub returns-in-Some-None : goal.returns-in-Some-None
+unfolding parts_of_meridian
+returns-in-Some-None c = rw (c.in-Some-None.is-0, c.in-Some-None.is-1) c.walk_before_greenwich.ensures
