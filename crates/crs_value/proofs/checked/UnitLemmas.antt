@@ -43,6 +43,12 @@ misfit-none cs axis unit kind asks fits = λ f h.
     let P : UnitKind → Type 0 = λ k. Fits unit k in
     h.1.1.1 (subst P (asks-one cs axis kind h.1.0 asks h.1.1.0) fits)
 
+-- an axis whose only unit fits
+pub own-fits : (cs axis unit : Item) (kind : UnitKind) → Asks cs axis kind → Fits unit kind → units_in axis ≡ unit ∷ [] → IsLeast (BadOwnUnit cs axis) None
+own-fits cs axis unit kind asks fits only = λ f.
+    let P : List Item → Type 0 = λ units. AnyOf (Misfits cs axis) units f in
+    ⊎_elim (λ k. let e : [] ≡ unit ∷ [] = sym k.1 ∙ only in absurd cc) (λ k. ⊎_elim (misfit-none cs axis unit kind asks fits f) (λ h. h) (subst P only k))
+
 pub misfit-unknown : (cs axis unit : Item) (r : Option RefusedAt) → ((k : UnitKind) → ¬ (Asks cs axis k)) → r ≡ None → IsLeast (Misfits cs axis unit) r
 misfit-unknown cs axis unit r none e =
     let P : Option RefusedAt → Type 0 = λ o. IsLeast (Misfits cs axis unit) o in subst P (sym e) (λ f h. none h.1.0 h.1.1.0)

@@ -1,6 +1,7 @@
-use Rattle.std.proofs.Common.{arith}
+use Rattle.std.proofs.Common.{◌≡◌, arith}
 use Rattle.crs_shape.specs.declared.class.Class.TheVariants as class
-use Rattle.crs_value.proofs.found.NodeLemmas.{number-shaped, number-there, number-next}
+use Rattle.crs_value.specs.Reads.{ReadsNumber}
+use Rattle.crs_value.proofs.found.NodeLemmas.{number-shaped, number-there, number-next, reads-first}
 use Rattle.crs_value.proofs.reading.cursor.Cursor.number_at.Goals as goal
 
 pub unreachable-requires : goal.unreachable-requires
@@ -18,3 +19,9 @@ unreachable-requires-in_default-at c =
 
 pub decimal_of-requires-clause-shaped : goal.decimal_of-requires-clause-shaped
 decimal_of-requires-clause-shaped c = number-shaped _ _ class.Number _ c.loop-step._step c.in-Some-at.found c.requires.shaped (rw c.in-Some-at.is at c.loop-step.invariant)
+
+pub returns : goal.returns
+returns c =
+    let same : c.loop-step._step ≡ c.args.k = omega arith in
+    let found = rw c.in-Some-at.is at c.loop-step.invariant in
+    reads-first ReadsNumber _ _ _ c.decimal_of.result (rw same at found.0) c.decimal_of.ensures
