@@ -17,7 +17,9 @@ use crate::checks::lesser;
 use crate::checks::own::own_of_part;
 use crate::judging::named::AxisUnit;
 use crate::judging::quiet::{Layout, NOWHERE, is_quiet};
-use crate::judging::slots::{Any, End, Found, Front, One, OneOrMore, Optional, Part, Slot, Slots};
+use crate::judging::slots::{
+    Any, Found, One, OneOrMore, Optional, Parent, Part, Slot, Slots, ends, walk,
+};
 use crate::judging::system::{Axis, CoordinateSystem};
 use crate::reading::arguments::first_before;
 use crate::reading::cursor::Cursor;
@@ -53,7 +55,12 @@ fn node_judged<S: Slots>(
     ensures { Judged class (item_at items.now id) found.old result found.new }
 {
     laws::walk_finds_the_fault();
-    if !S::walk(items, items.arg(id, 0), class, close, found) {
+    let parent = Parent {
+        items,
+        class,
+        close,
+    };
+    if !walk::<S>(parent, items.arg(id, 0), found) {
         return false;
     }
     join(found, own_of_part(items, id, class));
@@ -83,38 +90,37 @@ pub(crate) fn judged<S: Slots>(
 // Where the parts of a CRS begin, by its slots before its coordinate system and what its last slot takes; None where a
 // fault of shape was found. What its arguments break joins what was found.
 #[inline(always)]
-fn laid<H: Front, T: Part>(
-    items: &Items<'_>,
+fn laid<H: Slots, T: Part>(
+    parent: Parent<'_, '_>,
     at: Option<ItemId>,
-    class: Class,
-    close: usize,
     found: &mut Found,
 ) -> Option<Layout>
-    requires holds { Holds items.now at }
-    requires head { is_head H.front ≡ true }
+    requires holds { Holds parent.items.now at }
+    requires head { is_head H.slots ≡ true }
     requires tail { is_tail (any_of T.classes) ≡ true }
-    ensures { Laid items.now class close (H.front ++ rest_slots (any_of T.classes)) at found.old result found.new }
+    ensures { Laid parent.entry.items.now parent.entry.class parent.entry.close (H.slots ++ rest_slots (any_of
+        T.classes)) at found.old result found.new }
 {
-    let Some(system) = H::front(items, at, class, close, found) else {
+    let Some(system) = H::pass(parent, at, found) else {
         return None;
     };
     let layout = Layout { system, ..NOWHERE };
-    let Some(axes) = One::<CoordinateSystem>::pass(items, layout.system, class, close, found) else {
+    let Some(axes) = One::<CoordinateSystem>::pass(parent, layout.system, found) else {
         return None;
     };
     let layout = Layout { axes, ..layout };
-    let Some(unit) = OneOrMore::<Axis>::pass(items, layout.axes, class, close, found) else {
+    let Some(unit) = OneOrMore::<Axis>::pass(parent, layout.axes, found) else {
         return None;
     };
     let layout = Layout { unit, ..layout };
-    let Some(tail) = Optional::<AxisUnit>::pass(items, layout.unit, class, close, found) else {
+    let Some(tail) = Optional::<AxisUnit>::pass(parent, layout.unit, found) else {
         return None;
     };
     let layout = Layout { tail, ..layout };
-    let Some(end) = Any::<T>::pass(items, layout.tail, class, close, found) else {
+    let Some(end) = Any::<T>::pass(parent, layout.tail, found) else {
         return None;
     };
-    if !End::walk(items, end, class, close, found) {
+    if !ends(parent, end, found) {
         return None;
     }
     Some(layout)
@@ -149,7 +155,7 @@ fn whole(
 
 // Whether an item that may be a CRS of this class, which has a coordinate system, has no fault of shape as one; what it
 // breaks joins what was found.
-pub(crate) fn crs_judged<H: Front, T: Part>(
+pub(crate) fn crs_judged<H: Slots, T: Part>(
     class: Class,
     items: &Items<'_>,
     id: ItemId,
@@ -157,8 +163,8 @@ pub(crate) fn crs_judged<H: Front, T: Part>(
 ) -> bool
     requires has { HasId items.now id }
     requires of { IsTrue (is_of class (item_at items.now id)) }
-    requires slots { slots_of class ≡ H.front ++ rest_slots (any_of T.classes) }
-    requires head { is_head H.front ≡ true }
+    requires slots { slots_of class ≡ H.slots ++ rest_slots (any_of T.classes) }
+    requires head { is_head H.slots ≡ true }
     requires tail { is_tail (any_of T.classes) ≡ true }
     requires system { HasSystem class }
     ensures { Judged class (item_at items.now id) found.old result found.new }
@@ -168,7 +174,12 @@ pub(crate) fn crs_judged<H: Front, T: Part>(
         return true
     };
     let mut inside = None;
-    let Some(layout) = laid::<H, T>(items, items.arg(id, 0), class, close, &mut inside) else {
+    let parent = Parent {
+        items,
+        class,
+        close,
+    };
+    let Some(layout) = laid::<H, T>(parent, items.arg(id, 0), &mut inside) else {
         *found = inside;
         return false;
     };
@@ -199,7 +210,7 @@ pub(crate) fn part<S: Slots>(
 
 // An argument as a CRS of a class with a coordinate system; None where it is of another.
 #[inline(always)]
-pub(crate) fn crs<H: Front, T: Part>(
+pub(crate) fn crs<H: Slots, T: Part>(
     class: Class,
     items: &Items<'_>,
     id: ItemId,
@@ -207,8 +218,8 @@ pub(crate) fn crs<H: Front, T: Part>(
     found: &mut Found,
 ) -> Option<bool>
     requires has { HasId items.now id }
-    requires slots { slots_of class ≡ H.front ++ rest_slots (any_of T.classes) }
-    requires head { is_head H.front ≡ true }
+    requires slots { slots_of class ≡ H.slots ++ rest_slots (any_of T.classes) }
+    requires head { is_head H.slots ≡ true }
     requires tail { is_tail (any_of T.classes) ≡ true }
     requires system { HasSystem class }
     ensures { Answers parent (class ∷ []) (item_at items.now id) found.old result found.new }

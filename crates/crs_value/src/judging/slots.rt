@@ -60,6 +60,17 @@ pub(crate) use taken;
 // The first fault that was found, if any was.
 pub(crate) type Found = Option<Refusal>;
 
+// The first argument behind those of a slot, if there is one; None where a fault of shape was found.
+pub(crate) type Rest = Option<Option<ItemId>>;
+
+// A node whose arguments are walked over: the items that it is among, its class, and the place where it is closed.
+#[derive(Clone, Copy)]
+pub(crate) struct Parent<'i, 'a> {
+    pub(crate) items: &'i Items<'a>,
+    pub(crate) class: Class,
+    pub(crate) close: usize,
+}
+
 // What a slot takes.
 pub(crate) trait Part {
     ghost classes: { List Class };
@@ -75,53 +86,26 @@ pub(crate) trait Part {
 pub(crate) trait Slot {
     ghost slot: { SlotParts };
 
-    // The arguments behind those of the slot; what these break joins what was found. None where a fault of shape was
-    // found.
-    fn pass(
-        items: &Items<'_>,
-        at: Option<ItemId>,
-        parent: Class,
-        close: usize,
-        found: &mut Found,
-    ) -> Option<Option<ItemId>>
-        requires { Holds items.now at }
-        ensures holds { IfSome result (λ next. Holds items.now next) }
-        ensures leaves { IfSome result (λ next. Leaves items.now parent slot at next) }
-        ensures passed { Passed items.now parent close slot at found.old result found.new };
+    // The arguments behind those of the slot; what these break joins what was found.
+    fn pass(parent: Parent<'_, '_>, at: Option<ItemId>, found: &mut Found) -> Rest
+        requires { Holds parent.items.now at }
+        ensures holds { IfSome result (λ next. Holds parent.entry.items.now next) }
+        ensures leaves { IfSome result (λ next. Leaves parent.entry.items.now parent.entry.class slot at next) }
+        ensures passed { Passed parent.entry.items.now parent.entry.class parent.entry.close slot at found.old
+            result found.new };
 }
 
-// The slots of a node from one on.
+// Slots one after another.
 pub(crate) trait Slots {
     ghost slots: { List SlotParts };
 
-    // Whether the arguments have no fault of shape; what they break joins what was found.
-    fn walk(
-        items: &Items<'_>,
-        at: Option<ItemId>,
-        parent: Class,
-        close: usize,
-        found: &mut Found,
-    ) -> bool
-        requires { Holds items.now at }
-        ensures { Walked items.now parent close slots at found.old result found.new };
-}
-
-// The slots of a node before others.
-pub(crate) trait Front {
-    ghost front: { List SlotParts };
-
     // The arguments behind those of these slots, as `pass` of one slot.
-    fn front(
-        items: &Items<'_>,
-        at: Option<ItemId>,
-        parent: Class,
-        close: usize,
-        found: &mut Found,
-    ) -> Option<Option<ItemId>>
-        requires { Holds items.now at }
-        ensures holds { IfSome result (λ next. Holds items.now next) }
-        ensures leaves { IfSome result (λ next. AllLeave items.now parent front at next) }
-        ensures passed { AllPassed items.now parent close front at found.old result found.new };
+    fn pass(parent: Parent<'_, '_>, at: Option<ItemId>, found: &mut Found) -> Rest
+        requires { Holds parent.items.now at }
+        ensures holds { IfSome result (λ next. Holds parent.entry.items.now next) }
+        ensures leaves { IfSome result (λ next. AllLeave parent.entry.items.now parent.entry.class slots at next) }
+        ensures passed { AllPassed parent.entry.items.now parent.entry.class parent.entry.close slots at found.old
+            result found.new };
 }
 
 // The walk stops where an argument is missing.
@@ -141,6 +125,30 @@ fn stop_at(items: &Items<'_>, id: ItemId, found: &mut Found)
     *found = Some(misplaced(items, id));
 }
 
+// Whether no argument is left; the walk stops at one.
+#[inline(always)]
+pub(crate) fn ends(parent: Parent<'_, '_>, at: Option<ItemId>, found: &mut Found) -> bool
+    requires { Holds parent.items.now at }
+    ensures { Walked parent.entry.items.now parent.entry.class parent.entry.close [] at found.old result found.new }
+{
+    let Some(id) = at else { return true };
+    stop_at(parent.items, id, found);
+    false
+}
+
+// Whether the arguments have no fault of shape against these slots; what they break joins what was found.
+#[inline(always)]
+pub(crate) fn walk<S: Slots>(parent: Parent<'_, '_>, at: Option<ItemId>, found: &mut Found) -> bool
+    requires { Holds parent.items.now at }
+    ensures { Walked parent.entry.items.now parent.entry.class parent.entry.close S.slots at found.old result
+        found.new }
+{
+    match S::pass(parent, at, found) {
+        None => false,
+        Some(next) => ends(parent, next, found),
+    }
+}
+
 // One argument.
 pub(crate) struct One<P> {
     _part: P,
@@ -150,24 +158,18 @@ impl<P: Part> Slot for One<P> {
     ghost slot = { one_of P.classes };
 
     #[inline(always)]
-    fn pass(
-        items: &Items<'_>,
-        at: Option<ItemId>,
-        parent: Class,
-        close: usize,
-        found: &mut Found,
-    ) -> Option<Option<ItemId>> {
+    fn pass(parent: Parent<'_, '_>, at: Option<ItemId>, found: &mut Found) -> Rest {
         let Some(id) = at else {
-            stop_short(close, found);
+            stop_short(parent.close, found);
             return None;
         };
-        match P::judge(items, id, parent, found) {
+        match P::judge(parent.items, id, parent.class, found) {
             None => {
-                stop_at(items, id, found);
+                stop_at(parent.items, id, found);
                 None
             }
             Some(false) => None,
-            Some(true) => Some(items.next(id)),
+            Some(true) => Some(parent.items.next(id)),
         }
     }
 }
@@ -181,18 +183,12 @@ impl<P: Part> Slot for Optional<P> {
     ghost slot = { optional_of P.classes };
 
     #[inline(always)]
-    fn pass(
-        items: &Items<'_>,
-        at: Option<ItemId>,
-        parent: Class,
-        _close: usize,
-        found: &mut Found,
-    ) -> Option<Option<ItemId>> {
+    fn pass(parent: Parent<'_, '_>, at: Option<ItemId>, found: &mut Found) -> Rest {
         let Some(id) = at else { return Some(None) };
-        match P::judge(items, id, parent, found) {
+        match P::judge(parent.items, id, parent.class, found) {
             None => Some(Some(id)),
             Some(false) => None,
-            Some(true) => Some(items.next(id)),
+            Some(true) => Some(parent.items.next(id)),
         }
     }
 }
@@ -206,19 +202,13 @@ impl<P: Part> Slot for Any<P> {
     ghost slot = { any_of P.classes };
 
     #[inline(always)]
-    fn pass(
-        items: &Items<'_>,
-        at: Option<ItemId>,
-        parent: Class,
-        _close: usize,
-        found: &mut Found,
-    ) -> Option<Option<ItemId>> {
+    fn pass(parent: Parent<'_, '_>, at: Option<ItemId>, found: &mut Found) -> Rest {
         let mut next = at;
         while let Some(id) = next {
-            match P::judge(items, id, parent, found) {
+            match P::judge(parent.items, id, parent.class, found) {
                 None => return Some(Some(id)),
                 Some(false) => return None,
-                Some(true) => next = items.next(id),
+                Some(true) => next = parent.items.next(id),
             }
         }
         Some(None)
@@ -234,24 +224,18 @@ impl<P: Part> Slot for OneOrMore<P> {
     ghost slot = { some_of P.classes };
 
     #[inline(always)]
-    fn pass(
-        items: &Items<'_>,
-        at: Option<ItemId>,
-        parent: Class,
-        close: usize,
-        found: &mut Found,
-    ) -> Option<Option<ItemId>> {
+    fn pass(parent: Parent<'_, '_>, at: Option<ItemId>, found: &mut Found) -> Rest {
         let Some(id) = at else {
-            stop_short(close, found);
+            stop_short(parent.close, found);
             return None;
         };
-        match P::judge(items, id, parent, found) {
+        match P::judge(parent.items, id, parent.class, found) {
             None => {
-                stop_at(items, id, found);
+                stop_at(parent.items, id, found);
                 None
             }
             Some(false) => None,
-            Some(true) => Any::<P>::pass(items, items.next(id), parent, close, found),
+            Some(true) => Any::<P>::pass(parent, parent.items.next(id), found),
         }
     }
 }
@@ -266,34 +250,10 @@ impl<A: Slot, S: Slots> Slots for Then<A, S> {
     ghost slots = { A.slot ∷ S.slots };
 
     #[inline(always)]
-    fn walk(
-        items: &Items<'_>,
-        at: Option<ItemId>,
-        parent: Class,
-        close: usize,
-        found: &mut Found,
-    ) -> bool {
-        match A::pass(items, at, parent, close, found) {
-            None => false,
-            Some(next) => S::walk(items, next, parent, close, found),
-        }
-    }
-}
-
-impl<A: Slot, S: Front> Front for Then<A, S> {
-    ghost front = { A.slot ∷ S.front };
-
-    #[inline(always)]
-    fn front(
-        items: &Items<'_>,
-        at: Option<ItemId>,
-        parent: Class,
-        close: usize,
-        found: &mut Found,
-    ) -> Option<Option<ItemId>> {
-        match A::pass(items, at, parent, close, found) {
+    fn pass(parent: Parent<'_, '_>, at: Option<ItemId>, found: &mut Found) -> Rest {
+        match A::pass(parent, at, found) {
             None => None,
-            Some(next) => S::front(items, next, parent, close, found),
+            Some(next) => S::pass(parent, next, found),
         }
     }
 }
@@ -301,35 +261,12 @@ impl<A: Slot, S: Front> Front for Then<A, S> {
 // No slots.
 pub(crate) struct End;
 
-impl Front for End {
-    ghost front = { [] };
-
-    #[inline(always)]
-    fn front(
-        _items: &Items<'_>,
-        at: Option<ItemId>,
-        _parent: Class,
-        _close: usize,
-        _found: &mut Found,
-    ) -> Option<Option<ItemId>> {
-        Some(at)
-    }
-}
-
 impl Slots for End {
     ghost slots = { [] };
 
     #[inline(always)]
-    fn walk(
-        items: &Items<'_>,
-        at: Option<ItemId>,
-        _parent: Class,
-        _close: usize,
-        found: &mut Found,
-    ) -> bool {
-        let Some(id) = at else { return true };
-        stop_at(items, id, found);
-        false
+    fn pass(_parent: Parent<'_, '_>, at: Option<ItemId>, _found: &mut Found) -> Rest {
+        Some(at)
     }
 }
 

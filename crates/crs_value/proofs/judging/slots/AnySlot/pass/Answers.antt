@@ -7,7 +7,7 @@ use Rattle.crs_value.proofs.judging.slots.AnySlot.pass.Goals as goal
 
 pub returns-in-None-clause-leaves : goal.returns-in-None-clause-leaves
 returns-in-None-clause-leaves g c =
-    leaves-to c.args.items.now c.args.parent (any_of g.P.Part.classes) c.args.at c.loop-next.next (Some c.in-Some.id) c.in-Some.is c.loop-next.invariant.leaves
+    leaves-to c.args.parent.items.now c.args.parent.class (any_of g.P.Part.classes) c.args.at c.loop-next.next (Some c.in-Some.id) c.in-Some.is c.loop-next.invariant.leaves
 
 pub returns-in-None-clause-passed : goal.returns-in-None-clause-passed
 returns-in-None-clause-passed g c =
@@ -24,14 +24,14 @@ loop-next-preserved g c =
     let has = has-some _ _ _ c.in-Some.is c.loop-next.invariant.holds in
     record {
       holds = holds_at _ _ _ c.next-next.ensures;
-      leaves = leaves-past c.args.items.now c.args.parent (any_of g.P.Part.classes) c.args.at _ _ _ _ _ _ c.in-Some.is has c.next-next.ensures (ap Some c.in-Some-true.field-0-test)
+      leaves = leaves-past c.args.parent.items.now c.args.parent.class (any_of g.P.Part.classes) c.args.at _ _ _ _ _ _ c.in-Some.is has c.next-next.ensures (ap Some c.in-Some-true.field-0-test)
           c.in-Some-true.ensures c.loop-next.invariant.leaves;
       reaches = reaches-on _ _ _ (any_of g.P.Part.classes) _ _ _ _ _ _ _ _ refl refl c.in-Some.is has c.next-next.ensures (ap Some c.in-Some-true.field-0-test)
           c.in-Some-true.ensures c.loop-next.invariant.reaches;
     }
 
 pub returns-clause-leaves : goal.returns-clause-leaves
-returns-clause-leaves g c = leaves-to c.args.items.now c.args.parent (any_of g.P.Part.classes) c.args.at c.loop-next.next None c.in_default.is c.loop-next.invariant.leaves
+returns-clause-leaves g c = leaves-to c.args.parent.items.now c.args.parent.class (any_of g.P.Part.classes) c.args.at c.loop-next.next None c.in_default.is c.loop-next.invariant.leaves
 
 pub returns-clause-passed : goal.returns-clause-passed
 returns-clause-passed g c =

@@ -14,7 +14,7 @@ returns-in-None-clause-passed g c =
 
 pub returns-in-Some-true-clause-leaves : goal.returns-in-Some-true-clause-leaves
 returns-in-Some-true-clause-leaves g c =
-    leaves-again c.args.items.now c.args.parent (some_of g.P.Part.classes) c.args.at c.next.result c.pass.result
+    leaves-again c.args.parent.items.now c.args.parent.class (some_of g.P.Part.classes) c.args.at c.next.result c.pass.result
     (leaves-judged _ _ (some_of g.P.Part.classes) _ _ _ _ _ _ c.in-Some.is (has-some _ _ _ c.in-Some.is c.requires) c.next.ensures (ap Some c.in-Some-true.field-0-test) c.in-Some-true.ensures)
     c.pass.ensures.leaves
 

@@ -7,14 +7,14 @@ use Rattle.crs_value.proofs.judging.slots.OptionalSlot.pass.Goals as goal
 
 pub returns-in_default-clause-leaves : goal.returns-in_default-clause-leaves
 returns-in_default-clause-leaves g c =
-    let slot = optional_of g.P.Part.classes in leaves-at c.args.items.now c.args.parent slot _ None None c.in_default.is (leaves-none c.args.items.now c.args.parent slot None)
+    let slot = optional_of g.P.Part.classes in leaves-at c.args.parent.items.now c.args.parent.class slot _ None None c.in_default.is (leaves-none c.args.parent.items.now c.args.parent.class slot None)
 
 pub returns-in_default-clause-passed : goal.returns-in_default-clause-passed
 returns-in_default-clause-passed g c = passed-free _ _ _ (optional_of g.P.Part.classes) _ _ refl c.in_default.is
 
 pub returns-in-None-clause-leaves : goal.returns-in-None-clause-leaves
 returns-in-None-clause-leaves g c =
-    let slot = optional_of g.P.Part.classes in leaves-at c.args.items.now c.args.parent slot _ _ (Some c.in-Some.id) c.in-Some.is (leaves-none c.args.items.now c.args.parent slot (Some c.in-Some.id))
+    let slot = optional_of g.P.Part.classes in leaves-at c.args.parent.items.now c.args.parent.class slot _ _ (Some c.in-Some.id) c.in-Some.is (leaves-none c.args.parent.items.now c.args.parent.class slot (Some c.in-Some.id))
 
 pub returns-in-None-clause-passed : goal.returns-in-None-clause-passed
 returns-in-None-clause-passed g c = passed-skip _ _ _ (optional_of g.P.Part.classes) _ _ _ _ _ refl c.in-Some.is (has-some _ _ _ c.in-Some.is c.requires) refl c.in-None.ensures
