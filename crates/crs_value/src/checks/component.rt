@@ -117,11 +117,8 @@ pub(crate) fn compound(items: &Items<'_>, id: ItemId) -> Option<Refusal>
     requires shaped { Shaped Class.CompoundCrs (item_at items.now id) }
     ensures { IsLeast (OfCompound (arguments (item_at items.now id))) result }
 {
-    let node = Cursor {
-        items,
-        id,
-        class: Class::CompoundCrs,
-    };
+    let class = Class::CompoundCrs;
+    let node = Cursor { items, id, class };
     let projected = lesser(bad_part(&node, Class::ProjectedCrs), None);
     let geographic = lesser(bad_part(&node, Class::GeographicCrs), projected);
     let geodetic = lesser(bad_part(&node, Class::GeodeticCrs), geographic);

@@ -117,11 +117,8 @@ impl Check for OwnUnit {
             system_type: self.system_type,
             axis: id,
         };
-        let axis = Cursor {
-            items,
-            id,
-            class: Class::Axis,
-        };
+        let class = Class::Axis;
+        let axis = Cursor { items, id, class };
         only_from(&misfit, &axis, Class::AxisUnit, Some(unit))
     }
 }
@@ -150,12 +147,8 @@ impl Check for NoUnit {
     ghost Broken = { λ s tree item f. HasOwnUnit item f };
 
     fn check(&self, items: &Items<'_>, id: ItemId, _class: Class) -> Option<Refusal> {
-        let axis = Cursor {
-            items,
-            id,
-            class: Class::Axis,
-        };
-        only_of(&Superfluous, &axis, Class::AxisUnit)
+        let class = Class::Axis;
+        only_of(&Superfluous, &Cursor { items, id, class }, Class::AxisUnit)
     }
 }
 

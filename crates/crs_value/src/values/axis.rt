@@ -1,10 +1,13 @@
 //! Axes.
+ghost use Rattle.std.specs.Prelude.{◌≡◌};
 ghost use Rattle.crs_text.specs.Items.{arguments};
 ghost use Rattle.crs_shape.specs.declared.class.Class.TheVariants as classes;
 ghost use Rattle.crs_value.specs.Cursor.{item};
 ghost use Rattle.crs_value.specs.Checks.{IsSound};
-ghost use Rattle.crs_value.specs.Reading.{those, ReadsFirst};
-ghost use Rattle.crs_value.specs.Reads.{ReadsDirection};
+ghost use Rattle.crs_value.specs.Reading.{those, ReadsFirst, Requires};
+ghost use Rattle.crs_value.specs.Reads.{ReadsDirection, ReadsAxisMeridian, ReadsAxis};
+ghost use Rattle.crs_value.specs.Sound.{IsAxis, IsAxisMeridian};
+ghost use Rattle.crs_value.specs.Values.{AxisParts, AxisMeridianParts};
 
 use crate::reading::cursor::Cursor;
 use crate::reading::node::{Node, required};
@@ -36,9 +39,6 @@ pub struct Axis<'a> {
 }
 
 impl<'a> Model for Axis<'a> {
-    ghost use Rattle.crs_value.specs.Sound.{IsAxis};
-    ghost use Rattle.crs_value.specs.Values.{AxisParts};
-
     ghost Value = { AxisParts };
 
     ghost view = { λ a. record {
@@ -77,9 +77,6 @@ pub struct AxisMeridian<'a> {
 }
 
 impl<'a> Model for AxisMeridian<'a> {
-    ghost use Rattle.crs_value.specs.Sound.{IsAxisMeridian};
-    ghost use Rattle.crs_value.specs.Values.{AxisMeridianParts};
-
     ghost Value = { AxisMeridianParts };
 
     ghost view = { λ m. record { longitude = m.longitude; unit = m.unit } };
@@ -88,9 +85,6 @@ impl<'a> Model for AxisMeridian<'a> {
 }
 
 impl<'a> Node<'a> for AxisMeridian<'a> {
-    ghost use Rattle.crs_value.specs.Reading.{Requires};
-    ghost use Rattle.crs_value.specs.Reads.{ReadsAxisMeridian};
-
     ghost Suits = { λ c. Requires c classes.Number 0 × Requires c classes.AngleUnit 0 };
 
     ghost Reads = { λ c item parts. ReadsAxisMeridian c item parts };
@@ -104,9 +98,6 @@ impl<'a> Node<'a> for AxisMeridian<'a> {
 }
 
 impl<'a> Node<'a> for Axis<'a> {
-    ghost use Rattle.std.specs.Prelude.{◌≡◌};
-    ghost use Rattle.crs_value.specs.Reads.{ReadsAxis};
-
     ghost Suits = { λ c. c ≡ classes.Axis };
 
     ghost Reads = { λ c item parts. ReadsAxis c item parts };

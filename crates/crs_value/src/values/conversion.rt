@@ -1,9 +1,15 @@
 //! Conversions: their method and parameters.
-ghost use Rattle.std.specs.Prelude.{IfOk};
+ghost use Rattle.std.specs.Prelude.{IfOk, ◌≡◌};
 ghost use Rattle.crs_shape.specs.declared.class.Class.TheVariants as classes;
 ghost use Rattle.crs_value.specs.Cursor.{item};
 ghost use Rattle.crs_value.specs.Checks.{IsSound};
-ghost use Rattle.crs_value.specs.ReadsConversion.{ReadsUnitOf, parameter_units};
+ghost use Rattle.crs_value.specs.ReadsConversion.{ReadsUnitOf, parameter_units, ReadsConversion, ReadsParameter};
+ghost use Rattle.crs_value.specs.ConversionValues.{ConversionParts, ParameterParts};
+ghost use Rattle.crs_value.specs.SoundConversion.{IsConversion, IsParameter};
+ghost use Rattle.crs_value.specs.NamedValues.{NamedParts};
+ghost use Rattle.crs_value.specs.Sound.{IsNamed};
+ghost use Rattle.crs_value.specs.Reading.{Requires};
+ghost use Rattle.crs_value.specs.ReadsNamed.{ReadsNamed};
 
 use crate::reading::arguments::first;
 use crate::reading::cursor::Cursor;
@@ -32,9 +38,6 @@ pub struct Conversion<'a> {
 }
 
 impl<'a> Model for Conversion<'a> {
-    ghost use Rattle.crs_value.specs.ConversionValues.{ConversionParts};
-    ghost use Rattle.crs_value.specs.SoundConversion.{IsConversion};
-
     ghost Value = { ConversionParts };
 
     ghost view = { λ c. record { name = c.name.now; method = c.method; parameters = c.parameters; identifiers = c.identifiers } };
@@ -64,9 +67,6 @@ pub struct Method<'a> {
 }
 
 impl<'a> Model for Method<'a> {
-    ghost use Rattle.crs_value.specs.NamedValues.{NamedParts};
-    ghost use Rattle.crs_value.specs.Sound.{IsNamed};
-
     ghost Value = { NamedParts };
 
     ghost view = { λ m. record { name = m.name.now; identifiers = m.identifiers } };
@@ -89,9 +89,6 @@ pub struct Parameter<'a> {
 }
 
 impl<'a> Model for Parameter<'a> {
-    ghost use Rattle.crs_value.specs.ConversionValues.{ParameterParts};
-    ghost use Rattle.crs_value.specs.SoundConversion.{IsParameter};
-
     ghost Value = { ParameterParts };
 
     ghost view = { λ p. record { name = p.name.now; value = p.value; unit = p.unit; identifiers = p.identifiers } };
@@ -121,9 +118,6 @@ fn parameter_unit<'a>(alloc: Global, node: &Cursor<'_, 'a>) -> Result<Option<Uni
 }
 
 impl<'a> Node<'a> for Conversion<'a> {
-    ghost use Rattle.std.specs.Prelude.{◌≡◌};
-    ghost use Rattle.crs_value.specs.ReadsConversion.{ReadsConversion};
-
     ghost Suits = { λ c. c ≡ classes.Conversion };
 
     ghost Reads = { λ c item parts. ReadsConversion c item parts };
@@ -139,9 +133,6 @@ impl<'a> Node<'a> for Conversion<'a> {
 }
 
 impl<'a> Node<'a> for Method<'a> {
-    ghost use Rattle.crs_value.specs.Reading.{Requires};
-    ghost use Rattle.crs_value.specs.ReadsNamed.{ReadsNamed};
-
     ghost Suits = { λ c. Requires c classes.Text 0 };
 
     ghost Reads = { λ c item parts. ReadsNamed c item parts };
@@ -155,9 +146,6 @@ impl<'a> Node<'a> for Method<'a> {
 }
 
 impl<'a> Node<'a> for Parameter<'a> {
-    ghost use Rattle.std.specs.Prelude.{◌≡◌};
-    ghost use Rattle.crs_value.specs.ReadsConversion.{ReadsParameter};
-
     ghost Suits = { λ c. c ≡ classes.Parameter };
 
     ghost Reads = { λ c item parts. ReadsParameter c item parts };

@@ -1,6 +1,6 @@
 //! Coordinate reference systems.
 ghost use Rattle.std.specs.Prelude.{◌≡◌};
-ghost use Rattle.crs_value.specs.ReadsCrs.{kind_by};
+ghost use Rattle.crs_value.specs.ReadsCrs.{kind_by, kind_of};
 
 use crate::values::compound::Compound;
 use crate::values::geodetic::Geodetic;
@@ -44,8 +44,6 @@ pub enum Kind {
 }
 
 impl Crs<'_> {
-    ghost use Rattle.crs_value.specs.ReadsCrs.{kind_of};
-
     /// What the system is: a geodetic CRS is geographic exactly if its coordinate system is ellipsoidal.
     pub fn kind(&self) -> Kind
         ensures { result ≡ kind_of self.now }

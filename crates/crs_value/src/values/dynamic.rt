@@ -1,6 +1,14 @@
 //! What dynamic frames say.
 
+ghost use Rattle.std.specs.Prelude.{◌≡◌};
 ghost use Rattle.crs_shape.specs.declared.class.Class.TheVariants as classes;
+ghost use Rattle.crs_value.specs.DynamicValues.{DynamicParts};
+ghost use Rattle.crs_value.specs.SoundDynamic.{IsDynamic};
+ghost use Rattle.crs_value.specs.NamedValues.{NamedParts};
+ghost use Rattle.crs_value.specs.Sound.{IsNamed};
+ghost use Rattle.crs_value.specs.ReadsDynamic.{ReadsDynamic};
+ghost use Rattle.crs_value.specs.Reading.{Requires};
+ghost use Rattle.crs_value.specs.ReadsNamed.{ReadsNamed};
 
 use crate::reading::cursor::Cursor;
 use crate::reading::node::Node;
@@ -20,9 +28,6 @@ pub struct Dynamic<'a> {
 }
 
 impl<'a> Model for Dynamic<'a> {
-    ghost use Rattle.crs_value.specs.DynamicValues.{DynamicParts};
-    ghost use Rattle.crs_value.specs.SoundDynamic.{IsDynamic};
-
     ghost Value = { DynamicParts };
 
     ghost view = { λ d. record { epoch = d.epoch; model = d.model } };
@@ -46,9 +51,6 @@ pub struct DeformationModel<'a> {
 }
 
 impl<'a> Model for DeformationModel<'a> {
-    ghost use Rattle.crs_value.specs.NamedValues.{NamedParts};
-    ghost use Rattle.crs_value.specs.Sound.{IsNamed};
-
     ghost Value = { NamedParts };
 
     ghost view = { λ m. record { name = m.name.now; identifiers = m.identifiers } };
@@ -57,9 +59,6 @@ impl<'a> Model for DeformationModel<'a> {
 }
 
 impl<'a> Node<'a> for Dynamic<'a> {
-    ghost use Rattle.std.specs.Prelude.{◌≡◌};
-    ghost use Rattle.crs_value.specs.ReadsDynamic.{ReadsDynamic};
-
     ghost Suits = { λ c. c ≡ classes.Dynamic };
 
     ghost Reads = { λ c item parts. ReadsDynamic c item parts };
@@ -74,9 +73,6 @@ impl<'a> Node<'a> for Dynamic<'a> {
 }
 
 impl<'a> Node<'a> for DeformationModel<'a> {
-    ghost use Rattle.crs_value.specs.Reading.{Requires};
-    ghost use Rattle.crs_value.specs.ReadsNamed.{ReadsNamed};
-
     ghost Suits = { λ c. Requires c classes.Text 0 };
 
     ghost Reads = { λ c item parts. ReadsNamed c item parts };

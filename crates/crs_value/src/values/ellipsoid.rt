@@ -1,4 +1,9 @@
 //! Ellipsoids.
+ghost use Rattle.std.specs.Prelude.{◌≡◌};
+ghost use Rattle.crs_shape.specs.declared.class.Class.TheVariants as classes;
+ghost use Rattle.crs_value.specs.SoundFrames.{IsEllipsoid};
+ghost use Rattle.crs_value.specs.Values.{EllipsoidParts};
+ghost use Rattle.crs_value.specs.Reads.{ReadsEllipsoid};
 
 use crate::reading::cursor::Cursor;
 use crate::reading::node::Node;
@@ -27,9 +32,6 @@ pub struct Ellipsoid<'a> {
 }
 
 impl<'a> Model for Ellipsoid<'a> {
-    ghost use Rattle.crs_value.specs.SoundFrames.{IsEllipsoid};
-    ghost use Rattle.crs_value.specs.Values.{EllipsoidParts};
-
     ghost Value = { EllipsoidParts };
 
     ghost view = { λ e. record {
@@ -44,10 +46,6 @@ impl<'a> Model for Ellipsoid<'a> {
 }
 
 impl<'a> Node<'a> for Ellipsoid<'a> {
-    ghost use Rattle.std.specs.Prelude.{◌≡◌};
-    ghost use Rattle.crs_shape.specs.declared.class.Class.TheVariants as classes;
-    ghost use Rattle.crs_value.specs.Reads.{ReadsEllipsoid};
-
     ghost Suits = { λ c. c ≡ classes.Ellipsoid };
 
     ghost Reads = { λ c item parts. ReadsEllipsoid c item parts };

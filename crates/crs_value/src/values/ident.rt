@@ -2,11 +2,14 @@
 ghost use Rattle.std.specs.Prelude.{◌≡◌, IsTrue, IfOk};
 ghost use Rattle.std.specs.Option.{option_copied};
 ghost use Rattle.crs_text.specs.Items.{arguments, skip};
+ghost use Rattle.crs_shape.specs.declared.class.Class.TheVariants as classes;
 ghost use Rattle.crs_value.specs.Cursor.{item};
 ghost use Rattle.crs_value.specs.Checks.{IsSound};
 ghost use Rattle.crs_value.specs.Members.{HaveSameMembers, IsIn};
 ghost use Rattle.crs_value.specs.Reading.{ReadsFirst, ReadsOptional};
-ghost use Rattle.crs_value.specs.Reads.{ReadsText, single_of};
+ghost use Rattle.crs_value.specs.Reads.{ReadsText, single_of, ReadsIdent};
+ghost use Rattle.crs_value.specs.Sound.{IsIdent};
+ghost use Rattle.crs_value.specs.Values.{IdentParts};
 
 use crate::reading::cursor::Cursor;
 use crate::reading::node::Node;
@@ -35,10 +38,6 @@ pub struct Ident<'a> {
 }
 
 impl<'a> Model for Ident<'a> {
-    ghost use Rattle.std.specs.Option.{option_copied};
-    ghost use Rattle.crs_value.specs.Sound.{IsIdent};
-    ghost use Rattle.crs_value.specs.Values.{IdentParts};
-
     ghost Value = { IdentParts };
 
     ghost view = { λ i. record {
@@ -76,10 +75,6 @@ fn code<'a>(node: &Cursor<'_, 'a>) -> &'a [u8]
 }
 
 impl<'a> Node<'a> for Ident<'a> {
-    ghost use Rattle.std.specs.Prelude.{◌≡◌};
-    ghost use Rattle.crs_shape.specs.declared.class.Class.TheVariants as classes;
-    ghost use Rattle.crs_value.specs.Reads.{ReadsIdent};
-
     ghost Suits = { λ c. c ≡ classes.Identifier };
 
     ghost Reads = { λ c item parts. ReadsIdent c item parts };

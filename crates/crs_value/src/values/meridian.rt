@@ -1,4 +1,9 @@
 //! Prime meridians.
+ghost use Rattle.crs_shape.specs.declared.class.Class.TheVariants as classes;
+ghost use Rattle.crs_value.specs.SoundFrames.{IsMeridian};
+ghost use Rattle.crs_value.specs.Values.{MeridianParts};
+ghost use Rattle.crs_value.specs.Reading.{Requires};
+ghost use Rattle.crs_value.specs.Reads.{ReadsMeridian};
 
 use crate::reading::cursor::Cursor;
 use crate::reading::node::Node;
@@ -25,9 +30,6 @@ pub struct Meridian<'a> {
 }
 
 impl<'a> Model for Meridian<'a> {
-    ghost use Rattle.crs_value.specs.SoundFrames.{IsMeridian};
-    ghost use Rattle.crs_value.specs.Values.{MeridianParts};
-
     ghost Value = { MeridianParts };
 
     ghost view = { λ m. record { name = m.name.now; longitude = m.longitude; unit = m.unit; identifiers = m.identifiers } };
@@ -36,10 +38,6 @@ impl<'a> Model for Meridian<'a> {
 }
 
 impl<'a> Node<'a> for Meridian<'a> {
-    ghost use Rattle.crs_shape.specs.declared.class.Class.TheVariants as classes;
-    ghost use Rattle.crs_value.specs.Reading.{Requires};
-    ghost use Rattle.crs_value.specs.Reads.{ReadsMeridian};
-
     ghost Suits = { λ c. Requires c classes.Text 0 × Requires c classes.Number 0 };
 
     ghost Reads = { λ c item parts. ReadsMeridian c item parts };

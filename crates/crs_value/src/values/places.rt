@@ -111,10 +111,7 @@ pub struct Guesses<'b> {
 impl<'b> Guesses<'b> {
     /// No guess.
     pub fn none() -> Guesses<'b> {
-        Guesses {
-            own: None,
-            others: None,
-        }
+        Guesses::new(None, None)
     }
 
     pub(crate) fn new(own: Option<&'b Places>, others: Option<&'b Places>) -> Guesses<'b> {
@@ -128,10 +125,7 @@ impl<'b> Guesses<'b> {
 
     /// Those of the other list's members in the one.
     pub fn turned(self) -> Guesses<'b> {
-        Guesses {
-            own: self.others,
-            others: self.own,
-        }
+        Guesses::new(self.others, self.own)
     }
 
     /// The guess for the member at this place.

@@ -7,7 +7,8 @@ ghost use Rattle.crs_value.specs.Checks.{IsSound, HasSystem};
 ghost use Rattle.crs_value.specs.FirstArguments.{AreFirsts};
 ghost use Rattle.crs_value.specs.Reading.{item_at, those, Requires, ReadsFirst};
 ghost use Rattle.crs_value.specs.Reads.{HasType, ReadsType, ReadsSystem};
-ghost use Rattle.crs_value.specs.SoundSystem.{own_or};
+ghost use Rattle.crs_value.specs.SoundSystem.{own_or, IsSystem};
+ghost use Rattle.crs_value.specs.Values.{SystemParts};
 
 use crate::reading::cursor::Cursor;
 use crate::reading::firsts::Firsts;
@@ -38,9 +39,6 @@ pub struct System<'a> {
 }
 
 impl<'a> Model for System<'a> {
-    ghost use Rattle.crs_value.specs.SoundSystem.{IsSystem};
-    ghost use Rattle.crs_value.specs.Values.{SystemParts};
-
     ghost Value = { SystemParts };
 
     ghost view = { λ s. record {

@@ -1,7 +1,11 @@
 //! Units.
+ghost use Rattle.crs_shape.specs.declared.class.Class.TheVariants as classes;
 ghost use Rattle.crs_value.specs.Cursor.{item};
 ghost use Rattle.crs_value.specs.Checks.{IsSound};
-ghost use Rattle.crs_value.specs.Reads.{ReadsKind, IsUnitClass};
+ghost use Rattle.crs_value.specs.Reads.{ReadsKind, IsUnitClass, ReadsUnit};
+ghost use Rattle.crs_value.specs.Sound.{IsUnit};
+ghost use Rattle.crs_value.specs.Values.{UnitParts};
+ghost use Rattle.crs_value.specs.Reading.{Requires};
 
 use crate::reading::cursor::Cursor;
 use crate::reading::node::Node;
@@ -27,9 +31,6 @@ pub struct Unit<'a> {
 }
 
 impl<'a> Model for Unit<'a> {
-    ghost use Rattle.crs_value.specs.Sound.{IsUnit};
-    ghost use Rattle.crs_value.specs.Values.{UnitParts};
-
     ghost Value = { UnitParts };
 
     ghost view = { λ u. record { kind = u.kind; name = u.name.now; factor = u.factor; identifiers = u.identifiers } };
@@ -49,10 +50,6 @@ fn kind(node: &Cursor<'_, '_>) -> UnitKind
 }
 
 impl<'a> Node<'a> for Unit<'a> {
-    ghost use Rattle.crs_shape.specs.declared.class.Class.TheVariants as classes;
-    ghost use Rattle.crs_value.specs.Reading.{Requires};
-    ghost use Rattle.crs_value.specs.Reads.{ReadsUnit, IsUnitClass};
-
     ghost Suits = { λ c. IsUnitClass c × Requires c classes.Text 0 × Requires c classes.Number 0 };
 
     ghost Reads = { λ c item parts. ReadsUnit c item parts };

@@ -1,5 +1,5 @@
 //! Usages, and the ends of CRSs.
-ghost use Rattle.std.specs.Prelude.{◌↔◌, IsTrue, IfOk};
+ghost use Rattle.std.specs.Prelude.{◌↔◌, IsTrue, IfOk, ◌≡◌};
 ghost use Rattle.std.specs.Option.{option_copied};
 ghost use Rattle.crs_text.specs.Items.{arguments};
 ghost use Rattle.crs_shape.specs.declared.class.Class.TheVariants as classes;
@@ -7,8 +7,9 @@ ghost use Rattle.crs_value.specs.Reading.{Requires};
 ghost use Rattle.crs_value.specs.Cursor.{item};
 ghost use Rattle.crs_value.specs.Checks.{IsSound};
 ghost use Rattle.crs_value.specs.FirstArguments.{AreFirsts};
-ghost use Rattle.crs_value.specs.Reads.{ReadsBare, ReadsTail};
-ghost use Rattle.crs_value.specs.Values.{SaysSome};
+ghost use Rattle.crs_value.specs.Reads.{ReadsBare, ReadsTail, ReadsBox, ReadsExtent, ReadsUsage};
+ghost use Rattle.crs_value.specs.Values.{SaysSome, UsageParts, BoxParts, ExtentParts, TailParts};
+ghost use Rattle.crs_value.specs.SoundUsages.{IsUsage, IsBox, IsExtent, IsTail};
 
 use crate::reading::cursor::Cursor;
 use crate::reading::firsts::Firsts;
@@ -37,10 +38,6 @@ pub struct Usage<'a> {
 }
 
 impl<'a> Model for Usage<'a> {
-    ghost use Rattle.std.specs.Option.{option_copied};
-    ghost use Rattle.crs_value.specs.SoundUsages.{IsUsage};
-    ghost use Rattle.crs_value.specs.Values.{UsageParts};
-
     ghost Value = { UsageParts };
 
     ghost view = { λ u. record {
@@ -78,9 +75,6 @@ pub struct BoundingBox {
 }
 
 impl Model for BoundingBox {
-    ghost use Rattle.crs_value.specs.SoundUsages.{IsBox};
-    ghost use Rattle.crs_value.specs.Values.{BoxParts};
-
     ghost Value = { BoxParts };
 
     ghost view = { λ b. record { south = b.south; west = b.west; north = b.north; east = b.east } };
@@ -101,9 +95,6 @@ pub struct Extent<'a> {
 }
 
 impl<'a> Model for Extent<'a> {
-    ghost use Rattle.crs_value.specs.SoundUsages.{IsExtent};
-    ghost use Rattle.crs_value.specs.Values.{ExtentParts};
-
     ghost Value = { ExtentParts };
 
     ghost view = { λ e. record { minimum = e.minimum; maximum = e.maximum; unit = e.unit } };
@@ -125,10 +116,6 @@ pub struct Tail<'a> {
 }
 
 impl<'a> Model for Tail<'a> {
-    ghost use Rattle.std.specs.Option.{option_copied};
-    ghost use Rattle.crs_value.specs.SoundUsages.{IsTail};
-    ghost use Rattle.crs_value.specs.Values.{TailParts};
-
     ghost Value = { TailParts };
 
     ghost view = { λ t. record { usages = t.usages; bare_parts = t.bare_parts; identifiers = t.identifiers; remark = option_copied t.remark } };
@@ -148,8 +135,6 @@ impl Drop for Tail<'_> {
 }
 
 impl<'a> Node<'a> for BoundingBox {
-    ghost use Rattle.crs_value.specs.Reads.{ReadsBox};
-
     ghost Suits = { λ c. Requires c classes.Number 3 };
 
     ghost Reads = { λ c item parts. ReadsBox c item parts };
@@ -165,8 +150,6 @@ impl<'a> Node<'a> for BoundingBox {
 }
 
 impl<'a> Node<'a> for Extent<'a> {
-    ghost use Rattle.crs_value.specs.Reads.{ReadsExtent};
-
     ghost Suits = { λ c. Requires c classes.Number 1 };
 
     ghost Reads = { λ c item parts. ReadsExtent c item parts };
@@ -181,9 +164,6 @@ impl<'a> Node<'a> for Extent<'a> {
 }
 
 impl<'a> Node<'a> for Usage<'a> {
-    ghost use Rattle.std.specs.Prelude.{◌≡◌};
-    ghost use Rattle.crs_value.specs.Reads.{ReadsUsage};
-
     ghost Suits = { λ c. c ≡ classes.Usage };
 
     ghost Reads = { λ c item parts. ReadsUsage c item parts };
