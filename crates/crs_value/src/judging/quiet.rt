@@ -104,8 +104,8 @@ fn shared_unit(
     }
 }
 
-// Whether a CRS of this class is seen to break no check by itself but perhaps that of dynamic parts; one that breaks
-// none may still be told of.
+// Whether a CRS of this class is seen to break none of its own checks, that of dynamic parts aside. Where it isn't
+// seen, the CRS may still break none.
 pub(crate) fn is_quiet(items: &Items<'_>, id: ItemId, class: Class, layout: Layout) -> bool
     requires has { HasId items.now id }
     requires shaped { Shaped class (item_at items.now id) }

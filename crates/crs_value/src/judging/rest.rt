@@ -158,7 +158,7 @@ fn once_in(items: &Items<'_>, id: ItemId, parent: Class) -> Option<Class>
     None
 }
 
-// Whether what may stand but once follows one another by rank, so that nothing is repeated.
+// Whether the arguments that may stand but once ascend by rank, so that none is repeated.
 pub(crate) fn is_ascending(items: &Items<'_>, from: Option<ItemId>, parent: Class) -> bool
     requires { Holds items.now from }
     ensures { IsTrue result → IsLeast (RepeatsAny parent (ahead items.now from) once) None }

@@ -29,7 +29,7 @@ impl<'i, 'a> Cursor<'i, 'a> {
     ghost use Rattle.crs_value.specs.Reading.{IsFound, ReadsAll, ReadsIfAny, ReadsOne, Requires};
     ghost use Rattle.crs_value.specs.Reads.{ReadsNumberAt, ReadsNumberOf, ReadsTextOf};
 
-    // What identifiers are read by is compiled in place: a cursor that is lent to a call goes through memory.
+    // The methods by which identifiers are read are inlined: a cursor that is lent to a call goes through memory.
 
     // The value of an argument of this class that the slots require.
     pub(crate) fn one<T: Node<'a>>(&self, alloc: Global, class: Class) -> Result<T, AllocError>

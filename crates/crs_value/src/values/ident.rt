@@ -155,7 +155,7 @@ fn is_equal_at<'a>(ident: &Ident<'a>, idents: &[Ident<'a>], place: usize) -> boo
     }
 }
 
-// Each, unless the last before it of its key is equal.
+// Each identifier, unless it is equal to the last one before it that has its key.
 fn each_once<'a>(
     alloc: Global,
     idents: &[Ident<'a>],

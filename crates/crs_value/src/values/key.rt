@@ -1,5 +1,5 @@
-//! Keys: numbers that values share which are the same at a level, by which members of sets are looked for. No promise
-//! rests on a key, since what it leads to is compared.
+//! Keys: numbers that are equal for values that are the same at a level, by which members of sets are looked for. No
+//! promise rests on a key, since what it leads to is compared.
 
 ghost use Rattle.std.specs.Prelude.{IfOk, IfSome};
 ghost use Rattle.crs_value.specs.Members.{HaveSameMembers};
@@ -17,7 +17,7 @@ use std::hash::{DefaultHasher, Hasher};
 
 // A value that may be a member of a set.
 pub(crate) trait Keyed: Sized {
-    // A number that values share which are the same at this level.
+    // A number that is equal for values that are the same at this level.
     fn key(&self, level: Level) -> u128;
 
     // Whether the keys of the levels differ, where the values count at both.
@@ -25,7 +25,7 @@ pub(crate) trait Keyed: Sized {
         false
     }
 
-    // These members, each once, if some are repeated. Of identifiers alone, which other members of sets have.
+    // These members, each once, if some are repeated; None for all but identifiers, which other members of sets have.
     fn once(
         _alloc: Global,
         _members: &[Self],

@@ -10,7 +10,7 @@ use crate::values::places::{Guesses, Places};
 use std::alloc::{AllocError, Global};
 use std::marker::Model;
 
-// Up to so many members, a same one is looked for one by one.
+// In a list of up to so many members, a counterpart is looked for member by member.
 pub(crate) const FEW: usize = 32;
 
 /// A list in a value, seen as its members in order. Profile.
@@ -85,8 +85,8 @@ impl<T> List<T> {
         }
     }
 
-    /// Where members of `once` may have same ones in another list's. No promise rests on it: there are guesses for lists
-    /// of more than 32 members, until they are changed.
+    /// Where members of `once` may have counterparts in another list. No promise rests on it: there are guesses for
+    /// lists of more than 32 members, until they are changed.
     pub fn guesses<'b>(&'b self, others: &'b List<T>, level: Level) -> Guesses<'b> {
         Guesses::new(self.places(level), others.places(level))
     }

@@ -101,7 +101,7 @@ pub struct Guess {
     pub before: usize,
 }
 
-/// Where the members of one list may have same ones in another. Profile.
+/// Where the members of one list may have counterparts in another. Profile.
 #[derive(Clone, Copy)]
 pub struct Guesses<'b> {
     own: Option<&'b Places>,
@@ -123,7 +123,7 @@ impl<'b> Guesses<'b> {
         self.own.is_some() && self.others.is_some()
     }
 
-    /// Those of the other list's members in the one.
+    /// The guesses for the other list's members.
     pub fn turned(self) -> Guesses<'b> {
         Guesses::new(self.others, self.own)
     }
