@@ -122,6 +122,4 @@ pub ruleset along_rules = (numbered, last-unit)
 
 pub ruleset dynamic_rules = (three, last-part)
 
-pub ruleset usage_rules = (then-plain, then-text, last-part)
-
 pub ruleset crs_rules = (closed, keyworded, then-opt, then-more, then-part, then-unit, then-system)

@@ -4,14 +4,16 @@ ghost use Rattle.std.specs.Option.{option_copied, option_map};
 ghost use Rattle.crs_decimal.specs.Value.{Value};
 ghost use Rattle.crs_text.specs.Items.{End, More, Siblings};
 ghost use Rattle.crs_text.specs.Written.{item_text, others_text};
+ghost use Rattle.crs_value.specs.Reads.{ReadsBox, ReadsExtent, ReadsUsage};
 ghost use Rattle.crs_value.specs.Values.{BoxParts, ExtentParts, UnitParts};
 ghost use Rattle.crs_value.specs.declared.values.level.Level.TheVariants as levels;
 ghost use Rattle.crs_normal.specs.PartTexts.{box_text, extent_text, usage_text};
 ghost use Rattle.crs_normal.specs.SpelledItems.{node_from, number_item, opt, text_node};
 ghost use Rattle.crs_normal.specs.SpelledUnits.{item_unit, norm_length};
 ghost use Rattle.crs_normal.specs.SpelledUsages.{item_box, item_extent, norm_extent};
-ghost use Rattle.crs_leaves.specs.Openings.{enclosed, numbered_node};
+ghost use Rattle.crs_nodes.specs.Cursor.{item};
 ghost use Rattle.crs_nodes.specs.Found.{SaysIfAny};
+ghost use Rattle.crs_leaves.specs.Openings.{enclosed, numbered_node};
 
 use crate::chain::ReadAs;
 use crate::parts::{NumberPart, Part, UnitPart, write_optional};
@@ -23,113 +25,83 @@ use crs_shape::Class;
 use crs_value::{BoundingBox, Extent, Level, Usage};
 use std::alloc::AllocError;
 
-// The sides of a bounding box.
-#[derive(Drop)]
-struct BoxFields<N> {
-    south: N,
-    west: N,
-    north: N,
-    east: N,
-}
-
-impl<N: NumberPart> BoxFields<N> {
-    // After an opening.
-    #[tactic(auto, using(crate::proofs::FlatLemmas::number_rules))]
-    fn write(self, out: &mut Vec<u8>, opening: &[u8]) -> Result<(), AllocError>
-        ensures { OnOk result ((s w n e : Value) → N.Says self.south s → N.Says self.west w → N.Says self.north n →
-            N.Says self.east e → out.new.items ≡ out.old.items ++ numbered_node opening.now s
-            (More (number_item w) (More (number_item n) (More (number_item e) End)))) }
-    {
-        self.south.open(out, opening)?;
-        self.west.open(out, b",")?;
-        self.north.open(out, b",")?;
-        self.east.open(out, b",")?;
-        append(out, b"]")
-    }
+// The sides of a bounding box, after an opening.
+#[tactic(auto, using(crate::proofs::FlatLemmas::number_rules))]
+fn write_box<N: NumberPart>(
+    out: &mut Vec<u8>,
+    opening: &[u8],
+    south_west: (N, N),
+    north_east: (N, N),
+) -> Result<(), AllocError>
+    ensures { OnOk result ((s w n e : Value) → N.Says south_west.0 s → N.Says south_west.1 w →
+        N.Says north_east.0 n → N.Says north_east.1 e → out.new.items ≡ out.old.items ++ numbered_node opening.now s
+        (More (number_item w) (More (number_item n) (More (number_item e) End)))) }
+{
+    south_west.0.open(out, opening)?;
+    south_west.1.open(out, b",")?;
+    north_east.0.open(out, b",")?;
+    north_east.1.open(out, b",")?;
+    append(out, b"]")
 }
 
 impl Spell for BoundingBox {
     ghost spelling = { box_text };
 
     fn spell(&self, out: &mut Vec<u8>, _level: Level) -> Result<(), AllocError> {
-        BoxFields {
-            south: &self.south,
-            west: &self.west,
-            north: &self.north,
-            east: &self.east,
-        }
-        .write(out, b"BBOX[")
+        write_box(
+            out,
+            b"BBOX[",
+            (&self.south, &self.west),
+            (&self.north, &self.east),
+        )
     }
 }
 
 impl<'c, 'i, 'a> Part<BoundingBox> for &'c Node<'i, 'a> {
-    ghost use Rattle.crs_value.specs.Reads.{ReadsBox};
-    ghost use Rattle.crs_nodes.specs.Cursor.{item};
-
     ghost Says = { λ n b. ReadsBox n.now.class (item n.now) b };
 
     fn put(&self, out: &mut Vec<u8>, _level: Level) -> Result<(), AllocError> {
-        BoxFields {
-            south: self.nth_number(0),
-            west: self.nth_number(1),
-            north: self.nth_number(2),
-            east: self.nth_number(3),
-        }
-        .write(out, b",BBOX[")
+        let south_west = (self.nth_number(0), self.nth_number(1));
+        let north_east = (self.nth_number(2), self.nth_number(3));
+        write_box(out, b",BBOX[", south_west, north_east)
     }
 }
 
-// The parts of a vertical extent.
-#[derive(Drop)]
-struct ExtentFields<N, U> {
-    minimum: N,
-    maximum: N,
+// A vertical extent of a minimum and a maximum, after an opening.
+#[tactic(auto, using(crate::proofs::FlatLemmas::number_rules))]
+fn write_extent<N: NumberPart, U: UnitPart>(
+    out: &mut Vec<u8>,
+    opening: &[u8],
+    limits: (N, N),
     unit: Option<U>,
-}
-
-impl<N: NumberPart, U: UnitPart> ExtentFields<N, U> {
-    // After an opening.
-    #[tactic(auto, using(crate::proofs::FlatLemmas::number_rules))]
-    fn write(self, out: &mut Vec<u8>, opening: &[u8], level: Level) -> Result<(), AllocError>
-        ensures { OnOk result ((l h : Value) (u : Option UnitParts) → N.Says self.minimum l → N.Says self.maximum h →
-            SaysIfAny U.Says self.unit u → out.new.items ≡ out.old.items ++ numbered_node opening.now l
-            (More (number_item h) (opt item_unit (Some (norm_length level u)) End))) }
-    {
-        self.minimum.open(out, opening)?;
-        self.maximum.open(out, b",")?;
-        write_length(out, self.unit, level)?;
-        append(out, b"]")
-    }
+    level: Level,
+) -> Result<(), AllocError>
+    ensures { OnOk result ((l h : Value) (u : Option UnitParts) → N.Says limits.0 l → N.Says limits.1 h →
+        SaysIfAny U.Says unit u → out.new.items ≡ out.old.items ++ numbered_node opening.now l
+        (More (number_item h) (opt item_unit (Some (norm_length level u)) End))) }
+{
+    limits.0.open(out, opening)?;
+    limits.1.open(out, b",")?;
+    write_length(out, unit, level)?;
+    append(out, b"]")
 }
 
 impl Spell for Extent<'_> {
     ghost spelling = { extent_text };
 
     fn spell(&self, out: &mut Vec<u8>, level: Level) -> Result<(), AllocError> {
-        let unit = self.unit.as_ref();
-        ExtentFields {
-            minimum: &self.minimum,
-            maximum: &self.maximum,
-            unit,
-        }
-        .write(out, b"VERTICALEXTENT[", level)
+        let limits = (&self.minimum, &self.maximum);
+        write_extent(out, b"VERTICALEXTENT[", limits, self.unit.as_ref(), level)
     }
 }
 
 impl<'c, 'i, 'a> Part<Extent<'a>> for &'c Node<'i, 'a> {
-    ghost use Rattle.crs_value.specs.Reads.{ReadsExtent};
-    ghost use Rattle.crs_nodes.specs.Cursor.{item};
-
     ghost Says = { λ n e. ReadsExtent n.now.class (item n.now) e };
 
     fn put(&self, out: &mut Vec<u8>, level: Level) -> Result<(), AllocError> {
         let unit = self.first(Class::LengthUnit);
-        ExtentFields {
-            minimum: self.nth_number(0),
-            maximum: self.nth_number(1),
-            unit: unit.as_ref(),
-        }
-        .write(out, b",VERTICALEXTENT[", level)
+        let limits = (self.nth_number(0), self.nth_number(1));
+        write_extent(out, b",VERTICALEXTENT[", limits, unit.as_ref(), level)
     }
 }
 
@@ -154,27 +126,6 @@ fn enclose(out: &mut Vec<u8>, at: usize) -> Result<(), AllocError>
     append(out, b"]")
 }
 
-// A comma before each.
-#[tactic(auto, using(crate::proofs::FlatLemmas::usage_rules))]
-fn write_parts<'a, B: Part<BoundingBox>, E: Part<Extent<'a>>>(
-    out: &mut Vec<u8>,
-    scope: Option<&[u8]>,
-    area: Option<&[u8]>,
-    bbox: Option<B>,
-    extent: Option<E>,
-) -> Result<(), AllocError>
-    ensures { OnOk result ((s a : Option (List ℕ)) (b : Option BoxParts) (e : Option ExtentParts) →
-        s ≡ option_copied scope.entry → a ≡ option_copied area.entry → SaysIfAny B.Says bbox b →
-        SaysIfAny E.Says extent e → out.new.items ≡ out.old.items ++ others_text
-        (opt (text_node (codes "SCOPE")) s (opt (text_node (codes "AREA")) a
-        (opt item_box b (opt item_extent (option_map (norm_extent levels.Full) e) End))))) }
-{
-    write_optional_text(out, b",SCOPE[\"", scope)?;
-    write_optional_text(out, b",AREA[\"", area)?;
-    write_optional::<BoundingBox, B>(out, bbox, Level::Full)?;
-    write_optional::<Extent<'a>, E>(out, extent, Level::Full)
-}
-
 fn write_usage<'a, B: Part<BoundingBox>, E: Part<Extent<'a>>>(
     out: &mut Vec<u8>,
     scope: Option<&[u8]>,
@@ -190,7 +141,10 @@ fn write_usage<'a, B: Part<BoundingBox>, E: Part<Extent<'a>>>(
 {
     append(out, b"USAGE")?;
     let at = out.len();
-    write_parts::<B, E>(out, scope, area, bbox, extent)?;
+    write_optional_text(out, b",SCOPE[\"", scope)?;
+    write_optional_text(out, b",AREA[\"", area)?;
+    write_optional::<BoundingBox, B>(out, bbox, Level::Full)?;
+    write_optional::<Extent<'a>, E>(out, extent, Level::Full)?;
     enclose(out, at)
 }
 
@@ -210,9 +164,7 @@ impl Spell for Usage<'_> {
 }
 
 impl<'a> ReadAs<'a> for Usage<'a> {
-    ghost use Rattle.crs_value.specs.Reads.{ReadsUsage};
-
-    ghost Reads = { λ c item u. ReadsUsage c item u };
+    ghost Reads = { ReadsUsage };
 
     fn write_of(node: &Node<'_, 'a>, out: &mut Vec<u8>, level: Level) -> Result<(), AllocError> {
         if let Some(bytes) = copied::usage(node, level) {
