@@ -1,15 +1,15 @@
 //! Units, and the unit where none is written.
-ghost use Rattle.std.specs.Prelude.{◌≡◌, ◌∷◌, ◌++◌, ℕ, [], List, OnOk, Option, Some};
-ghost use Rattle.crs_decimal.specs.Value.{Value};
+ghost use Rattle.std.specs.Prelude.{◌≡◌, ◌∷◌, ◌++◌, [], OnOk, Option, Some};
 ghost use Rattle.crs_text.specs.Items.{End};
 ghost use Rattle.crs_text.specs.Written.{item_text, others_text};
 ghost use Rattle.crs_shape.specs.Words.{unit_word};
-ghost use Rattle.crs_value.specs.Values.{IdentParts, UnitParts};
+ghost use Rattle.crs_value.specs.Reads.{ReadsUnit};
 ghost use Rattle.crs_normal.specs.PartTexts.{unit_text};
 ghost use Rattle.crs_normal.specs.SpelledItems.{opt};
 ghost use Rattle.crs_normal.specs.SpelledUnits.{item_unit, metre, norm_length, norm_unit};
-ghost use Rattle.crs_leaves.specs.Direct.{Writes};
+ghost use Rattle.crs_nodes.specs.Cursor.{item};
 ghost use Rattle.crs_nodes.specs.Found.{SaysIfAny};
+ghost use Rattle.crs_leaves.specs.Direct.{Writes};
 ghost use Rattle.crs_writer.specs.Parts.{opt_text};
 
 use crate::parts::{IdentsPart, NumberPart, UnitPart};
@@ -48,62 +48,24 @@ pub fn write_metre(out: &mut Vec<u8>) -> Result<(), AllocError>
     append(out, b",LENGTHUNIT[\"metre\",1]")
 }
 
-// The parts of a unit.
-#[derive(Drop)]
-struct UnitFields<'n, N, I> {
-    kind: UnitKind,
-    name: &'n [u8],
-    factor: N,
-    ids: I,
-}
-
-impl<'n, N: NumberPart, I: IdentsPart> UnitFields<'n, N, I> {
-    // After a comma; where this kind is asked, as which `UNIT` counts.
-    fn write(self, out: &mut Vec<u8>, asked: UnitKind, level: Level) -> Result<(), AllocError>
-        ensures { OnOk result ((u : UnitParts) → u.kind ≡ self.entry.kind → u.name ≡ self.entry.name.now →
-            N.Says self.entry.factor u.factor → I.Says self.entry.ids u.identifiers →
-            out.new.items ≡ out.old.items ++ 44 ∷ item_text (item_unit (norm_unit level asked u))) }
-    {
-        open_text(
-            out,
-            unit_opening(self.kind.as_asked(asked)).as_bytes(),
-            self.name,
-        )?;
-        self.factor.open(out, b",")?;
-        self.ids.put(out, level)?;
-        append(out, b"]")
-    }
-}
-
 impl<'b, 'a> UnitPart for &'b Unit<'a> {
     ghost Says = { λ s v. v ≡ s.now };
 
     fn put(&self, out: &mut Vec<u8>, asked: UnitKind, level: Level) -> Result<(), AllocError> {
-        let unit: &'b Unit<'a> = *self;
-        UnitFields {
-            kind: unit.kind,
-            name: unit.name,
-            factor: &unit.factor,
-            ids: &unit.identifiers,
-        }
-        .write(out, asked, level)
+        append(out, b",")?;
+        write_bare_unit(out, asked, *self, level)
     }
 }
 
 impl<'c, 'i, 'a> UnitPart for &'c Node<'i, 'a> {
-    ghost use Rattle.crs_value.specs.Reads.{ReadsUnit};
-    ghost use Rattle.crs_nodes.specs.Cursor.{item};
-
     ghost Says = { λ n u. ReadsUnit n.now.class (item n.now) u };
 
     fn put(&self, out: &mut Vec<u8>, asked: UnitKind, level: Level) -> Result<(), AllocError> {
-        UnitFields {
-            kind: self.kind(),
-            name: self.text(),
-            factor: self.number(),
-            ids: *self,
-        }
-        .write(out, asked, level)
+        let opening = unit_opening(self.kind().as_asked(asked));
+        open_text(out, opening.as_bytes(), self.text())?;
+        self.number().open(out, b",")?;
+        IdentsPart::put(self, out, level)?;
+        append(out, b"]")
     }
 }
 
