@@ -18,4 +18,4 @@ opt_text text (Some value) = 44 ∷ text value
 -- a node of one number after its opening, if there is one
 abbrev pub number_behind : List ℕ → Option Value → List ℕ
 number_behind opening None = []
-number_behind opening (Some value) = (opening ++ plain value) ++ 93 ∷ []
+number_behind opening (Some value) = opening ++ (plain value ++ 93 ∷ [])

@@ -23,13 +23,6 @@ impl Model for Canon {
 }
 
 impl Canon {
-    pub(crate) fn new(bytes: Vec<u8>, level: Level) -> Canon
-        ensures bytes { result.bytes ≡ bytes.items }
-        ensures level { result.level ≡ level }
-    {
-        Canon { bytes, level }
-    }
-
     /// The canonical text.
     pub fn bytes(&self) -> &[u8]
         ensures { result.now ≡ self.now.bytes }
@@ -100,7 +93,7 @@ pub fn canon_from(bytes: Vec<u8>, level: Level) -> Canon
     ensures bytes { result.bytes ≡ bytes.items }
     ensures level { result.level ≡ level }
 {
-    Canon::new(bytes, level)
+    Canon { bytes, level }
 }
 
 fn digest(bytes: &[u8]) -> u64

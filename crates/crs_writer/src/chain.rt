@@ -1,8 +1,17 @@
 //! Arguments of one class, one after another.
+ghost use Rattle.std.specs.Prelude.{OnOk, length};
+ghost use Rattle.crs_text.specs.Items.{Item};
+ghost use Rattle.crs_shape.specs.declared.class.Class.{Class};
+ghost use Rattle.crs_value.specs.FoundArguments.{from_found};
+ghost use Rattle.crs_value.specs.Reading.{Holds, ReadsEach};
+ghost use Rattle.crs_nodes.specs.Cursor.{item};
+ghost use Rattle.crs_leaves.specs.Direct.{Writes};
+
 use crate::members::{MemberPart, MembersPart};
 use crate::set::MEMBER_ROOM;
-use crate::spans::{Span, put};
+use crate::spans::{Span, put_last};
 use crate::spell::Spell;
+use crs_leaves::append;
 use crs_nodes::{Chain, Node, lookup};
 use crs_shape::Class;
 use crs_value::Level;
@@ -10,12 +19,6 @@ use std::alloc::AllocError;
 
 /// A value that may be a member of a set, and that is read from a node.
 pub(crate) trait ReadAs<'a>: Spell {
-    ghost use Rattle.std.specs.Prelude.{OnOk};
-    ghost use Rattle.crs_text.specs.Items.{Item};
-    ghost use Rattle.crs_shape.specs.declared.class.Class.{Class};
-    ghost use Rattle.crs_nodes.specs.Cursor.{item};
-    ghost use Rattle.crs_leaves.specs.Direct.{Writes};
-
     ghost Reads: { Class → Item → Self → Type 0 };
 
     // The spelling of whatever is read from it.
@@ -25,8 +28,6 @@ pub(crate) trait ReadAs<'a>: Spell {
 }
 
 impl<'i, 'a, T: ReadAs<'a>> MemberPart<T> for Node<'i, 'a> {
-    ghost use Rattle.crs_nodes.specs.Cursor.{item};
-
     ghost Says = { λ n v. T.Reads n.class (item n) v };
 
     #[inline(always)]
@@ -45,15 +46,13 @@ impl<'i, 'a, T: ReadAs<'a>> MemberPart<T> for Node<'i, 'a> {
         room.clear();
         room.reserve(MEMBER_ROOM)?;
         T::write_of(self, room, level)?;
-        put(bytes, spans, room)
+        let start = bytes.len();
+        append(bytes, room)?;
+        put_last(bytes, spans, start)
     }
 }
 
 impl<'i, 'a, T: ReadAs<'a>> MembersPart<T> for Chain<'i, 'a> {
-    ghost use Rattle.std.specs.Prelude.{length};
-    ghost use Rattle.crs_value.specs.FoundArguments.{from_found};
-    ghost use Rattle.crs_value.specs.Reading.{Holds, ReadsEach};
-
     ghost Hold = { λ c. Holds c.items.now c.at };
 
     ghost Say = { λ c vs. ReadsEach (T.Reads c.class) (from_found c.items.now c.parent c.class c.at) vs };

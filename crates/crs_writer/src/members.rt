@@ -3,7 +3,7 @@ ghost use Rattle.std.specs.Prelude.{◌≡◌, ◌<◌, [], ℕ, IsTrue, List, M
 ghost use Rattle.crs_normal.specs.Ordered.{put};
 ghost use Rattle.crs_leaves.specs.Direct.{Writes};
 ghost use Rattle.crs_writer.specs.Parts.{SaysFirst};
-ghost use Rattle.crs_writer.specs.Spans.{AreInOrder, IsPutAmong, texts_at};
+ghost use Rattle.crs_writer.specs.Spans.{AreInOrder, texts_at};
 
 use crate::set::FEW;
 use crate::spans::{Span, put_last};
@@ -68,23 +68,6 @@ pub trait MembersPart<T: Spell>: Copy {
     fn are_few(&self) -> bool;
 }
 
-// Puts the spelling of a value among texts that are in order.
-#[inline(always)]
-fn put_spelled<T: Spell>(
-    bytes: &mut Vec<u8>,
-    spans: &mut Vec<Span>,
-    value: &T,
-    level: Level,
-) -> Result<(), AllocError>
-    requires { AreInOrder bytes.old.items spans.old.items }
-    ensures { OnOk result (IsPutAmong (T.spelling level value.now) bytes.old.items spans.old.items
-        bytes.new.items spans.new.items) }
-{
-    let start = bytes.len();
-    value.spell(bytes, level)?;
-    put_last(bytes, spans, start)
-}
-
 impl<'b, T: Spell> MemberPart<T> for &'b T {
     ghost Says = { λ s v. v ≡ s.now };
 
@@ -101,7 +84,9 @@ impl<'b, T: Spell> MemberPart<T> for &'b T {
         _room: &mut Vec<u8>,
         level: Level,
     ) -> Result<(), AllocError> {
-        put_spelled::<T>(bytes, spans, *self, level)
+        let start = bytes.len();
+        T::spell(*self, bytes, level)?;
+        put_last(bytes, spans, start)
     }
 }
 

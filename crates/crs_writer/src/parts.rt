@@ -1,6 +1,6 @@
 //! Parts of nodes: those of a value, or those that are read from an item. Of each it is known which values it may say,
 //! and the text of any of them is what is appended.
-ghost use Rattle.std.specs.Prelude.{◌≡◌, ◌∷◌, ◌++◌, [], ℕ, List, OnOk, Option};
+ghost use Rattle.std.specs.Prelude.{◌≡◌, ◌∷◌, ◌++◌, [], List, OnOk, Option, Some};
 ghost use Rattle.crs_decimal.specs.Plain.{plain};
 ghost use Rattle.crs_decimal.specs.Value.{Value};
 ghost use Rattle.crs_text.specs.Items.{End};
@@ -9,8 +9,8 @@ ghost use Rattle.crs_value.specs.Values.{IdentParts, UnitParts};
 ghost use Rattle.crs_normal.specs.SpelledFrames.{is_zero};
 ghost use Rattle.crs_normal.specs.SpelledItems.{each};
 ghost use Rattle.crs_normal.specs.SpelledUnits.{item_ident, item_unit, norm_unit, set_idents, whole_value};
+ghost use Rattle.crs_nodes.specs.Found.{IsNumber, SaysIfAny};
 ghost use Rattle.crs_leaves.specs.Direct.{Writes};
-ghost use Rattle.crs_nodes.specs.Found.{SaysIfAny};
 ghost use Rattle.crs_writer.specs.Parts.{number_behind, opt_text};
 
 use crate::spell::{Spell, write_part};
@@ -88,8 +88,6 @@ impl<'b> NumberPart for &'b Decimal {
 
 // As the bytes spell it.
 impl<'b> NumberPart for &'b [u8] {
-    ghost use Rattle.crs_nodes.specs.Found.{IsNumber};
-
     ghost Says = { λ s v. IsNumber s.now v };
 
     #[inline(always)]
@@ -108,8 +106,6 @@ impl<'b> NumberPart for &'b [u8] {
 
 // A position.
 impl NumberPart for u64 {
-    ghost use Rattle.crs_normal.specs.SpelledUnits.{whole_value};
-
     ghost Says = { λ n v. v ≡ whole_value n };
 
     #[inline(always)]
@@ -134,9 +130,6 @@ impl<'b, T: Spell> Part<T> for &'b T {
 
 // A part that must be there: where it isn't, no value is one.
 impl<T: Spell, P: Part<T>> Part<T> for Option<P> {
-    ghost use Rattle.std.specs.Prelude.{Some};
-    ghost use Rattle.crs_nodes.specs.Found.{SaysIfAny};
-
     ghost Says = { λ part v. SaysIfAny P.Says part (Some v) };
 
     #[inline(always)]
@@ -187,9 +180,6 @@ pub(crate) fn write_optional_number<N: NumberPart>(
 {
     match number {
         None => Ok(()),
-        Some(number) => {
-            number.open(out, opening)?;
-            append(out, b"]")
-        }
+        Some(number) => write_number_node(out, opening, number),
     }
 }

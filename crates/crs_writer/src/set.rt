@@ -1,5 +1,5 @@
 //! Sets: each spelling once, in ascending order of the bytes.
-ghost use Rattle.std.specs.Prelude.{◌≡◌, ◌∷◌, ◌++◌, [], ℕ, List, map, OnOk};
+ghost use Rattle.std.specs.Prelude.{◌≡◌, ◌∷◌, ◌++◌, List, map, OnOk};
 ghost use Rattle.crs_normal.specs.Ordered.{put, put_all};
 ghost use Rattle.crs_leaves.specs.Direct.{Writes};
 ghost use Rattle.crs_writer.specs.Members.{set_text, spellings};
@@ -136,19 +136,6 @@ fn write_many<T: Spell, P: MemberPart<T>, M: MembersPart<T>>(
     write_sorted(out, &sorted)
 }
 
-// A member alone.
-#[inline(always)]
-fn write_member<T: Spell, P: MemberPart<T>>(
-    out: &mut Vec<u8>,
-    member: &P,
-    level: Level,
-) -> Result<(), AllocError>
-    ensures { OnOk result (Writes (P.Says member.now) (λ v. commas (T.spelling level v ∷ [])) out.old.items out.new.items) }
-{
-    append(out, b",")?;
-    member.write(out, level)
-}
-
 // A set of a member and others. Most have no others, and need no order.
 pub(crate) fn write_set_with<T: Spell, P: MemberPart<T>, M: MembersPart<T>>(
     out: &mut Vec<u8>,
@@ -161,7 +148,8 @@ pub(crate) fn write_set_with<T: Spell, P: MemberPart<T>, M: MembersPart<T>>(
         out.new.items ≡ out.old.items ++ set_text (map (T.spelling level) (value ∷ values))) }
 {
     if others.are_none() {
-        write_member::<T, P>(out, first, level)
+        append(out, b",")?;
+        first.write(out, level)
     } else if others.are_few() {
         write_few::<T, P, M>(out, first, others, level)
     } else {

@@ -70,16 +70,6 @@ pub(crate) fn put_last(
     Ok(())
 }
 
-// Puts a text among the others.
-pub(crate) fn put(bytes: &mut Vec<u8>, spans: &mut Vec<Span>, text: &[u8]) -> Result<(), AllocError>
-    requires { AreInOrder bytes.old.items spans.old.items }
-    ensures { OnOk result (IsPutAmong text.now bytes.old.items spans.old.items bytes.new.items spans.new.items) }
-{
-    let start = bytes.len();
-    append(bytes, text)?;
-    put_last(bytes, spans, start)
-}
-
 // Appends the texts in order, a comma before each.
 pub(crate) fn write_spans(out: &mut Vec<u8>, bytes: &[u8], spans: &[Span]) -> Result<(), AllocError>
     requires { AreWithin bytes.now spans.now }
