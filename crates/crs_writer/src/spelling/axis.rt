@@ -1,39 +1,29 @@
 //! Axes.
-ghost use Rattle.std.specs.Prelude.{◌≡◌, ◌∷◌, ◌++◌, ℕ, List, OnOk, Option, codes};
+ghost use Rattle.std.specs.Prelude.{◌≡◌, ◌++◌, ℕ, List, OnOk, Option, codes};
 ghost use Rattle.crs_decimal.specs.Value.{Value};
 ghost use Rattle.crs_text.specs.Items.{End, More};
-ghost use Rattle.crs_text.specs.Written.{item_text};
 ghost use Rattle.crs_shape.specs.Words.{direction_word};
 ghost use Rattle.crs_shape.specs.declared.direction.Direction.{Direction};
 ghost use Rattle.crs_shape.specs.declared.unit_kind.UnitKind.{UnitKind};
 ghost use Rattle.crs_shape.specs.declared.unit_kind.UnitKind.TheVariants as kinds;
+ghost use Rattle.crs_value.specs.Reads.{ReadsAxisMeridian};
 ghost use Rattle.crs_value.specs.Values.{AxisMeridianParts, IdentParts, UnitParts};
 ghost use Rattle.crs_normal.specs.PartTexts.{axis_meridian_text, axis_text};
 ghost use Rattle.crs_normal.specs.SpelledItems.{each, number_node, opt, word_item};
 ghost use Rattle.crs_normal.specs.SpelledSystems.{item_axis_meridian, norm_axis_meridians};
 ghost use Rattle.crs_normal.specs.SpelledUnits.{item_ident, item_unit, norm_units, set_idents};
-ghost use Rattle.crs_leaves.specs.Openings.{named_node, numbered_node};
+ghost use Rattle.crs_nodes.specs.Cursor.{item};
 ghost use Rattle.crs_nodes.specs.Found.{SaysIfAny};
+ghost use Rattle.crs_leaves.specs.Openings.{named_node, numbered_node};
 
 use crate::parts::{IdentsPart, NumberPart, Part, UnitPart, write_optional, write_optional_number};
 use crate::spell::Spell;
 use crate::spelling::unit::write_optional_unit;
-use crs_leaves::{append, open_text};
+use crs_leaves::{append, append_item, open_text};
 use crs_nodes::Node;
 use crs_shape::Class;
 use crs_value::{Axis, AxisMeridian, Direction, Level, UnitKind};
 use std::alloc::AllocError;
-
-/// Appends the word of a direction after a comma. Profile.
-///
-/// `AllocError`: there is no memory for it.
-pub fn write_direction(out: &mut Vec<u8>, direction: Direction) -> Result<(), AllocError>
-    ensures { OnOk result (out.new.items
-        ≡ out.old.items ++ 44 ∷ item_text (word_item (direction_word direction))) }
-{
-    append(out, b",")?;
-    append(out, direction.word().as_bytes())
-}
 
 // After an opening; with its unit, if there is one.
 #[tactic(auto, using(crate::proofs::FlatLemmas::along_rules))]
@@ -61,9 +51,6 @@ impl Spell for AxisMeridian<'_> {
 }
 
 impl<'c, 'i, 'a> Part<AxisMeridian<'a>> for &'c Node<'i, 'a> {
-    ghost use Rattle.crs_value.specs.Reads.{ReadsAxisMeridian};
-    ghost use Rattle.crs_nodes.specs.Cursor.{item};
-
     ghost Says = { λ n m. ReadsAxisMeridian n.now.class (item n.now) m };
 
     fn put(&self, out: &mut Vec<u8>, level: Level) -> Result<(), AllocError> {
@@ -108,7 +95,7 @@ impl<'n, 'a, M: Part<AxisMeridian<'a>>, N: NumberPart, U: UnitPart, I: IdentsPar
             (each item_ident (set_idents level is) End)))))) }
     {
         open_text(out, opening, self.name)?;
-        write_direction(out, self.direction)?;
+        append_item(out, self.direction.word().as_bytes())?;
         write_optional::<AxisMeridian<'a>, M>(out, self.meridian, level)?;
         write_optional_number(out, b",ORDER[", self.order)?;
         write_optional_unit(out, self.asked, self.unit, level)?;

@@ -5,6 +5,8 @@ ghost use Rattle.crs_text.specs.Items.{End, More};
 ghost use Rattle.crs_text.specs.Written.{item_text};
 ghost use Rattle.crs_value.specs.Reading.{ReadsOne};
 ghost use Rattle.crs_value.specs.Reads.{ReadsDatum, ReadsEnsemble};
+ghost use Rattle.crs_value.specs.ReadsCrs.{ReadsGeodeticFrame, ReadsVerticalFrame};
+ghost use Rattle.crs_value.specs.ReadsNamed.{ReadsNamed};
 ghost use Rattle.crs_value.specs.Values.{DatumParts, EnsembleParts};
 ghost use Rattle.crs_value.specs.declared.values.frame.Frame.{Frame};
 ghost use Rattle.crs_normal.specs.PartTexts.{datum_text, ensemble_text, frame_text, member_text};
@@ -13,9 +15,9 @@ ghost use Rattle.crs_normal.specs.SpelledFrames.{item_datum, item_ensemble, norm
 ghost use Rattle.crs_normal.specs.SpelledItems.{each, number_node, opt, text_node};
 ghost use Rattle.crs_normal.specs.SpelledUnits.{item_ident, set_idents};
 ghost use Rattle.crs_nodes.specs.Cursor.{item};
+ghost use Rattle.crs_nodes.specs.Found.{SaysIfAny};
 ghost use Rattle.crs_leaves.specs.Direct.{Writes};
 ghost use Rattle.crs_leaves.specs.Openings.{named_node};
-ghost use Rattle.crs_nodes.specs.Found.{SaysIfAny};
 
 use crate::chain::ReadAs;
 use crate::members::MembersPart;
@@ -40,9 +42,7 @@ impl Spell for Member<'_> {
 }
 
 impl<'a> ReadAs<'a> for Member<'a> {
-    ghost use Rattle.crs_value.specs.ReadsNamed.{ReadsNamed};
-
-    ghost Reads = { λ c item m. ReadsNamed c item m };
+    ghost Reads = { ReadsNamed };
 
     fn write_of(node: &Node<'_, 'a>, out: &mut Vec<u8>, level: Level) -> Result<(), AllocError> {
         write_named(out, b"MEMBER[\"", node.text(), node, level)
@@ -210,23 +210,6 @@ impl Spell for Ensemble<'_> {
     }
 }
 
-// Of an item, after a comma.
-fn write_ensemble_in(out: &mut Vec<u8>, node: &Node<'_, '_>, level: Level) -> Result<(), AllocError>
-    ensures { OnOk result (Writes (ReadsEnsemble node.now.class (item node.now))
-        (λ e. 44 ∷ item_text (item_ensemble (norm_ensemble level e))) out.old.items out.new.items) }
-{
-    let ellipsoid = node.first(Class::Ellipsoid);
-    let members = node.all(Class::Member);
-    EnsembleFields {
-        name: node.text(),
-        members: &members,
-        ellipsoid: ellipsoid.as_ref(),
-        accuracy: node.one_number(Class::EnsembleAccuracy),
-        ids: node,
-    }
-    .write(out, b",ENSEMBLE[\"", level)
-}
-
 impl Spell for Frame<'_> {
     ghost spelling = { frame_text };
 
@@ -275,7 +258,7 @@ impl<'b, 'a> FramePart for &'b Frame<'a> {
     }
 }
 
-// An ensemble of this class that a node has in the place of a frame.
+// An ensemble of this class that a node has in the place of a frame, after a comma.
 fn write_ensemble_of(
     out: &mut Vec<u8>,
     node: &Node<'_, '_>,
@@ -285,16 +268,22 @@ fn write_ensemble_of(
     ensures { OnOk result (Writes (ReadsOne ReadsEnsemble class node.now.class (item node.now))
         (λ e. 44 ∷ item_text (item_ensemble (norm_ensemble level e))) out.old.items out.new.items) }
 {
-    match node.first(class) {
-        None => Ok(()),
-        Some(found) => write_ensemble_in(out, &found, level),
+    let Some(found) = node.first(class) else {
+        return Ok(());
+    };
+    let ellipsoid = found.first(Class::Ellipsoid);
+    let members = found.all(Class::Member);
+    EnsembleFields {
+        name: found.text(),
+        members: &members,
+        ellipsoid: ellipsoid.as_ref(),
+        accuracy: found.one_number(Class::EnsembleAccuracy),
+        ids: &found,
     }
+    .write(out, b",ENSEMBLE[\"", level)
 }
 
 impl<'c, 'i, 'a> FramePart for &'c Node<'i, 'a> {
-    ghost use Rattle.crs_value.specs.ReadsCrs.{ReadsGeodeticFrame, ReadsVerticalFrame};
-    ghost use Rattle.crs_nodes.specs.Cursor.{item};
-
     ghost SaysGeodetic = { λ n f. ReadsGeodeticFrame n.now.class (item n.now) f };
 
     ghost SaysVertical = { λ n f. ReadsVerticalFrame n.now.class (item n.now) f };

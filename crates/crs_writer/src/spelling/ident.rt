@@ -1,17 +1,17 @@
 //! Identifiers, and nodes that have a name and identifiers alone.
-ghost use Rattle.std.specs.Prelude.{◌≡◌, ◌++◌, ℕ, List, OnOk, Option, codes, map};
+ghost use Rattle.std.specs.Prelude.{◌≡◌, ◌++◌, ℕ, List, OnOk, Option, map};
 ghost use Rattle.std.specs.Option.{option_copied};
-ghost use Rattle.crs_text.specs.Items.{End, More};
+ghost use Rattle.crs_text.specs.Items.{End};
 ghost use Rattle.crs_text.specs.Written.{item_text, others_text};
-ghost use Rattle.crs_value.specs.Reads.{ReadsIds};
+ghost use Rattle.crs_value.specs.Reads.{ReadsIdent, ReadsIds};
 ghost use Rattle.crs_value.specs.Values.{IdentParts};
 ghost use Rattle.crs_normal.specs.PartTexts.{ident_text};
-ghost use Rattle.crs_normal.specs.SpelledItems.{code_item, each, opt, text_node};
+ghost use Rattle.crs_normal.specs.SpelledItems.{code_item, each, opt};
 ghost use Rattle.crs_normal.specs.SpelledUnits.{item_ident, set_idents};
 ghost use Rattle.crs_nodes.specs.Cursor.{item};
 ghost use Rattle.crs_leaves.specs.Direct.{Writes};
-ghost use Rattle.crs_writer.specs.Members.{set_text};
 ghost use Rattle.crs_leaves.specs.Openings.{named_node};
+ghost use Rattle.crs_writer.specs.Members.{set_text};
 
 use crate::chain::ReadAs;
 use crate::parts::IdentsPart;
@@ -44,16 +44,13 @@ struct IdentFields<'n> {
 }
 
 impl<'n> IdentFields<'n> {
-    // After an opening.
     #[inline(always)]
-    fn write(self, out: &mut Vec<u8>, opening: &[u8]) -> Result<(), AllocError>
-        ensures { OnOk result ((a c : List ℕ) (v r u : Option (List ℕ)) → a ≡ self.entry.authority.now →
-            c ≡ self.entry.code.now → v ≡ option_copied self.entry.version →
-            r ≡ option_copied self.entry.references.0 → u ≡ option_copied self.entry.references.1 →
-            out.new.items ≡ out.old.items ++ named_node opening.now a (More (code_item c) (opt code_item v
-            (opt (text_node (codes "CITATION")) r (opt (text_node (codes "URI")) u End))))) }
+    fn write(self, out: &mut Vec<u8>) -> Result<(), AllocError>
+        ensures { OnOk result ((i : IdentParts) → i.authority ≡ self.entry.authority.now → i.code ≡ self.entry.code.now →
+            i.version ≡ option_copied self.entry.version → i.citation ≡ option_copied self.entry.references.0 →
+            i.uri ≡ option_copied self.entry.references.1 → out.new.items ≡ out.old.items ++ item_text (item_ident i)) }
     {
-        open_text(out, opening, self.authority)?;
+        open_text(out, b"ID[\"", self.authority)?;
         write_code(out, self.code)?;
         write_version(out, self.version)?;
         write_optional_text(out, b",CITATION[\"", self.references.0)?;
@@ -73,14 +70,12 @@ impl Spell for Ident<'_> {
             version: self.version,
             references,
         }
-        .write(out, b"ID[\"")
+        .write(out)
     }
 }
 
 impl<'a> ReadAs<'a> for Ident<'a> {
-    ghost use Rattle.crs_value.specs.Reads.{ReadsIdent};
-
-    ghost Reads = { λ c item i. ReadsIdent c item i };
+    ghost Reads = { ReadsIdent };
 
     fn write_of(node: &Node<'_, 'a>, out: &mut Vec<u8>, _level: Level) -> Result<(), AllocError> {
         if let Some(bytes) = copied::ident(node) {
@@ -92,29 +87,23 @@ impl<'a> ReadAs<'a> for Ident<'a> {
             version: node.version(),
             references: node.references(),
         }
-        .write(out, b"ID[\"")
+        .write(out)
     }
-}
-
-#[inline(always)]
-fn write_ident_set<'a>(out: &mut Vec<u8>, identifiers: &[Ident<'a>]) -> Result<(), AllocError>
-    ensures { OnOk result (out.new.items ≡ out.old.items ++ set_text (map (λ i. item_text (item_ident i)) identifiers.now)) }
-{
-    write_set::<Ident<'a>, &[Ident<'a>]>(out, &identifiers, Level::Full)
 }
 
 // The identifiers that the level keeps of a part.
 #[tactic(auto, using(crate::proofs::WrittenLemmas::written_rules))]
 #[inline(always)]
-pub(crate) fn write_idents(
+pub(crate) fn write_idents<'a>(
     out: &mut Vec<u8>,
-    identifiers: &List<Ident<'_>>,
+    identifiers: &List<Ident<'a>>,
     level: Level,
 ) -> Result<(), AllocError>
     ensures { OnOk result (out.new.items
         ≡ out.old.items ++ others_text (each item_ident (set_idents level identifiers.now) End)) }
 {
-    write_ident_set(out, level.kept(identifiers.as_slice()))
+    let kept = level.kept(identifiers.as_slice());
+    write_set::<Ident<'a>, &[Ident<'a>]>(out, &kept, Level::Full)
 }
 
 impl<'b, 'a> IdentsPart for &'b List<Ident<'a>> {
@@ -149,9 +138,6 @@ fn write_all_idents(node: &Node<'_, '_>, out: &mut Vec<u8>) -> Result<(), AllocE
 }
 
 impl<'c, 'i, 'a> IdentsPart for &'c Node<'i, 'a> {
-    ghost use Rattle.crs_value.specs.Reads.{ReadsIds};
-    ghost use Rattle.crs_nodes.specs.Cursor.{item};
-
     ghost Says = { λ n ids. ReadsIds n.now.class (item n.now) ids };
 
     #[inline(always)]

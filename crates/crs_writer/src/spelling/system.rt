@@ -6,15 +6,15 @@ ghost use Rattle.crs_text.specs.Written.{item_text, others_text};
 ghost use Rattle.crs_shape.specs.Words.{SpellsWord, system_word};
 ghost use Rattle.crs_shape.specs.declared.system_type.SystemType.{SystemType};
 ghost use Rattle.crs_value.specs.Reading.{ReadsFirst, ReadsIfAny};
-ghost use Rattle.crs_value.specs.Reads.{ReadsAxis, ReadsType, ReadsUnit};
+ghost use Rattle.crs_value.specs.Reads.{ReadsAxis, ReadsSystem, ReadsType, ReadsUnit};
 ghost use Rattle.crs_value.specs.Values.{AxisParts, SystemParts, UnitParts};
 ghost use Rattle.crs_matching.specs.SameSystems.{own_or};
-ghost use Rattle.crs_normal.specs.SpelledItems.{each, number_item};
+ghost use Rattle.crs_normal.specs.SpelledItems.{each};
 ghost use Rattle.crs_normal.specs.SpelledSystems.{axes_from, axis_at, item_axis, item_head};
 ghost use Rattle.crs_normal.specs.SpelledSystems.{norm_axis, norm_system, system_items, with_axis};
 ghost use Rattle.crs_nodes.specs.Cursor.{args, item};
-ghost use Rattle.crs_leaves.specs.Direct.{Writes};
 ghost use Rattle.crs_nodes.specs.Found.{SaysIfAny};
+ghost use Rattle.crs_leaves.specs.Direct.{Writes};
 
 use crate::parts::{IdentsPart, NumberPart};
 use crate::spelling::axis::AxisFields;
@@ -53,13 +53,6 @@ pub(crate) trait SystemPart: Copy {
             (with_axis level s position (axis_at position 1 s.axes) []) End)) };
 }
 
-fn open_head(out: &mut Vec<u8>, system_type: SystemType) -> Result<(), AllocError>
-    ensures { OnOk result (out.new.items ≡ out.old.items ++ (44 ∷ 67 ∷ 83 ∷ 91 ∷ system_word system_type)) }
-{
-    append(out, b",CS[")?;
-    append(out, system_type.word().as_bytes())
-}
-
 fn write_head<N: NumberPart, I: IdentsPart>(
     out: &mut Vec<u8>,
     system_type: SystemType,
@@ -70,7 +63,8 @@ fn write_head<N: NumberPart, I: IdentsPart>(
     ensures { OnOk result ((s : SystemParts) → s.system_type ≡ system_type → N.Says dimension s.dimension →
         I.Says ids s.identifiers → out.new.items ≡ out.old.items ++ 44 ∷ item_text (item_head (norm_system level s))) }
 {
-    open_head(out, system_type)?;
+    append(out, b",CS[")?;
+    append(out, system_type.word().as_bytes())?;
     dimension.open(out, b",")?;
     ids.put(out, level)?;
     append(out, b"]")
@@ -199,12 +193,16 @@ fn type_by(word: &[u8]) -> SystemType
     }
 }
 
+// Stands for the type of a system that isn't there. In an accepted text each CRS has one: without it no value is read,
+// and nothing is promised of what is written.
+const NO_TYPE: SystemType = SystemType::Vertical;
+
 // The type of a system, of which this is the node `CS`.
 fn type_of(head: &Node<'_, '_>) -> SystemType
     ensures { (value : SystemType) → ReadsFirst ReadsType (args Class.Word head.now) value → value ≡ result }
 {
     match head.first(Class::Word) {
-        None => SystemType::Vertical,
+        None => NO_TYPE,
         Some(word) => type_by(word.raw()),
     }
 }
@@ -261,21 +259,18 @@ fn write_axis_of<'i, 'a>(
 }
 
 impl<'c, 'i, 'a> SystemPart for &'c Node<'i, 'a> {
-    ghost use Rattle.crs_value.specs.Reads.{ReadsSystem};
-    ghost use Rattle.crs_nodes.specs.Cursor.{item};
-
     ghost Says = { λ n s. ReadsSystem n.now.class (item n.now) s };
 
     fn system_type(&self) -> SystemType {
         match self.first(Class::CoordinateSystem) {
-            None => SystemType::Vertical,
+            None => NO_TYPE,
             Some(head) => type_of(&head),
         }
     }
 
     fn put_head(&self, out: &mut Vec<u8>, level: Level) -> Result<SystemType, AllocError> {
         let Some(head) = self.first(Class::CoordinateSystem) else {
-            return Ok(SystemType::Vertical);
+            return Ok(NO_TYPE);
         };
         let system_type = type_of(&head);
         write_head(out, system_type, head.number(), &head, level)?;

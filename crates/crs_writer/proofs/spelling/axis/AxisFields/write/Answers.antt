@@ -1,4 +1,4 @@
-use Rattle.std.proofs.Common.{◌∷◌, codes}
+use Rattle.std.proofs.Common.{◌∷◌, ◌++◌, ◌∙◌, ℕ, List, ap, codes}
 use Rattle.std.proofs.lemmas.Result.{on_ok_weaker}
 use Rattle.crs_text.specs.Prelude.{End, More, Siblings, item_text}
 use Rattle.crs_shape.specs.Prelude.{direction_word}
@@ -20,7 +20,8 @@ returns g c = on_ok_weaker c.append.result (λ closes name direction meridian or
     let along : Siblings = opt item_axis_meridian (norm_axis_meridians level meridian) ordered in
     closed c.args.opening.now name (More word along) _ _ _ _
     (told (opened c.args.opening.now) name _ _ _ n c.in_ok-open_text.ensures)
-    (then-more word along _ _ _ (told (λ w. 44 ∷ item_text (word_item (direction_word w))) direction _ _ _ d c.in_ok-write_direction.ensures)
+    (then-more word along _ _ _ (told (λ w. 44 ∷ item_text (word_item (direction_word w))) direction _ _ _ d
+    (c.in_ok-append_item.ensures ∙ ap (λ (x : List ℕ). c.open_text.new.out.items ++ 44 ∷ x) (c.as_bytes.ensures.value ∙ c.word.ensures)))
     (then-along level meridian ordered _ _ _ (c.in_ok-write_optional.ensures.writes meridian m)
     (then-number (codes "ORDER") order measured _ _ _ (c.in_ok-write_optional_number.ensures.writes order o)
     (then-unit level kind unit last _ _ _
