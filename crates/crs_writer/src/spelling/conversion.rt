@@ -3,12 +3,14 @@ ghost use Rattle.std.specs.Prelude.{◌≡◌, ◌++◌, OnOk};
 ghost use Rattle.crs_text.specs.Items.{End, More};
 ghost use Rattle.crs_shape.specs.declared.unit_kind.UnitKind.TheVariants as kinds;
 ghost use Rattle.crs_value.specs.ConversionValues.{ConversionParts, ParameterParts};
+ghost use Rattle.crs_value.specs.ReadsConversion.{ReadsConversion, ReadsGeoidModel, ReadsMethod, ReadsParameter};
 ghost use Rattle.crs_normal.specs.PartTexts.{conversion_text, geoid_model_text, method_text, parameter_text};
 ghost use Rattle.crs_normal.specs.SpelledConversions.{item_method, item_parameter, norm_method, set_parameters};
 ghost use Rattle.crs_normal.specs.SpelledItems.{each, number_item, opt};
 ghost use Rattle.crs_normal.specs.SpelledUnits.{item_ident, item_unit, norm_units, set_idents};
-ghost use Rattle.crs_leaves.specs.Openings.{named_node};
+ghost use Rattle.crs_nodes.specs.Cursor.{item};
 ghost use Rattle.crs_nodes.specs.Found.{SaysIfAny};
+ghost use Rattle.crs_leaves.specs.Openings.{named_node};
 
 use crate::chain::ReadAs;
 use crate::members::MembersPart;
@@ -32,9 +34,6 @@ impl Spell for Method<'_> {
 }
 
 impl<'c, 'i, 'a> Part<Method<'a>> for &'c Node<'i, 'a> {
-    ghost use Rattle.crs_value.specs.ReadsConversion.{ReadsMethod};
-    ghost use Rattle.crs_nodes.specs.Cursor.{item};
-
     ghost Says = { λ n m. ReadsMethod n.now.class (item n.now) m };
 
     fn put(&self, out: &mut Vec<u8>, level: Level) -> Result<(), AllocError> {
@@ -86,9 +85,7 @@ impl Spell for Parameter<'_> {
 }
 
 impl<'a> ReadAs<'a> for Parameter<'a> {
-    ghost use Rattle.crs_value.specs.ReadsConversion.{ReadsParameter};
-
-    ghost Reads = { λ c item p. ReadsParameter c item p };
+    ghost Reads = { ReadsParameter };
 
     fn write_of(node: &Node<'_, 'a>, out: &mut Vec<u8>, level: Level) -> Result<(), AllocError> {
         if let Some(bytes) = copied::parameter(node, level) {
@@ -155,9 +152,6 @@ impl<'a> Spell for Conversion<'a> {
 }
 
 impl<'c, 'i, 'a> Part<Conversion<'a>> for &'c Node<'i, 'a> {
-    ghost use Rattle.crs_value.specs.ReadsConversion.{ReadsConversion};
-    ghost use Rattle.crs_nodes.specs.Cursor.{item};
-
     ghost Says = { λ n c. ReadsConversion n.now.class (item n.now) c };
 
     fn put(&self, out: &mut Vec<u8>, level: Level) -> Result<(), AllocError> {
@@ -182,9 +176,7 @@ impl Spell for GeoidModel<'_> {
 }
 
 impl<'a> ReadAs<'a> for GeoidModel<'a> {
-    ghost use Rattle.crs_value.specs.ReadsConversion.{ReadsGeoidModel};
-
-    ghost Reads = { λ c item g. ReadsGeoidModel c item g };
+    ghost Reads = { ReadsGeoidModel };
 
     fn write_of(node: &Node<'_, 'a>, out: &mut Vec<u8>, level: Level) -> Result<(), AllocError> {
         write_named(out, b"GEOIDMODEL[\"", node.text(), node, level)

@@ -1,9 +1,9 @@
 //! CRSs of any kind.
 ghost use Rattle.std.specs.Prelude.{OnOk};
 ghost use Rattle.crs_value.specs.ReadsCrs.{ReadsCrs};
-ghost use Rattle.crs_writer.specs.CrsText.{crs_text};
 ghost use Rattle.crs_nodes.specs.Cursor.{item};
 ghost use Rattle.crs_leaves.specs.Direct.{IsRead, Writes};
+ghost use Rattle.crs_writer.specs.CrsText.{crs_text};
 
 use crate::spell::Spell;
 use crate::spelling::compound::write_compound_of;

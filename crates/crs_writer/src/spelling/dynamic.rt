@@ -6,9 +6,11 @@ ghost use Rattle.crs_decimal.specs.Value.{Value};
 ghost use Rattle.crs_text.specs.Items.{End};
 ghost use Rattle.crs_text.specs.Written.{others_text};
 ghost use Rattle.crs_value.specs.DynamicValues.{DeformationModelParts};
+ghost use Rattle.crs_value.specs.ReadsDynamic.{ReadsDeformationModel, ReadsDynamic};
 ghost use Rattle.crs_normal.specs.PartTexts.{deformation_model_text, dynamic_text};
 ghost use Rattle.crs_normal.specs.SpelledDynamic.{item_deformation_model, norm_deformation_model};
 ghost use Rattle.crs_normal.specs.SpelledItems.{opt};
+ghost use Rattle.crs_nodes.specs.Cursor.{item};
 ghost use Rattle.crs_nodes.specs.Found.{SaysIfAny};
 
 use crate::parts::{NumberPart, Part, write_number_node, write_optional};
@@ -29,9 +31,6 @@ impl Spell for DeformationModel<'_> {
 }
 
 impl<'c, 'i, 'a> Part<DeformationModel<'a>> for &'c Node<'i, 'a> {
-    ghost use Rattle.crs_value.specs.ReadsDynamic.{ReadsDeformationModel};
-    ghost use Rattle.crs_nodes.specs.Cursor.{item};
-
     ghost Says = { λ n m. ReadsDeformationModel n.now.class (item n.now) m };
 
     fn put(&self, out: &mut Vec<u8>, level: Level) -> Result<(), AllocError> {
@@ -72,9 +71,6 @@ impl Spell for Dynamic<'_> {
 }
 
 impl<'c, 'i, 'a> Part<Dynamic<'a>> for &'c Node<'i, 'a> {
-    ghost use Rattle.crs_value.specs.ReadsDynamic.{ReadsDynamic};
-    ghost use Rattle.crs_nodes.specs.Cursor.{item};
-
     ghost Says = { λ n d. ReadsDynamic n.now.class (item n.now) d };
 
     fn put(&self, out: &mut Vec<u8>, level: Level) -> Result<(), AllocError> {

@@ -1,12 +1,14 @@
 //! Ellipsoids.
 ghost use Rattle.std.specs.Prelude.{◌≡◌, ◌++◌, OnOk, Some};
 ghost use Rattle.crs_text.specs.Items.{End, More};
+ghost use Rattle.crs_value.specs.Reads.{ReadsEllipsoid};
 ghost use Rattle.crs_value.specs.Values.{EllipsoidParts};
 ghost use Rattle.crs_normal.specs.PartTexts.{ellipsoid_text};
 ghost use Rattle.crs_normal.specs.SpelledItems.{each, number_item, opt};
 ghost use Rattle.crs_normal.specs.SpelledUnits.{item_ident, item_unit, norm_length, set_idents};
-ghost use Rattle.crs_leaves.specs.Openings.{named_node};
+ghost use Rattle.crs_nodes.specs.Cursor.{item};
 ghost use Rattle.crs_nodes.specs.Found.{SaysIfAny};
+ghost use Rattle.crs_leaves.specs.Openings.{named_node};
 
 use crate::parts::{IdentsPart, NumberPart, Part, UnitPart};
 use crate::spell::Spell;
@@ -63,9 +65,6 @@ impl Spell for Ellipsoid<'_> {
 }
 
 impl<'c, 'i, 'a> Part<Ellipsoid<'a>> for &'c Node<'i, 'a> {
-    ghost use Rattle.crs_value.specs.Reads.{ReadsEllipsoid};
-    ghost use Rattle.crs_nodes.specs.Cursor.{item};
-
     ghost Says = { λ n e. ReadsEllipsoid n.now.class (item n.now) e };
 
     fn put(&self, out: &mut Vec<u8>, level: Level) -> Result<(), AllocError> {

@@ -4,14 +4,16 @@ ghost use Rattle.crs_decimal.specs.Value.{Value};
 ghost use Rattle.crs_text.specs.Items.{End, More};
 ghost use Rattle.crs_text.specs.Written.{item_text, others_text};
 ghost use Rattle.crs_shape.specs.declared.unit_kind.UnitKind.TheVariants as kinds;
+ghost use Rattle.crs_value.specs.Reads.{ReadsMeridian};
 ghost use Rattle.crs_value.specs.Values.{IdentParts, UnitParts};
 ghost use Rattle.crs_normal.specs.PartTexts.{meridian_text};
 ghost use Rattle.crs_normal.specs.SpelledFrames.{greenwich, is_zero, item_meridian, norm_meridian};
 ghost use Rattle.crs_normal.specs.SpelledItems.{each, number_item, opt};
 ghost use Rattle.crs_normal.specs.SpelledUnits.{item_ident, item_unit, norm_units, set_idents};
+ghost use Rattle.crs_nodes.specs.Cursor.{item};
+ghost use Rattle.crs_nodes.specs.Found.{SaysIfAny};
 ghost use Rattle.crs_leaves.specs.Direct.{Writes};
 ghost use Rattle.crs_leaves.specs.Openings.{named_node};
-ghost use Rattle.crs_nodes.specs.Found.{SaysIfAny};
 
 use crate::parts::{IdentsPart, NumberPart, Part, UnitPart};
 use crate::spell::Spell;
@@ -83,9 +85,6 @@ impl Spell for Meridian<'_> {
 }
 
 impl<'c, 'i, 'a> Part<Meridian<'a>> for &'c Node<'i, 'a> {
-    ghost use Rattle.crs_value.specs.Reads.{ReadsMeridian};
-    ghost use Rattle.crs_nodes.specs.Cursor.{item};
-
     ghost Says = { λ n m. ReadsMeridian n.now.class (item n.now) m };
 
     fn put(&self, out: &mut Vec<u8>, level: Level) -> Result<(), AllocError> {

@@ -145,9 +145,6 @@ fn remark_of<'a>(node: &Node<'_, 'a>, level: Level) -> Option<&'a [u8]>
 }
 
 impl<'c, 'i, 'a> TailPart for &'c Node<'i, 'a> {
-    ghost use Rattle.crs_value.specs.Reads.{ReadsTail};
-    ghost use Rattle.crs_nodes.specs.Cursor.{item};
-
     ghost Says = { λ n t. ReadsTail n.now.class (item n.now) t };
 
     #[tactic(auto, using(crate::proofs::PieceLemmas::then_rules))]
