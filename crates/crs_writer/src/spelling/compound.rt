@@ -1,14 +1,10 @@
 //! Compound CRSs, and their horizontal parts.
 ghost use Rattle.std.specs.Prelude.{◌≡◌, ◌++◌, OnOk};
-ghost use Rattle.crs_text.specs.Items.{More};
 ghost use Rattle.crs_value.specs.CompoundValues.{CompoundParts};
 ghost use Rattle.crs_value.specs.ReadsCrs.{ReadsCompound, ReadsHorizontal};
 ghost use Rattle.crs_normal.specs.PartTexts.{compound_text, horizontal_text};
-ghost use Rattle.crs_normal.specs.SpelledCrs.{item_horizontal, item_vertical, norm_horizontal, norm_vertical};
-ghost use Rattle.crs_normal.specs.SpelledUsages.{norm_tail, tail_items};
 ghost use Rattle.crs_nodes.specs.Cursor.{item};
 ghost use Rattle.crs_leaves.specs.Direct.{Writes};
-ghost use Rattle.crs_leaves.specs.Openings.{named_node};
 
 use crate::parts::Part;
 use crate::spell::Spell;
@@ -32,33 +28,22 @@ impl Spell for Horizontal<'_> {
     }
 }
 
-// The horizontal part of a compound CRS.
-fn write_horizontal(node: &Node<'_, '_>, out: &mut Vec<u8>, level: Level) -> Result<(), AllocError>
-    ensures { OnOk result (Writes (ReadsHorizontal node.now.class (item node.now)) (horizontal_text level)
-        out.old.items out.new.items) }
-{
-    if let Some(found) = node.first(Class::GeodeticCrs) {
-        return write_geodetic_of(&found, out, level);
-    }
-    if let Some(found) = node.first(Class::GeographicCrs) {
-        return write_geodetic_of(&found, out, level);
-    }
-    match node.first(Class::ProjectedCrs) {
-        None => Ok(()),
-        Some(found) => write_projected_of(&found, out, level),
-    }
-}
-
 // In the node of the compound CRS.
 impl<'c, 'i, 'a> Part<Horizontal<'a>> for &'c Node<'i, 'a> {
-    ghost use Rattle.crs_value.specs.ReadsCrs.{ReadsHorizontal};
-    ghost use Rattle.crs_nodes.specs.Cursor.{item};
-
     ghost Says = { λ n h. ReadsHorizontal n.now.class (item n.now) h };
 
     fn put(&self, out: &mut Vec<u8>, level: Level) -> Result<(), AllocError> {
         append(out, b",")?;
-        write_horizontal(*self, out, level)
+        if let Some(found) = self.first(Class::GeodeticCrs) {
+            return write_geodetic_of(&found, out, level);
+        }
+        if let Some(found) = self.first(Class::GeographicCrs) {
+            return write_geodetic_of(&found, out, level);
+        }
+        match self.first(Class::ProjectedCrs) {
+            None => Ok(()),
+            Some(found) => write_projected_of(&found, out, level),
+        }
     }
 }
 
@@ -77,15 +62,12 @@ impl<'n, 'a, H: Part<Horizontal<'a>>, V: Part<Vertical<'a>>, T: TailPart> Compou
     V,
     T,
 > {
-    // After an opening.
-    fn write(self, out: &mut Vec<u8>, opening: &[u8], level: Level) -> Result<(), AllocError>
+    fn write(self, out: &mut Vec<u8>, level: Level) -> Result<(), AllocError>
         ensures { OnOk result ((p : CompoundParts) → p.name ≡ self.entry.name.now →
             H.Says self.entry.horizontal p.horizontal → V.Says self.entry.vertical p.vertical →
-            T.Says self.entry.tail p.tail → out.new.items ≡ out.old.items ++ named_node opening.now p.name
-            (More (item_horizontal (norm_horizontal level p.horizontal)) (More (item_vertical (norm_vertical level p.vertical))
-            (tail_items (norm_tail level p.tail))))) }
+            T.Says self.entry.tail p.tail → out.new.items ≡ out.old.items ++ compound_text level p) }
     {
-        open_text(out, opening, self.name)?;
+        open_text(out, b"COMPOUNDCRS[\"", self.name)?;
         self.horizontal.put(out, level)?;
         self.vertical.put(out, level)?;
         self.tail.put(out, level)?;
@@ -103,7 +85,7 @@ impl Spell for Compound<'_> {
             vertical: &self.vertical,
             tail: &self.tail,
         }
-        .write(out, b"COMPOUNDCRS[\"", level)
+        .write(out, level)
     }
 }
 
@@ -116,13 +98,12 @@ pub(crate) fn write_compound_of(
     ensures { OnOk result (Writes (ReadsCompound node.now.class (item node.now)) (compound_text level)
         out.old.items out.new.items) }
 {
-    let tail = node;
     let vertical = node.first(Class::VerticalCrs);
     CompoundFields {
         name: node.text(),
         horizontal: node,
         vertical: vertical.as_ref(),
-        tail,
+        tail: node,
     }
-    .write(out, b"COMPOUNDCRS[\"", level)
+    .write(out, level)
 }

@@ -15,8 +15,8 @@ ghost use Rattle.crs_normal.specs.SpelledItems.{node_of, opt, text_item};
 ghost use Rattle.crs_normal.specs.SpelledSystems.{norm_system, system_items};
 ghost use Rattle.crs_normal.specs.SpelledUsages.{norm_tail, tail_items};
 ghost use Rattle.crs_nodes.specs.Cursor.{item};
-ghost use Rattle.crs_leaves.specs.Direct.{Writes};
 ghost use Rattle.crs_nodes.specs.Found.{SaysIfAny};
+ghost use Rattle.crs_leaves.specs.Direct.{Writes};
 
 use crate::parts::{Part, write_optional};
 use crate::spell::Spell;
@@ -111,8 +111,6 @@ pub(crate) fn write_geodetic_of(
     ensures { OnOk result (Writes (ReadsGeodetic node.now.class (item node.now)) (geodetic_text level)
         out.old.items out.new.items) }
 {
-    let system = node;
-    let tail = node;
     let dynamic = node.first(Class::Dynamic);
     let meridian = node.first(Class::PrimeMeridian);
     GeodeticFields {
@@ -120,8 +118,8 @@ pub(crate) fn write_geodetic_of(
         dynamic: dynamic.as_ref(),
         frame: node,
         meridian: meridian.as_ref(),
-        system,
-        tail,
+        system: node,
+        tail: node,
     }
     .write(out, level)
 }

@@ -5,22 +5,18 @@ ghost use Rattle.crs_text.specs.Items.{More, End};
 ghost use Rattle.crs_shape.specs.declared.unit_kind.UnitKind.TheVariants as kinds;
 ghost use Rattle.crs_value.specs.CrsValues.{ProjectedParts};
 ghost use Rattle.crs_value.specs.DynamicValues.{DynamicParts};
-ghost use Rattle.crs_value.specs.ReadsCrs.{ReadsProjected};
+ghost use Rattle.crs_value.specs.ReadsCrs.{ReadsBase, ReadsProjected};
 ghost use Rattle.crs_value.specs.Values.{IdentParts, MeridianParts, UnitParts};
 ghost use Rattle.crs_value.specs.declared.values.frame.Frame.{Frame};
 ghost use Rattle.crs_normal.specs.PartTexts.{base_text, projected_text};
-ghost use Rattle.crs_normal.specs.SpelledConversions.{item_conversion, norm_conversion};
-ghost use Rattle.crs_normal.specs.SpelledCrs.{item_base, norm_base};
 ghost use Rattle.crs_normal.specs.SpelledDynamic.{item_dynamic, norm_dynamic};
 ghost use Rattle.crs_normal.specs.SpelledFrames.{item_frame, item_meridian, norm_frame, norm_meridian};
 ghost use Rattle.crs_normal.specs.SpelledItems.{each, opt};
-ghost use Rattle.crs_normal.specs.SpelledSystems.{norm_system, system_items};
 ghost use Rattle.crs_normal.specs.SpelledUnits.{item_ident, item_unit, norm_units, set_idents};
-ghost use Rattle.crs_normal.specs.SpelledUsages.{norm_tail, tail_items};
 ghost use Rattle.crs_nodes.specs.Cursor.{item};
+ghost use Rattle.crs_nodes.specs.Found.{SaysIfAny};
 ghost use Rattle.crs_leaves.specs.Direct.{Writes};
 ghost use Rattle.crs_leaves.specs.Openings.{named_node};
-ghost use Rattle.crs_nodes.specs.Found.{SaysIfAny};
 
 use crate::parts::{IdentsPart, Part, UnitPart, write_optional};
 use crate::spell::Spell;
@@ -93,9 +89,6 @@ impl Spell for Base<'_> {
 }
 
 impl<'c, 'i, 'a> Part<Base<'a>> for &'c Node<'i, 'a> {
-    ghost use Rattle.crs_value.specs.ReadsCrs.{ReadsBase};
-    ghost use Rattle.crs_nodes.specs.Cursor.{item};
-
     ghost Says = { λ n b. ReadsBase n.now.class (item n.now) b };
 
     fn put(&self, out: &mut Vec<u8>, level: Level) -> Result<(), AllocError> {
@@ -132,16 +125,12 @@ impl<
     S: SystemPart,
     T: TailPart,
 > ProjectedFields<'n, B, C, S, T> {
-    // After an opening.
-    fn write(self, out: &mut Vec<u8>, opening: &[u8], level: Level) -> Result<(), AllocError>
+    fn write(self, out: &mut Vec<u8>, level: Level) -> Result<(), AllocError>
         ensures { OnOk result ((p : ProjectedParts) → p.name ≡ self.entry.name.now → B.Says self.entry.base p.base →
             C.Says self.entry.conversion p.conversion → S.Says self.entry.system p.system →
-            T.Says self.entry.tail p.tail →
-            out.new.items ≡ out.old.items ++ named_node opening.now p.name (More (item_base (norm_base level p.base))
-            (More (item_conversion (norm_conversion level p.conversion))
-            (system_items (norm_system level p.system) (tail_items (norm_tail level p.tail)))))) }
+            T.Says self.entry.tail p.tail → out.new.items ≡ out.old.items ++ projected_text level p) }
     {
-        open_text(out, opening, self.name)?;
+        open_text(out, b"PROJCRS[\"", self.name)?;
         self.base.put(out, level)?;
         self.conversion.put(out, level)?;
         write_system(out, self.system, level)?;
@@ -161,7 +150,7 @@ impl Spell for Projected<'_> {
             system: &self.system,
             tail: &self.tail,
         }
-        .write(out, b"PROJCRS[\"", level)
+        .write(out, level)
     }
 }
 
@@ -174,7 +163,6 @@ pub(crate) fn write_projected_of(
     ensures { OnOk result (Writes (ReadsProjected node.now.class (item node.now)) (projected_text level)
         out.old.items out.new.items) }
 {
-    let tail = node;
     let base = node.first(Class::BaseCrs);
     let conversion = node.first(Class::Conversion);
     ProjectedFields {
@@ -182,7 +170,7 @@ pub(crate) fn write_projected_of(
         base: base.as_ref(),
         conversion: conversion.as_ref(),
         system: node,
-        tail,
+        tail: node,
     }
-    .write(out, b"PROJCRS[\"", level)
+    .write(out, level)
 }

@@ -1,20 +1,11 @@
 //! Vertical CRSs.
-ghost use Rattle.std.specs.Prelude.{◌≡◌, ◌++◌, OnOk, Option, codes};
-ghost use Rattle.std.specs.Option.{option_map};
-ghost use Rattle.crs_text.specs.Items.{More};
+ghost use Rattle.std.specs.Prelude.{◌≡◌, ◌++◌, OnOk};
 ghost use Rattle.crs_value.specs.CrsValues.{VerticalParts};
 ghost use Rattle.crs_value.specs.ReadsCrs.{ReadsVertical};
 ghost use Rattle.crs_normal.specs.PartTexts.{vertical_text};
-ghost use Rattle.crs_normal.specs.SpelledConversions.{item_geoid_model, set_geoid_models};
-ghost use Rattle.crs_normal.specs.SpelledDynamic.{item_dynamic, norm_dynamic};
-ghost use Rattle.crs_normal.specs.SpelledFrames.{item_frame, norm_frame};
-ghost use Rattle.crs_normal.specs.SpelledItems.{each, opt};
-ghost use Rattle.crs_normal.specs.SpelledSystems.{norm_system, system_items};
-ghost use Rattle.crs_normal.specs.SpelledUsages.{norm_tail, tail_items};
 ghost use Rattle.crs_nodes.specs.Cursor.{item};
-ghost use Rattle.crs_leaves.specs.Direct.{Writes};
-ghost use Rattle.crs_leaves.specs.Openings.{named_node};
 ghost use Rattle.crs_nodes.specs.Found.{SaysIfAny};
+ghost use Rattle.crs_leaves.specs.Direct.{Writes};
 
 use crate::members::MembersPart;
 use crate::parts::{Part, write_optional};
@@ -50,18 +41,14 @@ impl<
     G: MembersPart<GeoidModel<'a>>,
     T: TailPart,
 > VerticalFields<'n, 'm, D, F, S, G, T> {
-    // After an opening.
-    fn write(self, out: &mut Vec<u8>, opening: &[u8], level: Level) -> Result<(), AllocError>
+    fn write(self, out: &mut Vec<u8>, level: Level) -> Result<(), AllocError>
         requires { G.Hold self.models.now }
         ensures { OnOk result ((v : VerticalParts) → v.name ≡ self.entry.name.now →
             SaysIfAny D.Says self.entry.dynamic v.dynamic → F.SaysVertical self.entry.frame v.frame →
             S.Says self.entry.system v.system → G.Say self.entry.models.now v.geoid_models →
-            T.Says self.entry.tail v.tail → out.new.items ≡ out.old.items ++ named_node opening.now v.name
-            (opt item_dynamic (option_map (norm_dynamic level) v.dynamic)
-            (More (item_frame (codes "VDATUM") (norm_frame level v.frame)) (system_items (norm_system level v.system)
-            (each item_geoid_model (set_geoid_models level v.geoid_models) (tail_items (norm_tail level v.tail))))))) }
+            T.Says self.entry.tail v.tail → out.new.items ≡ out.old.items ++ vertical_text level v) }
     {
-        open_text(out, opening, self.name)?;
+        open_text(out, b"VERTCRS[\"", self.name)?;
         write_optional::<Dynamic<'a>, D>(out, self.dynamic, level)?;
         self.frame.put_vertical(out, level)?;
         write_system(out, self.system, level)?;
@@ -84,7 +71,7 @@ impl Spell for Vertical<'_> {
             models: &models,
             tail: &self.tail,
         }
-        .write(out, b"VERTCRS[\"", level)
+        .write(out, level)
     }
 }
 
@@ -97,25 +84,20 @@ pub(crate) fn write_vertical_of(
     ensures { OnOk result (Writes (ReadsVertical node.now.class (item node.now)) (vertical_text level)
         out.old.items out.new.items) }
 {
-    let system = node;
-    let tail = node;
     let dynamic = node.first(Class::Dynamic);
     let models = node.all(Class::GeoidModel);
     VerticalFields {
         name: node.text(),
         dynamic: dynamic.as_ref(),
         frame: node,
-        system,
+        system: node,
         models: &models,
-        tail,
+        tail: node,
     }
-    .write(out, b"VERTCRS[\"", level)
+    .write(out, level)
 }
 
 impl<'c, 'i, 'a> Part<Vertical<'a>> for &'c Node<'i, 'a> {
-    ghost use Rattle.crs_value.specs.ReadsCrs.{ReadsVertical};
-    ghost use Rattle.crs_nodes.specs.Cursor.{item};
-
     ghost Says = { λ n v. ReadsVertical n.now.class (item n.now) v };
 
     fn put(&self, out: &mut Vec<u8>, level: Level) -> Result<(), AllocError> {

@@ -1,3 +1,4 @@
+use Rattle.std.proofs.Common.{codes}
 use Rattle.std.proofs.lemmas.Result.{on_ok_weaker}
 use Rattle.crs_text.specs.Prelude.{More, Siblings}
 use Rattle.crs_normal.specs.Prelude.{item_base, item_conversion, norm_base, norm_conversion, norm_system, norm_tail, system_items, tail_items}
@@ -14,8 +15,8 @@ returns g c = on_ok_weaker c.append.result (λ closes p n b v s t.
     let conversion = item_conversion (norm_conversion c.args.level p.conversion) in
     let tail : Siblings = tail_items (norm_tail c.args.level p.tail) in
     let system : Siblings = system_items (norm_system c.args.level p.system) tail in
-    closed c.args.opening.now p.name (More base (More conversion system)) _ _ _ _
-    (told (opened c.args.opening.now) p.name _ _ _ n c.in_ok-open_text.ensures)
+    closed (codes "PROJCRS[\"") p.name (More base (More conversion system)) _ _ _ _
+    (told (opened (codes "PROJCRS[\"")) p.name _ _ _ n c.in_ok-open_text.ensures)
     (then-more base (More conversion system) _ _ _ (c.in_ok-put.ensures.writes p.base b)
     (then-more conversion system _ _ _ (c.in_ok-put-2.ensures.writes p.conversion v)
     (then-system c.args.level p.system tail _ _ _ (c.in_ok-write_system.ensures.writes p.system s) (c.in_ok-put-3.ensures.writes p.tail t))))

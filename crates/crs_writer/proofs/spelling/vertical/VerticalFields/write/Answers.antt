@@ -18,8 +18,8 @@ returns g c = on_ok_weaker c.append.result (λ closes v n d f s m t.
     let tail : Siblings = tail_items (norm_tail level v.tail) in
     let models : Siblings = each item_geoid_model (set_geoid_models level v.geoid_models) tail in
     let system : Siblings = system_items (norm_system level v.system) models in
-    closed c.args.opening.now v.name (opt item_dynamic (option_map (norm_dynamic level) v.dynamic) (More frame system)) _ _ _ _
-    (told (opened c.args.opening.now) v.name _ _ _ n c.in_ok-open_text.ensures)
+    closed (codes "VERTCRS[\"") v.name (opt item_dynamic (option_map (norm_dynamic level) v.dynamic) (More frame system)) _ _ _ _
+    (told (opened (codes "VERTCRS[\"")) v.name _ _ _ n c.in_ok-open_text.ensures)
     (then-part item_dynamic (norm_dynamic level) v.dynamic (More frame system) _ _ _ (c.in_ok-write_optional.ensures.writes v.dynamic d)
     (then-more frame system _ _ _ (c.in_ok-put_vertical.ensures.writes v.frame f)
     (then-system level v.system models _ _ _ (c.in_ok-write_system.ensures.writes v.system s)
