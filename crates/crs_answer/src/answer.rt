@@ -1,6 +1,5 @@
 //! The canonical text of a text that spells a CRS.
 ghost use Rattle.std.specs.Prelude.{◌≡◌, [], IfOk, MatchResult, Some};
-ghost use Rattle.crs_text.specs.TextFault.{SpellsNode};
 ghost use Rattle.crs_shape.specs.ShapeFault.{class_of_root};
 ghost use Rattle.crs_value.specs.Spells.{SpellsCrs};
 ghost use Rattle.crs_value.specs.SpellsText.{IsFaultOfText};
@@ -30,10 +29,8 @@ pub fn canon(alloc: Global, text: &[u8], level: Level) -> Result<Canon, Fault>
     ensures level { IfOk result (λ canon. canon.level ≡ level) }
 {
     let mut room = Vec::new(alloc);
-    match canon_in(alloc, text, level, &mut room) {
-        Ok(canon) => Ok(canon.without_spare_room()),
-        Err(fault) => Err(fault),
-    }
+    let canon = canon_in(alloc, text, level, &mut room)?;
+    Ok(canon.without_spare_room())
 }
 
 /// As `canon`, in the memory of `room` where that has no bytes: `Canon::into_bytes` gives it back, to be cleared for the
@@ -49,27 +46,9 @@ pub fn canon_in(
     ensures level { IfOk result (λ canon. canon.level ≡ level) }
     ensures room { room.new.items ≡ room.old.items }
 {
-    match read_items(alloc, text) {
-        Ok(items) => canon_of_items(alloc, text, &items, level, room),
-        Err(fault) => Err(fault),
-    }
-}
-
-// The canonical text of the CRS that the items of a text spell.
-fn canon_of_items(
-    alloc: Global,
-    text: &[u8],
-    items: &Items<'_>,
-    level: Level,
-    room: &mut Vec<u8>,
-) -> Result<Canon, Fault>
-    requires { SpellsNode text.now items.now }
-    ensures answer { MatchResult result (λ canon. IsCanonicalOf level text.now canon.bytes) (IsFaultOfText text.now) }
-    ensures level { IfOk result (λ canon. canon.level ≡ level) }
-    ensures room { room.new.items ≡ room.old.items }
-{
-    match judge(items) {
-        Ok(class) => match written_from(taken(alloc, room), items, class, level, text.len()) {
+    let items = read_items(alloc, text)?;
+    match judge(&items) {
+        Ok(class) => match written_from(taken(alloc, room), &items, class, level, text.len()) {
             Ok(canon) => Ok(canon),
             Err(error) => Err(Fault::Memory(error)),
         },
