@@ -1,7 +1,7 @@
 -- Spellings of values that are put in order and appended are the text of their set.
-use Rattle.std.proofs.Common.{◌↔◌, ℕ, List, [], ◌∷◌, inl, inr, ⊎_elim, refl, sym, subst}
+use Rattle.std.proofs.Common.{◌≡◌, ◌↔◌, ℕ, List, [], ◌∷◌, ◌++◌, inl, inr, ⊎_elim, refl, sym, subst}
 use Rattle.crs_normal.specs.Prelude.{Ascends, IsCanonicalForm, IsIn, in_order}
-use Rattle.crs_writer.specs.Prelude.{AppendsSpelling, AppendsAll, AreSpellingsOf, IsOnlySpelling, IsSetText, SpellsOneOf, comma_separated}
+use Rattle.crs_writer.specs.Prelude.{AppendsSpelling, AreSpellingsOf, IsOnlySpelling, IsSetText, SpellsOneOf, comma_separated}
 
 module _ {V : Type 0} (IsSpelling : V → List ℕ → Type 0) where
   -- the text of a value is its one spelling
@@ -25,17 +25,17 @@ module _ {V : Type 0} (IsSpelling : V → List ℕ → Type 0) where
   -- what is appended is the text of the set
   pub set-text : ((texts : List (List ℕ)) → Ascends (λ text. text) (in_order (λ text. text) texts)) →
       ((texts : List (List ℕ)) (text : List ℕ) → IsIn text (in_order (λ text. text) texts) ↔ IsIn text texts) →
-      (values : List V) (before after : List ℕ) → AppendsAll comma_separated IsSpelling values before after →
-      AppendsSpelling (IsSetText IsSpelling values) before after
-  set-text ascend same values before after a = record {
-    spelling = comma_separated (in_order (λ text. text) a.texts);
-    appended = a.appended;
+      (values : List V) (texts : List (List ℕ)) (before after : List ℕ) → AreSpellingsOf IsSpelling values texts →
+      after ≡ before ++ comma_separated (in_order (λ text. text) texts) → AppendsSpelling (IsSetText IsSpelling values) before after
+  set-text ascend same values texts before after spelled appended = record {
+    spelling = comma_separated (in_order (λ text. text) texts);
+    appended = appended;
     is_spelling = record {
-      members = in_order (λ text. text) a.texts;
-      ascend = ascend a.texts;
+      members = in_order (λ text. text) texts;
+      ascend = ascend texts;
       same = λ text.
-          let tell = spellings-tell values a.texts a.spelled text in
-          (λ p. tell.0 ((same a.texts text).0 p), λ p. (same a.texts text).1 (tell.1 p));
+          let tell = spellings-tell values texts spelled text in
+          (λ p. tell.0 ((same texts text).0 p), λ p. (same texts text).1 (tell.1 p));
       written = refl;
     };
   }

@@ -1,5 +1,5 @@
 //! The canonical text of a CRS.
-ghost use Rattle.std.specs.Prelude.{◌≡◌, [], IfOk};
+ghost use Rattle.std.specs.Prelude.{◌≡◌, IfOk};
 ghost use Rattle.crs_writer.specs.Canonical.{IsCanonicalText};
 
 use crs_value::laws::crs_is_sound;
@@ -19,24 +19,9 @@ pub fn canon_of(alloc: Global, crs: &Crs<'_>, level: Level) -> Result<Canon, All
     ensures text { IfOk result (λ canon. IsCanonicalText level crs.now canon.bytes) }
     ensures level { IfOk result (λ canon. canon.level ≡ level) }
 {
-    let canon = written(Vec::new(alloc), crs, level, ROOM)?;
-    Ok(canon.without_spare_room())
-}
-
-// The canonical text of a CRS in an empty vector, which has room for so many bytes at first.
-fn written(
-    mut bytes: Vec<u8>,
-    crs: &Crs<'_>,
-    level: Level,
-    room: usize,
-) -> Result<Canon, AllocError>
-    requires { bytes.items ≡ [] }
-    ensures text { IfOk result (λ canon. IsCanonicalText level crs.now canon.bytes) }
-    ensures level { IfOk result (λ canon. canon.level ≡ level) }
-{
     crs_is_sound(crs);
     crss_are_canonical();
-    bytes.reserve(room)?;
+    let mut bytes = Vec::with_capacity(alloc, ROOM)?;
     crs.spell(&mut bytes, level)?;
-    Ok(canon_from(bytes, level))
+    Ok(canon_from(bytes, level).without_spare_room())
 }

@@ -1,5 +1,5 @@
 //! Nodes that are compared and written by themselves.
-ghost use Rattle.std.specs.Prelude.{◌≡◌, ◌↔◌, ℕ, IsTrue, List};
+ghost use Rattle.std.specs.Prelude.{◌↔◌, ℕ, IsTrue, List};
 ghost use Rattle.crs_value.specs.declared.values.level.Level.{Level};
 ghost use Rattle.crs_normal.specs.CanonicalForm.{IsCanonicalForm};
 ghost use Rattle.crs_canon.specs.Appended.{AppendsOrNothing};

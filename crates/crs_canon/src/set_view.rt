@@ -4,7 +4,7 @@ ghost use Rattle.crs_value.specs.Sound.{Each};
 ghost use Rattle.crs_value.specs.declared.values.level.Level.{Level};
 ghost use Rattle.crs_matching.specs.Sets.{AllHaveSame, HasSame, SameSet};
 ghost use Rattle.crs_normal.specs.Ascending.{IsIn};
-ghost use Rattle.crs_writer.specs.Members.{AppendsAll, AreSpellingsOf};
+ghost use Rattle.crs_writer.specs.Members.{AreSpellingsOf};
 ghost use Rattle.crs_writer.specs.SetText.{HaveOneTextWhereSame, IsSetText, commas, comma_separated};
 ghost use Rattle.crs_canon.specs.Appended.{AppendsOrNothing};
 
@@ -53,7 +53,10 @@ impl<'s, T: Canonical> Set<'s, T> {
         ensures { AppendsOrNothing result (IsSetText (T.IsSpelling level) self.now) out.old.items out.new.items }
     {
         sets::texts_are_in_order();
-        append_set(alloc, out, self.members, level)
+        are_spelled(self.members);
+        let mut text = Vec::new(alloc);
+        write_set::<T, &[T]>(&mut text, &self.members, level)?;
+        append_members(out, text.as_slice())
     }
 
     /// The law of sets: each member is a value of its type, and what this set and the other are written as is equal,
@@ -129,21 +132,4 @@ pub(crate) fn append_members(out: &mut Vec<u8>, text: &[u8]) -> Result<(), Alloc
         [] => Ok(()),
         [_, members @ ..] => out.extend_from_slice(members),
     }
-}
-
-// The members in order, where there is memory for them.
-fn append_set<T: Canonical>(
-    alloc: Global,
-    out: &mut Vec<u8>,
-    members: &[T],
-    level: Level,
-) -> Result<(), AllocError>
-    ensures { MatchResult result
-        (λ _. AppendsAll comma_separated (T.IsSpelling level) members.now out.old.items out.new.items)
-        (λ _. out.new.items ≡ out.old.items) }
-{
-    are_spelled(members);
-    let mut text = Vec::new(alloc);
-    write_set::<T, &[T]>(&mut text, &members, level)?;
-    append_members(out, text.as_slice())
 }
