@@ -38,11 +38,3 @@ pub record ArePut {V : Type 0} (IsSpelling : V → List ℕ → Type 0) (values 
   pub texts : List (List ℕ)
   pub spelled : AreSpellingsOf IsSpelling values texts
   pub all_put : after ≡ put_all (λ bytes. bytes) before texts
-
--- the spellings of the values, each once and in order, are appended so
-pub record AppendsAll {V : Type 0} (write : List (List ℕ) → List ℕ)
-    (IsSpelling : V → List ℕ → Type 0)
-    (values : List V) (before after : List ℕ) : Type 0 where
-  pub texts : List (List ℕ)
-  pub spelled : AreSpellingsOf IsSpelling values texts
-  pub appended : after ≡ before ++ write (in_order (λ bytes. bytes) texts)

@@ -3,6 +3,6 @@ pub use Rattle.crs_writer.specs.Canonical.{AppendsSpelling, CanonicalText, IsCan
 pub use Rattle.crs_writer.specs.CrsText.{crs_text}
 pub use Rattle.crs_writer.specs.Equality.{canons_equal}
 pub use Rattle.crs_writer.specs.EqualityLaws.{canons-decide, canons-hash}
-pub use Rattle.crs_writer.specs.Members.{AppendsAll, ArePut, AreSpellingsOf, IsOnlySpelling, lacking, spellings}
+pub use Rattle.crs_writer.specs.Members.{ArePut, AreSpellingsOf, IsOnlySpelling, lacking, spellings}
 unfoldable pub use Rattle.crs_writer.specs.Members.{set_text}
 pub use Rattle.crs_writer.specs.SetText.{HaveOneTextWhereSame, IsSetText, SpellsOneOf, comma_separated, commas}
