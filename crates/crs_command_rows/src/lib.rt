@@ -7,7 +7,6 @@ mod catalogues;
 mod failures;
 mod lines;
 mod runs;
-mod streams;
 mod trials;
 
 use answers::Answers;

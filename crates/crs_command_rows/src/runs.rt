@@ -1,11 +1,10 @@
 //! The runs of commands.
 use crate::calls::{Call, Outcome};
-use crate::streams::{Manner, Page, Pieces};
 use crs_desk::{
     Filling, Level, RunFault, Sink, Source, Stream, Summary, run_canon, run_canon_lines, run_check,
     run_check_lines, run_group,
 };
-use crs_suite::{Answer, Row, split_line};
+use crs_suite::{Answer, Manner, Page, Pieces, Row, split_line};
 use std::alloc::{AllocError, Global};
 use std::io::Read;
 

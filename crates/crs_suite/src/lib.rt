@@ -1,5 +1,5 @@
-//! What the suites of worked rows share: files of rows, the bytes that a row writes, questions about the CRSs of texts,
-//! and one call that is made while a growth of memory may be refused.
+//! What the suites share: files of rows, the bytes that a row writes, questions about the CRSs of texts, readers and
+//! writers that fail, and one call that is made while a growth of memory may be refused.
 #![tactic(auto)]
 
 mod about;
@@ -7,6 +7,7 @@ mod answer;
 mod asked;
 mod escapes;
 mod rows;
+mod streams;
 mod trial;
 
 pub use about::{AboutBoth, AboutCrs, about_both, about_crs, about_items};
@@ -14,4 +15,5 @@ pub use answer::Answer;
 pub use asked::{call_of, part_at, unusable};
 pub use escapes::split_line;
 pub use rows::{Calls, Row, run_files};
+pub use streams::{Manner, Page, Pieces};
 pub use trial::{Trial, Turn, run_trial};

@@ -17,7 +17,6 @@ mod refusals;
 mod runs;
 mod sameness;
 mod shapes;
-mod streams;
 mod tally;
 mod texts;
 mod values;

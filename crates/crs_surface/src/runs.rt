@@ -1,8 +1,8 @@
 //! The run over a catalogue, its streams and its faults.
 use crate::bounds::is_error;
-use crate::streams::{Full, Pieces};
 use crate::tally::Tally;
 use crs_group::{RunFault, Sink, Source, Summary, run_group};
+use crs_suite::{Manner, Page, Pieces};
 use crs_value::Level;
 use std::alloc::Global;
 use std::io;
@@ -12,13 +12,22 @@ pub fn check(alloc: Global, tally: &mut Tally, catalogue: &[u8], answer: &[u8]) 
     tally.count("crs_group::run_group", is_grouped(alloc, catalogue, answer));
     tally.count("crs_group::Source", is_source());
     tally.count("crs_group::Sink", is_sink(alloc));
-    let fails = fails_to_read(alloc, catalogue);
-    tally.count("crs_group::RunFault::ReadFailed", fails);
-    let fails = fails_to_write(alloc, catalogue);
-    tally.count("crs_group::RunFault::WriteFailed", fails);
-    tally.count("crs_group::RunFault::TooLong", is_too_long(alloc));
-    tally.count("crs_group::RunFault::TooManyReads", reads_too_often(alloc));
+    check_faults(alloc, tally, catalogue);
     tally.count("crs_group::RunFault", is_displayed(alloc));
+}
+
+// Of each fault a text, and the manner in which it is read, and its groups written.
+fn check_faults(alloc: Global, tally: &mut Tally, catalogue: &[u8]) {
+    let runs: [(&str, RunFault, &[u8], &str); 4] = [
+        ("ReadFailed", RunFault::ReadFailed, catalogue, "fails=2"),
+        ("WriteFailed", RunFault::WriteFailed, catalogue, "stops=1"),
+        ("TooLong", RunFault::TooLong(1), &[b'a'; 64], "endless"),
+        ("TooManyReads", RunFault::TooManyReads, b"\n", "endless"),
+    ];
+    for (name, fault, text, words) in &runs {
+        let agrees = ends_with(alloc, fault, text, words) == Some(true);
+        tally.count_in("crs_group::RunFault::", name, agrees);
+    }
 }
 
 fn is_grouped(alloc: Global, catalogue: &[u8], answer: &[u8]) -> bool {
@@ -55,49 +64,18 @@ fn is_sink(alloc: Global) -> bool {
     wrote.is_ok() && !failed && written.as_slice() == b"abc".as_slice()
 }
 
-// The second read fails.
-fn fails_to_read(alloc: Global, catalogue: &[u8]) -> bool {
-    let mut written = Vec::new(alloc);
-    let mut source = Source::new(Pieces::new(catalogue, 1));
-    let mut sink = Sink::new(&mut written);
+// Whether a run ends with this fault, which the source or the sink tells too, and with nothing written.
+fn ends_with(alloc: Global, fault: &RunFault, text: &[u8], words: &str) -> Option<bool> {
+    let manner = Manner::read(words)?;
+    let mut page = Page::new(alloc, manner);
+    let mut sink = Sink::new(&mut page);
+    let mut source = Source::new(Pieces::new(text, manner));
     let run = run_group(alloc, Level::Full, &mut source, &mut sink);
-    is_fault(&run, "read failed", 0) && source.failed() && written.is_empty()
-}
-
-fn fails_to_write(alloc: Global, catalogue: &[u8]) -> bool {
-    let mut sink = Sink::new(Full);
-    let run = run_group(alloc, Level::Full, &mut Source::new(catalogue), &mut sink);
-    is_fault(&run, "write failed", 0) && sink.failed()
-}
-
-// A line that never ends.
-fn is_too_long(alloc: Global) -> bool {
-    let mut sink = Sink::new(Full);
-    let letters = [b'a'; 64];
-    let mut source = Source::new(Pieces::new(letters.as_slice(), u64::MAX));
-    let run = run_group(alloc, Level::Full, &mut source, &mut sink);
-    is_fault(&run, "line too long", 1)
-}
-
-// A line feed a read, without end.
-fn reads_too_often(alloc: Global) -> bool {
-    let mut sink = Sink::new(Full);
-    let mut source = Source::new(Pieces::new(b"\n".as_slice(), u64::MAX));
-    let run = run_group(alloc, Level::Full, &mut source, &mut sink);
-    is_fault(&run, "too many reads", 0) && source.reads() == 1_048_576
-}
-
-/// Whether a run ended with the fault of this name, and, for a line that is too long, with this
-/// number.
-pub fn is_fault<T>(run: &Result<T, RunFault>, name: &str, number: u64) -> bool {
-    match run {
-        Ok(_answer) => false,
-        Err(RunFault::ReadFailed) => name == "read failed",
-        Err(RunFault::WriteFailed) => name == "write failed",
-        Err(RunFault::TooLong(line)) => name == "line too long" && *line == number,
-        Err(RunFault::TooManyReads) => name == "too many reads",
-        Err(RunFault::Memory) => name == "out of memory",
-    }
+    let is_ended = matches!(&run, Err(own) if own == fault)
+        && source.failed() == (*fault == RunFault::ReadFailed)
+        && sink.failed() == (*fault == RunFault::WriteFailed)
+        && (source.reads() == 1_048_576) == (*fault == RunFault::TooManyReads);
+    Some(is_ended && page.written.is_empty())
 }
 
 fn is_displayed(alloc: Global) -> bool {
