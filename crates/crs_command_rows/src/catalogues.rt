@@ -1,6 +1,6 @@
 //! Catalogues of lines.
 use crs_group::{Catalogue, Placed};
-use crs_suite::{Answer, Row};
+use crs_suite::{Answer, Row, split_blank};
 use crs_text::Refusal;
 
 /// The answers of a catalogue's calls, one a line of the input, with `; ` between two: `add N TEXT`, `groups`,
@@ -29,14 +29,6 @@ fn put_call(out: &mut Answer, catalogue: &mut Catalogue, line: &[u8]) {
         b"text" => put_group_text(out, catalogue.text(number_of(rest))),
         b"refused" => put_refused(out, catalogue.refused()),
         _ => out.put("no such call"),
-    }
-}
-
-// What comes before the first blank, and what comes after it.
-fn split_blank(line: &[u8]) -> (&[u8], &[u8]) {
-    match line.iter().position(|byte| *byte == b' ') {
-        Some(at) => (&line[..at], &line[at + 1..]),
-        None => (line, &[]),
     }
 }
 

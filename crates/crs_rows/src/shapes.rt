@@ -2,11 +2,10 @@
 ghost use Rattle.crs_text.specs.Items.{HasId};
 
 use crate::pieces::read_agreed;
-use bstr::ByteSlice;
 use crs_shape::{
     Class, Slot, class_in, class_of, fit, fit_root, keywords, known, root_class, slots, stands_as,
 };
-use crs_suite::{Answer, split_line};
+use crs_suite::{Answer, split_blank, split_line};
 use crs_text::{ItemId, Items, read_items};
 
 /// `class` and the first keyword of the root's class, or the refusal of the text or of its shape; `another answer in
@@ -51,13 +50,6 @@ fn named_class(path: &[u8]) -> Option<Class> {
         rest = further;
     }
     Some(class)
-}
-
-fn split_blank(path: &[u8]) -> (&[u8], &[u8]) {
-    match path.find_byte(b' ') {
-        Some(end) => (&path[..end], &path[end + 1..]),
-        None => (path, &[]),
-    }
 }
 
 /// `keywords` and those of the class that keywords lead to from a root; `none` where they name nothing there.
