@@ -1,6 +1,6 @@
 //! The reading of command lines.
 use crs_desk::{ExplainOptions, GroupFlags, LineWord, Request, RequestFault, Task, request};
-use crs_suite::Answer;
+use crs_suite::{Answer, about_value};
 use std::alloc::{AllocError, Global};
 use std::str;
 
@@ -12,38 +12,23 @@ pub fn put_request(out: &mut Answer, input: &[u8]) {
     };
     let words: Result<Vec<&str>, AllocError> = line.split('\n').collect(out.alloc());
     if let Some(words) = out.made(words) {
-        put_told(out, request(out.alloc(), &words));
+        about_value(request(out.alloc(), &words), |told| put_told(out, told));
     }
 }
 
-/// What a request came to.
-pub trait Told {
-    /// Puts the command; `no command` where the line is wrong.
-    fn put(&self, out: &mut Answer);
-
-    /// Puts the command; where the line is wrong, what is said to the user.
-    fn put_or_say(&self, out: &mut Answer);
-}
-
-// It alone owns a request, whose type it doesn't know: a function that owns one is slow to prove.
-fn put_told<T: Told + Drop>(out: &mut Answer, told: T) {
-    told.put(out);
-}
-
-impl Told for Result<Request, RequestFault> {
-    fn put(&self, out: &mut Answer) {
-        match self {
-            Ok(asked) => put_asked(out, asked),
-            Err(RequestFault::Line(_)) => out.put("no command"),
-            Err(RequestFault::Memory(error)) => out.note(Err(*error)),
-        }
+fn put_told(out: &mut Answer, told: &Result<Request, RequestFault>) {
+    match told {
+        Ok(asked) => put_asked(out, asked),
+        Err(RequestFault::Line(_)) => out.put("no command"),
+        Err(RequestFault::Memory(error)) => out.note(Err(*error)),
     }
+}
 
-    fn put_or_say(&self, out: &mut Answer) {
-        match self {
-            Err(fault @ RequestFault::Line(_)) => put_message(out, fault),
-            _ => self.put(out),
-        }
+/// The command; where the line is wrong, what is said to the user.
+pub fn put_told_or_said(out: &mut Answer, told: &Result<Request, RequestFault>) {
+    match told {
+        Err(fault @ RequestFault::Line(_)) => put_message(out, fault),
+        _ => put_told(out, told),
     }
 }
 

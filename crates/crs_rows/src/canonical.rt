@@ -1,6 +1,6 @@
 //! The calls that write canonical texts.
 use crs_canon::{Canon, Canonical, canon, canon_of};
-use crs_suite::{AboutCrs, Answer, Row, about_crs, split_line};
+use crs_suite::{Answer, Row, about_crs, split_line};
 use crs_text::Fault;
 use crs_value::{Crs, Level};
 use std::alloc::{AllocError, Global};
@@ -10,7 +10,8 @@ use std::alloc::{AllocError, Global};
 pub fn put_canon(out: &mut Answer, row: &Row<'_>) {
     if let Some(text) = out.accepted(canon(out.alloc(), &row.input, row.level)) {
         let is_own = is_of_text(out, text.bytes(), &text);
-        let asked = about_crs(out.alloc(), &row.input, Spells { text: &text });
+        let alloc = out.alloc();
+        let asked = about_crs(alloc, &row.input, |crs| spells(alloc, crs, &text));
         match out.accepted(asked) {
             Some(spells) if is_own && out.holds(spells) => put_spelling(out, &text),
             Some(_) => out.put("another text"),
@@ -20,20 +21,10 @@ pub fn put_canon(out: &mut Answer, row: &Row<'_>) {
 }
 
 // Whether this is a CRS's canonical text at its level, and what it appends by itself.
-#[derive(Drop)]
-struct Spells<'c> {
-    text: &'c Canon,
-}
-
-impl AboutCrs for Spells<'_> {
-    type Answer = Result<bool, AllocError>;
-
-    fn answer(self, alloc: Global, crs: &Crs<'_>) -> Result<bool, AllocError> {
-        let Spells { text } = self;
-        let level = text.level();
-        let is_own = is_text(canon_of(alloc, crs, level), text)?;
-        Ok(is_own && appends(alloc, level, crs, text.bytes())?)
-    }
+fn spells(alloc: Global, crs: &Crs<'_>, text: &Canon) -> Result<bool, AllocError> {
+    let level = text.level();
+    let is_own = is_text(canon_of(alloc, crs, level), text)?;
+    Ok(is_own && appends(alloc, level, crs, text.bytes())?)
 }
 
 fn is_text(own: Result<Canon, AllocError>, text: &Canon) -> Result<bool, AllocError> {

@@ -1,6 +1,7 @@
 //! The parts of a vertical CRS: what each appends by itself, and a set of them.
 use crs_canon::{Canonical, Set};
-use crs_suite::{AboutCrs, Answer, Row, about_crs};
+use crs_suite::{Answer, Row, about_crs};
+use crs_text::Fault;
 use crs_value::{Crs, Ident, Level, Tail, Vertical};
 use std::alloc::Global;
 
@@ -41,27 +42,25 @@ pub trait AboutPart {
     fn of_set(self, idents: &[Ident<'_>]) -> Self::Answer;
 }
 
-/// A question about the part of a CRS; the answer is None where it has no such part.
-#[derive(Drop)]
-pub struct OfPart<Q> {
-    pub part: Part,
-    pub question: Q,
-}
-
-impl<Q: AboutPart + Drop> AboutCrs for OfPart<Q> {
-    type Answer = Option<Q::Answer>;
-
-    fn answer(self, _alloc: Global, crs: &Crs<'_>) -> Option<Q::Answer> {
-        let OfPart { part, question } = self;
-        match crs {
-            _ if matches!(part, Part::Crs) => Some(question.of_node(crs)),
-            Crs::Vertical(vertical) => part.asked(vertical, question),
-            Crs::Geodetic(_) | Crs::Projected(_) | Crs::Compound(_) => None,
-        }
-    }
+/// What is answered of a part of the CRS that a text spells, None where it has no such part; or why it spells none.
+pub fn about_part<Q: AboutPart + Drop>(
+    alloc: Global,
+    text: &[u8],
+    part: Part,
+    question: Q,
+) -> Result<Option<Q::Answer>, Fault> {
+    about_crs(alloc, text, |crs| part.asked_in(crs, question))
 }
 
 impl Part {
+    fn asked_in<Q: AboutPart + Drop>(self, crs: &Crs<'_>, question: Q) -> Option<Q::Answer> {
+        match crs {
+            _ if matches!(self, Part::Crs) => Some(question.of_node(crs)),
+            Crs::Vertical(vertical) => self.asked(vertical, question),
+            Crs::Geodetic(_) | Crs::Projected(_) | Crs::Compound(_) => None,
+        }
+    }
+
     fn asked<Q: AboutPart + Drop>(self, crs: &Vertical<'_>, question: Q) -> Option<Q::Answer> {
         match self {
             Part::Crs => of_node(Some(crs), question),
@@ -99,7 +98,7 @@ pub fn put_part(out: &mut Answer, row: &Row<'_>, part: Part, absent: &str) {
         out: &mut *out,
         level: row.level,
     };
-    let asked = about_crs(alloc, &row.input, OfPart { part, question });
+    let asked = about_part(alloc, &row.input, part, question);
     if let Some(None) = out.accepted(asked) {
         out.put(absent);
     }

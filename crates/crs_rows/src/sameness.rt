@@ -2,7 +2,7 @@
 use crs_canon::write_content;
 use crs_same::parts::same_axis;
 use crs_same::{Content, Difference, Differences, Path, differences, first_part, same};
-use crs_suite::{AboutBoth, Answer, Row, about_both, split_line};
+use crs_suite::{Answer, Row, about_both, split_line};
 use crs_value::{Axis, Crs, Level};
 use std::alloc::{AllocError, Global};
 
@@ -43,13 +43,8 @@ impl Comparison {
 pub fn put_comparison(out: &mut Answer, row: &Row<'_>, comparison: Comparison) {
     let level = row.level;
     let (first, second) = split_line(&row.input);
-    let forth = Compared { comparison, level };
-    let back = Compared {
-        comparison: comparison.turned(),
-        level,
-    };
-    if let Some(forth) = answer_of(out, first, second, forth)
-        && let Some(back) = answer_of(out, second, first, back)
+    if let Some(forth) = comparison.answer_of(out, level, first, second)
+        && let Some(back) = comparison.turned().answer_of(out, level, second, first)
     {
         put_one_way_or(out, &forth, &back);
     }
@@ -63,35 +58,33 @@ fn put_one_way_or(out: &mut Answer, forth: &[u8], back: &[u8]) {
     }
 }
 
-fn answer_of(out: &mut Answer, first: &[u8], second: &[u8], asked: Compared) -> Option<Vec<u8>> {
-    let text = out.accepted(about_both(out.alloc(), first, second, asked))?;
-    out.made(text)
-}
-
-// A comparison in one order. A function that owns anything beside two CRSs is slow to prove, so that each order is asked
-// about by itself, and the text of the answer is made without them.
-#[derive(Clone, Copy)]
-struct Compared {
-    comparison: Comparison,
-    level: Level,
-}
-
-impl AboutBoth for Compared {
-    type Answer = Result<Vec<u8>, AllocError>;
+impl Comparison {
+    // In one order. A function that owns anything beside two CRSs is slow to prove, so that each order is asked about by
+    // itself, and the text of the answer is made without them.
+    fn answer_of(
+        self,
+        out: &mut Answer,
+        level: Level,
+        first: &[u8],
+        second: &[u8],
+    ) -> Option<Vec<u8>> {
+        let alloc = out.alloc();
+        let asked = about_both(alloc, first, second, |a, b| self.answer(alloc, level, a, b));
+        let text = out.accepted(asked)?;
+        out.made(text)
+    }
 
     fn answer<'t>(
         self,
         alloc: Global,
-        first: &Crs<'t>,
-        second: &Crs<'t>,
+        level: Level,
+        a: &Crs<'t>,
+        b: &Crs<'t>,
     ) -> Result<Vec<u8>, AllocError> {
-        let Compared { comparison, level } = self;
-        match comparison {
-            Comparison::Same => first_differing(alloc, level, first, second),
-            Comparison::Differences(told) => Telling { alloc, level, told }.differing(
-                first, second,
-            ),
-            Comparison::Axes => Vec::from_slice(alloc, axes_of(first, second, level).as_bytes()),
+        match self {
+            Comparison::Same => first_differing(alloc, level, a, b),
+            Comparison::Differences(told) => Telling { alloc, level, told }.differing(a, b),
+            Comparison::Axes => Vec::from_slice(alloc, axes_of(a, b, level).as_bytes()),
         }
     }
 }

@@ -10,10 +10,10 @@ mod rows;
 mod streams;
 mod trial;
 
-pub use about::{AboutBoth, AboutCrs, about_both, about_crs, about_items};
+pub use about::{about_both, about_crs, about_items, about_value, kind_word};
 pub use answer::Answer;
 pub use asked::{call_of, part_at, unusable};
 pub use escapes::{split_blank, split_line};
 pub use rows::{Calls, Row, run_files};
 pub use streams::{Manner, Page, Pieces};
-pub use trial::{Trial, Turn, run_trial};
+pub use trial::{Trial, Turn, run_call, run_trial};

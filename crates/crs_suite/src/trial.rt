@@ -72,14 +72,29 @@ impl<'r, R: Print + AllocGlobal> Turn<'r, R> {
 
 /// Writes `call`, makes the call, and writes `answered`; then prints a line `answer` with the answer. Where that is
 /// `memory`, out of memory, a line `kept` says whether all that the call was handed is as it was before, `yes` or `no`,
-/// and a line `again` has the answer of the same call made once more. A call that is handed a CRS is made by itself in the
-/// same turns: a trial whose type has one is slow to prove.
+/// and a line `again` has the answer of the same call made once more.
 pub fn run_trial<T: Trial>(rt: &(impl Print + AllocGlobal), trial: &mut T) -> io::Result<()> {
     let mut turn = Turn::begin(rt)?;
     trial.call(&mut turn)?;
     if turn.ran_out() {
         turn.again(trial.is_kept(rt.alloc())?)?;
         trial.call(&mut turn)?;
+    }
+    turn.print()
+}
+
+/// The same of a call that changes nothing that it is handed.
+pub fn run_call<R: Print + AllocGlobal, C: FnMut(&mut Turn<'_, R>) -> io::Result<()> + Drop>(
+    rt: &R,
+    mut call: C,
+) -> io::Result<()>
+    requires { C.IsAlwaysCallable call }
+{
+    let mut turn = Turn::begin(rt)?;
+    call(&mut turn)?;
+    if turn.ran_out() {
+        turn.again(true)?;
+        call(&mut turn)?;
     }
     turn.print()
 }

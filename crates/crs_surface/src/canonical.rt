@@ -1,9 +1,8 @@
 //! Canonical texts, and sets.
-use crate::asked::{Asked, holds};
 use crate::bounds::{are_equal, hash_of};
 use crate::refusals::is_refused_at;
 use crate::tally::Tally;
-use crate::texts::Texts;
+use crate::texts::{Texts, holds};
 use crs_canon::{Canon, Set, canon, canon_of};
 use crs_text::Fault;
 use crs_value::{Crs, Ident, Level};
@@ -12,15 +11,16 @@ use std::alloc::{AllocError, Global};
 pub fn check(alloc: Global, tally: &mut Tally, texts: Texts<'_>) {
     tally.count("crs_canon::canon", refuses(alloc));
     let (text, canonical) = (texts.named("height"), texts.named("height_canonical"));
-    let is_spelled = holds(alloc, text, Asked::Canonical(canonical));
+    let is_spelled = holds(alloc, text, |crs| has_text(alloc, canonical, crs));
     tally.count("crs_canon::canon_of", is_spelled);
     match canon(alloc, text, Level::Full) {
         Ok(text) => check_text(alloc, tally, texts, &text),
         Err(_fault) => tally.count("crs_canon::Canon", false),
     }
     let (codes, set) = (texts.named("codes"), texts.named("set_of_codes"));
-    tally.count("crs_canon::Set::same", holds(alloc, codes, Asked::SameSet));
-    let is_written = holds(alloc, codes, Asked::WrittenSet(set));
+    let is_same = holds(alloc, codes, |crs| set_is_same(crs));
+    tally.count("crs_canon::Set::same", is_same);
+    let is_written = holds(alloc, codes, |crs| set_is_written(alloc, crs, set));
     tally.count("crs_canon::Set::write", is_written);
 }
 
@@ -29,8 +29,8 @@ fn refuses(alloc: Global) -> bool {
     is_refused_at(answer, 7, 11)
 }
 
-/// Whether this is the canonical text of a CRS.
-pub fn has_text(alloc: Global, expected: &[u8], crs: &Crs<'_>) -> bool {
+// Whether this is the canonical text of a CRS.
+fn has_text(alloc: Global, expected: &[u8], crs: &Crs<'_>) -> bool {
     let answer: Result<Canon, AllocError> = canon_of(alloc, crs, Level::Full);
     matches!(answer, Ok(text) if text.bytes() == expected)
 }
@@ -60,24 +60,26 @@ fn is_equal(text: &Canon, other: Result<Canon, Fault>) -> bool {
     text.same(other) && are_equal(text, other) && hash_of(text) == hash_of(other)
 }
 
-/// The identifiers of a vertical CRS; none of another one.
-pub fn identifiers_of<'c, 'a>(crs: &'c Crs<'a>) -> &'c [Ident<'a>] {
+// The identifiers of a vertical CRS; none of another one.
+fn identifiers_of<'c, 'a>(crs: &'c Crs<'a>) -> &'c [Ident<'a>] {
     match crs {
         Crs::Vertical(crs) => crs.tail.identifiers.as_slice(),
         Crs::Geodetic(_) | Crs::Projected(_) | Crs::Compound(_) => &[],
     }
 }
 
-/// Whether the set of these members is the same as itself, and not as that of those after the first.
-pub fn set_is_same(members: &[Ident<'_>]) -> bool {
+// Whether the set of its identifiers is the same as itself, and not as that of those after the first.
+fn set_is_same(crs: &Crs<'_>) -> bool {
+    let members = identifiers_of(crs);
     let set: Set<'_, Ident<'_>> = Set::of(members);
     set.same(&Set::of(members), Level::Full)
         && !set.same(&Set::of(members.get(1..).unwrap_or(&[])), Level::Full)
 }
 
-/// Whether the set of these members is written as this text.
-pub fn set_is_written(alloc: Global, members: &[Ident<'_>], expected: &[u8]) -> bool {
+// Whether the set of its identifiers is written as this text.
+fn set_is_written(alloc: Global, crs: &Crs<'_>, expected: &[u8]) -> bool {
     let mut out = Vec::new(alloc);
-    let written: Result<(), AllocError> = Set::of(members).write(alloc, Level::Full, &mut out);
+    let set = Set::of(identifiers_of(crs));
+    let written: Result<(), AllocError> = set.write(alloc, Level::Full, &mut out);
     written.is_ok() && out.as_slice() == expected
 }

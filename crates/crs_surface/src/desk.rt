@@ -3,28 +3,35 @@ use crate::tally::Tally;
 use crate::texts::Texts;
 use crs_desk::{LineWord, Request, RequestFault, request, run_canon, run_check, run_same};
 use crs_group::{RunFault, Sink, Source};
+use crs_suite::about_value;
 use crs_value::Level;
 use std::alloc::{AllocError, Global};
+
+// A command line of each command, and the words that a request of it has.
+const LINES: [(&str, &[&str], &[&str]); 4] = [
+    ("Canon", &["crsdesk", "canon"], &["full"]),
+    ("Check", &["crsdesk", "check"], &[]),
+    (
+        "Same",
+        &["crsdesk", "same", "a", "b", "--level", "all"],
+        &["a", "b", "all"],
+    ),
+    (
+        "Group",
+        &["crsdesk", "group", "--level", "definition"],
+        &["definition"],
+    ),
+];
 
 pub fn check(alloc: Global, tally: &mut Tally, texts: Texts<'_>) {
     tally.count("crs_desk::run_canon", writes_canon(alloc, texts));
     tally.count("crs_desk::run_check", writes_kind(alloc, texts));
     tally.count("crs_desk::run_same", writes_part(alloc, texts));
     tally.count("crs_desk::request", is_refused(alloc));
-    check_requests(alloc, tally)
-}
-
-fn check_requests(alloc: Global, tally: &mut Tally) {
-    let canon = asks(alloc, &["crsdesk", "canon"], "canon", &["full"]);
-    tally.count("crs_desk::Request::Canon", canon);
-    let check = asks(alloc, &["crsdesk", "check"], "check", &[]);
-    tally.count("crs_desk::Request::Check", check);
-    let line = ["crsdesk", "same", "a", "b", "--level", "all"];
-    let same = asks(alloc, &line, "same", &["a", "b", "all"]);
-    tally.count("crs_desk::Request::Same", same);
-    let line = ["crsdesk", "group", "--level", "definition"];
-    let group = asks(alloc, &line, "group", &["definition"]);
-    tally.count("crs_desk::Request::Group", group);
+    for (command, line, words) in LINES {
+        let agrees = asks(alloc, line, command, words);
+        tally.count_in("crs_desk::Request::", command, agrees);
+    }
 }
 
 // With a line feed after the text.
@@ -63,24 +70,11 @@ fn is_refused(alloc: Global) -> bool {
     asks(alloc, &["crsdesk", "frob"], "none", &[]) && !is_line(&RequestFault::Memory(AllocError))
 }
 
-// What the words of a line ask for, or why they ask for nothing.
-trait Asked {
-    // Whether it is a command with these words, or the command `none`, where the line is wrong.
-    fn is(&self, command: &str, words: &[&str]) -> bool;
-}
-
-impl Asked for Result<Request, RequestFault> {
-    fn is(&self, command: &str, words: &[&str]) -> bool {
-        match self {
-            Ok(asked) => is_request(asked, command, words),
-            Err(fault) => command == "none" && is_line(fault),
-        }
+fn is_asked(asked: &Result<Request, RequestFault>, command: &str, words: &[&str]) -> bool {
+    match asked {
+        Ok(asked) => is_request(asked, command, words),
+        Err(fault) => command == "none" && is_line(fault),
     }
-}
-
-// It alone owns a request, whose type it doesn't know: a function that owns one is slow to prove.
-fn is_asked<T: Asked + Drop>(asked: T, command: &str, words: &[&str]) -> bool {
-    asked.is(command, words)
 }
 
 fn is_line(fault: &RequestFault) -> bool {
@@ -94,20 +88,23 @@ fn is_of_clap(_error: &clap::Error) -> bool {
     true
 }
 
-// Whether a command line asks for a command with these words.
+// Whether a command line asks for a command with these words, or, with the command `none`, for nothing, since it is wrong.
 fn asks(alloc: Global, line: &[&str], command: &str, words: &[&str]) -> bool {
-    is_asked(request(alloc, line), command, words)
+    about_value(
+        request(alloc, line),
+        |asked| is_asked(asked, command, words),
+    )
 }
 
 // The last nine variants are additions.
 fn is_request(asked: &Request, command: &str, words: &[&str]) -> bool {
     match asked {
-        Request::Canon(level) => command == "canon" && are_words(&[level], words),
-        Request::Check => command == "check" && words.is_empty(),
+        Request::Canon(level) => command == "Canon" && are_words(&[level], words),
+        Request::Check => command == "Check" && words.is_empty(),
         Request::Same(first, second, level) => {
-            command == "same" && are_words(&[first, second, level], words)
+            command == "Same" && are_words(&[first, second, level], words)
         }
-        Request::Group(level) => command == "group" && are_words(&[level], words),
+        Request::Group(level) => command == "Group" && are_words(&[level], words),
         Request::CanonLines(_)
         | Request::CheckLines
         | Request::GroupListed(_, _)

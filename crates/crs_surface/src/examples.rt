@@ -8,12 +8,10 @@ mod faults;
 mod key;
 mod pieces;
 
-use crate::values::kind_word;
 use bstr::ByteSlice;
 use crs_canon::Canon;
-use crs_text::Fault;
+use crs_suite::kind_word;
 use indexmap::IndexMap;
-use std::alloc::Global;
 use std::io;
 
 /// Prints what each example answers for the lines of these bytes.
@@ -67,17 +65,13 @@ fn print_ellipsoids(rt: &(impl Print + AllocGlobal), lines: &[&[u8]]) -> io::Res
 
 fn print_kinds(rt: &(impl Print + AllocGlobal), lines: &[&[u8]]) -> io::Result<()> {
     for line in lines {
-        let text = kind_told(rt.alloc(), line)?;
+        let text = match pieces::kind_in_pieces(rt.alloc(), line) {
+            Ok(kind) => String::from_str(rt.alloc(), kind_word(kind))?,
+            Err(fault) => faults::told(rt.alloc(), line, &fault)?,
+        };
         println!(rt; "in pieces: {text}")?;
     }
     Ok(())
-}
-
-fn kind_told(alloc: Global, line: &[u8]) -> io::Result<String> {
-    match pieces::kind_in_pieces(alloc, line) {
-        Ok(kind) => Ok(String::from_str(alloc, kind_word(kind))?),
-        Err(fault) => Ok(faults::told(alloc, line, &fault)?),
-    }
 }
 
 fn print_groups(rt: &(impl Print + AllocGlobal), bytes: &[u8]) -> io::Result<()> {

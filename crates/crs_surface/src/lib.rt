@@ -3,7 +3,6 @@
 //! with all their fields and variants. The examples of `docs/CALLING.md` are here too.
 #![tactic(auto)]
 
-mod asked;
 mod bounds;
 mod canonical;
 mod catalogues;

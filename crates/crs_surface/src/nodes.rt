@@ -8,7 +8,7 @@ use crate::texts::Texts;
 use crate::values::is_text_of;
 use crate::written::Written;
 use crs_canon::Canonical;
-use crs_suite::{AboutCrs, about_crs};
+use crs_suite::about_crs;
 use crs_value::{Crs, Level};
 use found::Found;
 use items::{COMPOUND, DYNAMIC, ENSEMBLE, EXTENT, POLAR, PROJECTED};
@@ -31,31 +31,17 @@ fn check_text(
     name: &str,
     items: &[(&str, &str)],
 ) {
-    let nodes = Nodes {
-        is_polar: name == "polar",
-    };
-    match about_crs(alloc, texts.named(name), nodes) {
+    let is_polar = name == "polar";
+    let text = texts.named(name);
+    match about_crs(alloc, text, |crs| walk_crs(alloc, is_polar, crs)) {
         Ok(found) => found.count(tally, items),
         Err(_fault) => tally.count("crs_canon::Canonical", false),
     }
 }
 
-// The nodes of a CRS, in the polar text or in another one.
-#[derive(Clone, Copy)]
-struct Nodes {
-    is_polar: bool,
-}
-
-impl AboutCrs for Nodes {
-    type Answer = Found;
-
-    fn answer(self, alloc: Global, crs: &Crs<'_>) -> Found {
-        walk_crs(Found::of(is_own(alloc, crs)), alloc, self.is_polar, crs)
-    }
-}
-
-// Looks at the nodes of a text that no text before it has.
-fn walk_crs(found: Found, alloc: Global, is_polar: bool, crs: &Crs<'_>) -> Found {
+// Looks at a CRS, and at the nodes of it that no text before it has.
+fn walk_crs(alloc: Global, is_polar: bool, crs: &Crs<'_>) -> Found {
+    let found = Found::of(is_own(alloc, crs));
     match crs {
         Crs::Projected(crs) if is_polar => walks::walk_polar(found, alloc, crs),
         Crs::Projected(crs) => walks::walk_projected(found, alloc, crs),

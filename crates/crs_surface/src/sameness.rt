@@ -2,51 +2,35 @@
 use crate::tally::Tally;
 use crate::texts::Texts;
 use crs_same::{Path, Step, first_part, same};
-use crs_suite::{AboutBoth, about_both};
+use crs_suite::about_both;
 use crs_value::{Crs, Level};
 use std::alloc::{AllocError, Global};
 
 pub fn check(alloc: Global, tally: &mut Tally, texts: Texts<'_>) {
-    let by_definition = ("height", "identified", Sameness::ByDefinition);
-    tally.count("crs_same::same", holds(alloc, texts, by_definition));
-    let in_no_part = ("geographic", "greenwich", Sameness::InNoPart);
-    tally.count("crs_same::first_part", holds(alloc, texts, in_no_part));
-    let steps = ("paris", "paris_in_grads", Sameness::UnitBySteps);
-    tally.count("crs_same::Path::steps", holds(alloc, texts, steps));
-    let text = ("paris", "paris_in_grads", Sameness::UnitByText);
-    tally.count("crs_same::Path::write", holds(alloc, texts, text));
-}
-
-// What is asked of two CRSs.
-#[derive(Clone, Copy)]
-enum Sameness {
-    // they are the same by definition alone
-    ByDefinition,
-    // they are the same, and differ in no part
-    InNoPart,
-    // the steps to the first part that differs are those to the meridian's unit
-    UnitBySteps,
-    // the words of the path to it are those
-    UnitByText,
+    let identified = ["height", "identified"];
+    let by_definition = holds(alloc, texts, identified, are_same_by_definition);
+    tally.count("crs_same::same", by_definition);
+    let in_no_part = holds(alloc, texts, ["geographic", "greenwich"], are_same);
+    tally.count("crs_same::first_part", in_no_part);
+    let paris = ["paris", "paris_in_grads"];
+    let by_steps = holds(alloc, texts, paris, differ_in_unit);
+    tally.count("crs_same::Path::steps", by_steps);
+    let by_text = holds(alloc, texts, paris, |a, b| is_written(alloc, a, b));
+    tally.count("crs_same::Path::write", by_text);
 }
 
 // Whether this is so of the CRSs of two texts, which are named.
-fn holds(alloc: Global, texts: Texts<'_>, (first, second, asked): (&str, &str, Sameness)) -> bool {
+fn holds<'t, Q: FnOnce(&Crs<'t>, &Crs<'t>) -> bool + Drop>(
+    alloc: Global,
+    texts: Texts<'t>,
+    named: [&str; 2],
+    question: Q,
+) -> bool
+    requires { Q.IsAlwaysCallable question }
+{
+    let [first, second] = named;
     let (first, second) = (texts.named(first), texts.named(second));
-    matches!(about_both(alloc, first, second, asked), Ok(true))
-}
-
-impl AboutBoth for Sameness {
-    type Answer = bool;
-
-    fn answer<'t>(self, alloc: Global, first: &Crs<'t>, second: &Crs<'t>) -> bool {
-        match self {
-            Sameness::ByDefinition => are_same_by_definition(first, second),
-            Sameness::InNoPart => are_same(first, second),
-            Sameness::UnitBySteps => has_steps(&first_part(first, second, Level::Full)),
-            Sameness::UnitByText => is_written(alloc, &first_part(first, second, Level::Full)),
-        }
-    }
+    matches!(about_both(alloc, first, second, question), Ok(true))
 }
 
 // Identifiers don't count at the level of definition.
@@ -56,6 +40,11 @@ fn are_same_by_definition<'a>(first: &Crs<'a>, second: &Crs<'a>) -> bool {
 
 fn are_same<'a>(first: &Crs<'a>, second: &Crs<'a>) -> bool {
     same(first, second, Level::Full) && first_part(first, second, Level::Full).is_none()
+}
+
+// They differ first in the meridian's unit.
+fn differ_in_unit<'a>(first: &Crs<'a>, second: &Crs<'a>) -> bool {
+    has_steps(&first_part(first, second, Level::Full))
 }
 
 fn has_steps(found: &Option<Path>) -> bool {
@@ -69,7 +58,11 @@ fn are_to_unit(steps: &[Step]) -> bool {
     }
 }
 
-fn is_written(alloc: Global, found: &Option<Path>) -> bool {
+fn is_written<'a>(alloc: Global, first: &Crs<'a>, second: &Crs<'a>) -> bool {
+    is_path_written(alloc, &first_part(first, second, Level::Full))
+}
+
+fn is_path_written(alloc: Global, found: &Option<Path>) -> bool {
     let mut out = Vec::new(alloc);
     let written: Result<(), AllocError> = match found {
         Some(path) => path.write(&mut out),

@@ -1,4 +1,7 @@
 //! The texts that are called with.
+use crs_suite::about_crs;
+use crs_value::Crs;
+use std::alloc::Global;
 
 /// Texts by their names, one a line: the name, a blank and the text.
 #[derive(Clone, Copy)]
@@ -22,4 +25,11 @@ impl<'t> Texts<'t> {
         }
         &[]
     }
+}
+
+/// Whether this is so of the CRS of a text.
+pub fn holds<Q: FnOnce(&Crs<'_>) -> bool + Drop>(alloc: Global, text: &[u8], question: Q) -> bool
+    requires { Q.IsAlwaysCallable question }
+{
+    matches!(about_crs(alloc, text, question), Ok(true))
 }

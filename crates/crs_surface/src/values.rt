@@ -1,8 +1,7 @@
 //! Values.
-use crate::asked::{Asked, holds};
 use crate::refusals::is_refused_at;
 use crate::tally::Tally;
-use crate::texts::Texts;
+use crate::texts::{Texts, holds};
 use crate::written::{Text, Written};
 use crs_text::{Fault, Items, read_items};
 use crs_value::{Crs, Direction, Kind, Level, SystemType, read, value_of};
@@ -24,10 +23,19 @@ const TEXTS: [&str; 12] = [
     "bare_usage",
 ];
 
+// A text of each kind.
+const KINDS: [(&str, Kind); 5] = [
+    ("geocentric", Kind::Geodetic),
+    ("geographic", Kind::Geographic),
+    ("projected", Kind::Projected),
+    ("height", Kind::Vertical),
+    ("compound", Kind::Compound),
+];
+
 pub fn check(alloc: Global, tally: &mut Tally, texts: Texts<'_>) {
     tally.count("crs_value::read", is_read(alloc));
     tally.count("crs_value::value_of", has_value(alloc, texts));
-    tally.count("crs_value::Kind", has_kinds(alloc, texts));
+    check_kinds(alloc, tally, texts);
     check_words(tally);
     check_texts(alloc, tally, texts)
 }
@@ -41,10 +49,17 @@ fn check_words(tally: &mut Tally) {
     tally.count("crs_value::Direction", has_directions());
 }
 
+fn check_kinds(alloc: Global, tally: &mut Tally, texts: Texts<'_>) {
+    for (name, kind) in KINDS {
+        let agrees = holds(alloc, texts.named(name), |crs| crs.kind() == kind);
+        tally.count_in("crs_value::Kind of ", name, agrees);
+    }
+}
+
 fn check_texts(alloc: Global, tally: &mut Tally, texts: Texts<'_>) {
     for name in TEXTS {
         let text = texts.named(name);
-        let agrees = holds(alloc, text, Asked::Written(text));
+        let agrees = holds(alloc, text, |crs| is_text_of(alloc, crs, text));
         tally.count(name, agrees);
     }
 }
@@ -59,7 +74,7 @@ fn has_value(alloc: Global, texts: Texts<'_>) -> bool {
 }
 
 fn is_vertical(alloc: Global, items: &Items<'_>) -> bool {
-    matches!(kind_in(value_of(alloc, items)), Ok(kind) if kind_word(kind) == "vertical")
+    matches!(kind_in(value_of(alloc, items)), Ok(Kind::Vertical))
 }
 
 // It alone owns a CRS here: a function that owns one is slow to prove.
@@ -67,24 +82,6 @@ fn kind_in(made: Result<Crs<'_>, Fault>) -> Result<Kind, Fault> {
     match made {
         Ok(crs) => Ok(crs.kind()),
         Err(fault) => Err(fault),
-    }
-}
-
-fn has_kinds(alloc: Global, texts: Texts<'_>) -> bool {
-    holds(alloc, texts.named("geocentric"), Asked::Kind("geodetic"))
-        && holds(alloc, texts.named("geographic"), Asked::Kind("geographic"))
-        && holds(alloc, texts.named("projected"), Asked::Kind("projected"))
-        && holds(alloc, texts.named("compound"), Asked::Kind("compound"))
-}
-
-/// The name of a kind.
-pub fn kind_word(kind: Kind) -> &'static str {
-    match kind {
-        Kind::Geodetic => "geodetic",
-        Kind::Geographic => "geographic",
-        Kind::Projected => "projected",
-        Kind::Vertical => "vertical",
-        Kind::Compound => "compound",
     }
 }
 

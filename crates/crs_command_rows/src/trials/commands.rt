@@ -1,9 +1,9 @@
 //! The reading of a command line, and the runs of commands.
 use crate::calls::Call;
-use crate::lines::Told;
+use crate::lines::put_told_or_said;
 use crate::runs::{put_outcome, put_written};
 use crs_desk::{Level, request};
-use crs_suite::{Trial, Turn, run_trial, unusable};
+use crs_suite::{Trial, Turn, about_value, run_call, run_trial, unusable};
 use std::alloc::{AllocError, Global};
 use std::{io, str};
 
@@ -39,25 +39,11 @@ pub fn try_command(rt: &(impl Print + AllocGlobal), call: Call<'_>) -> io::Resul
     run_trial(rt, &mut Run { call, written })
 }
 
-// `request` of words.
-#[derive(Clone, Copy)]
-struct RequestCall<'w> {
-    words: &'w [&'w str],
-}
-
-impl Trial for RequestCall<'_> {
-    fn call<R: Print + AllocGlobal>(&mut self, turn: &mut Turn<'_, R>) -> io::Result<()> {
-        end_told(turn, request(turn.alloc(), self.words))
-    }
-}
-
-// It alone owns a request, whose type it doesn't know: a function that owns one is slow to prove.
-fn end_told<R: Print + AllocGlobal, T: Told + Drop>(
-    turn: &mut Turn<'_, R>,
-    told: T,
-) -> io::Result<()> {
-    told.put_or_say(turn.end()?);
-    Ok(())
+fn call_request<R: Print + AllocGlobal>(turn: &mut Turn<'_, R>, words: &[&str]) -> io::Result<()> {
+    about_value(request(turn.alloc(), words), |told| {
+        put_told_or_said(turn.end()?, told);
+        Ok(())
+    })
 }
 
 /// `request` of words, of which the first is the program's name.
@@ -67,5 +53,5 @@ pub fn try_request(rt: &(impl Print + AllocGlobal), parts: &[&[u8]]) -> io::Resu
         let word = str::from_utf8(part).map_err(|_| unusable())?;
         words.push(word)?;
     }
-    run_trial(rt, &mut RequestCall { words: &words })
+    run_call(rt, |turn| call_request(turn, &words))
 }

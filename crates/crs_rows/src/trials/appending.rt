@@ -1,11 +1,11 @@
 //! Calls that append to a vector.
-use crate::nodes::{AboutPart, OfPart, Part};
+use crate::nodes::{AboutPart, Part, about_part};
 use crate::trials::unmade;
 use crs_canon::{Canonical, Set};
 use crs_decimal::Decimal;
 use crs_same::{Path, first_part};
-use crs_suite::{AboutBoth, Trial, Turn, about_both, about_crs, run_trial, unusable};
-use crs_value::{Crs, Ident, Level};
+use crs_suite::{Trial, Turn, about_both, run_trial, unusable};
+use crs_value::{Ident, Level};
 use std::alloc::{AllocError, Global};
 use std::io;
 
@@ -94,29 +94,22 @@ pub fn try_path<'a>(
     first: &'a [u8],
     second: &'a [u8],
 ) -> io::Result<()> {
-    match about_both(rt.alloc(), first, second, FirstPart) {
+    match about_both(
+        rt.alloc(),
+        first,
+        second,
+        |a, b| first_part(a, b, Level::Full),
+    ) {
         Ok(Some(path)) => run_append(rt, &path),
         Ok(None) => Err(unusable()),
         Err(fault) => Err(unmade(fault)),
     }
 }
 
-// The path to the first part in which two CRSs differ.
-#[derive(Drop)]
-struct FirstPart;
-
-impl AboutBoth for FirstPart {
-    type Answer = Option<Path>;
-
-    fn answer<'t>(self, _alloc: Global, first: &Crs<'t>, second: &Crs<'t>) -> Option<Path> {
-        first_part(first, second, Level::Full)
-    }
-}
-
 /// `Canonical::write` of a part of the CRS that a text spells, or `Set::write` of its identifiers.
 pub fn try_part(rt: &(impl Print + AllocGlobal), part: Part, text: &[u8]) -> io::Result<()> {
     let question = Appending { rt };
-    let asked = about_crs(rt.alloc(), text, OfPart { part, question }).map_err(unmade)?;
+    let asked = about_part(rt.alloc(), text, part, question).map_err(unmade)?;
     asked.unwrap_or(Err(unusable()))
 }
 

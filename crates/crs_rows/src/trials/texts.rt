@@ -1,25 +1,10 @@
 //! Calls that read the items of a text, as a whole and in pieces.
 use crate::pieces::{answer_of, fed, put_taken};
 use crate::texts::put_read;
-use crs_suite::{Answer, Trial, Turn, run_trial};
+use crs_suite::{Answer, Trial, Turn, run_call, run_trial};
 use crs_text::{Fault, Feeder, read_items};
 use std::alloc::{AllocError, Global};
 use std::io;
-
-// `read_items` of a text.
-#[derive(Clone, Copy)]
-struct ReadItems<'t> {
-    text: &'t [u8],
-}
-
-impl Trial for ReadItems<'_> {
-    fn call<R: Print + AllocGlobal>(&mut self, turn: &mut Turn<'_, R>) -> io::Result<()> {
-        let read = read_items(turn.alloc(), self.text);
-        let out = turn.end()?;
-        put_read(out, read);
-        Ok(())
-    }
-}
 
 // `Feeder::feed` of each piece that isn't fed yet.
 #[derive(Drop)]
@@ -85,7 +70,11 @@ impl Trial for Finish<'_> {
 
 /// `read_items` of a text.
 pub fn try_read(rt: &(impl Print + AllocGlobal), text: &[u8]) -> io::Result<()> {
-    run_trial(rt, &mut ReadItems { text })
+    run_call(rt, |turn| {
+        let read = read_items(turn.alloc(), text);
+        put_read(turn.end()?, read);
+        Ok(())
+    })
 }
 
 /// `Feeder::feed` of each piece in turn, after so many others.
