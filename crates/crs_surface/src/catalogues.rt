@@ -19,25 +19,22 @@ pub fn check(alloc: Global, tally: &mut Tally, texts: Texts<'_>) {
 // The lines of two groups, one line that is blank, and one that is refused.
 fn add_lines(catalogue: &mut Catalogue, texts: Texts<'_>) -> bool {
     let height = texts.named("height");
-    adds(catalogue, 5, height, "group 1")
-        && adds(catalogue, 5, b"  ", "blank")
-        && adds(catalogue, 9, texts.named("geographic"), "group 2")
-        && adds(catalogue, 2, height, "group 1")
-        && adds(catalogue, 7, b"VERTCRS[\"H\"", "refused")
+    let refused = Refusal::new(7, 11).map(Placed::Refused);
+    adds(catalogue, 5, height, Some(Placed::Group(1)))
+        && adds(catalogue, 5, b"  ", Some(Placed::Blank))
+        && adds(
+            catalogue,
+            9,
+            texts.named("geographic"),
+            Some(Placed::Group(2)),
+        )
+        && adds(catalogue, 2, height, Some(Placed::Group(1)))
+        && adds(catalogue, 7, b"VERTCRS[\"H\"", refused)
 }
 
-fn adds(catalogue: &mut Catalogue, line: u64, text: &[u8], expected: &str) -> bool {
+fn adds(catalogue: &mut Catalogue, line: u64, text: &[u8], expected: Option<Placed>) -> bool {
     let added: Result<Placed, AllocError> = catalogue.add(line, text);
-    matches!(added, Ok(placed) if is_placed(&placed, expected))
-}
-
-fn is_placed(placed: &Placed, expected: &str) -> bool {
-    match placed {
-        Placed::Blank => expected == "blank",
-        Placed::Refused(refusal) => expected == "refused" && is_refusal_of(refusal, 7, 11),
-        Placed::Group(1) => expected == "group 1",
-        Placed::Group(number) => *number == 2 && expected == "group 2",
-    }
+    added.is_ok() && added.ok() == expected
 }
 
 fn check_groups(tally: &mut Tally, texts: Texts<'_>, catalogue: &Catalogue) {

@@ -20,10 +20,6 @@ impl Tally {
         }
     }
 
-    pub fn alloc(&self) -> Global {
-        *self.lines.allocator()
-    }
-
     /// Counts an item, and keeps its name where it doesn't agree.
     pub fn count(&mut self, item: &str, agrees: bool) {
         self.count_in("", item, agrees)
