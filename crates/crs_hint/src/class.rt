@@ -1,8 +1,8 @@
 //! What a text is by its first keyword, and keywords that aren't read.
 use crate::glance::{begins, ends, is_one_of, names, names_one_of};
-use crate::hint::{Entry, Form, Hint};
+use crate::hint::Hint::Keyword;
+use crate::hint::{Entry, Hint};
 use crate::refused::NOT_HERE;
-use crate::sentence::{self, KEYWORD};
 use crs_shape::Class;
 
 // The classes of CRS of WKT1.
@@ -35,39 +35,39 @@ const PARTS: [Class; 12] = [
 
 // Classes of the standard that aren't read.
 const OTHER_CLASSES: [Entry; 11] = [
-    (b"BOUNDCRS", sentence::BOUND, b""),
-    (b"ENGCRS", sentence::CLASS, b"Engineering CRSs"),
-    (b"ENGINEERINGCRS", sentence::CLASS, b"Engineering CRSs"),
-    (b"PARAMETRICCRS", sentence::CLASS, b"Parametric CRSs"),
-    (b"TIMECRS", sentence::CLASS, b"Temporal CRSs"),
-    (b"DERIVEDPROJCRS", sentence::CLASS, b"Derived CRSs"),
-    (b"IMAGECRS", sentence::CLASS, b"Image CRSs"),
-    (b"COORDINATEOPERATION", sentence::OPERATION, b""),
-    (b"CONCATENATEDOPERATION", sentence::OPERATION, b""),
-    (b"POINTMOTIONOPERATION", sentence::OPERATION, b""),
-    (b"COORDINATEMETADATA", sentence::METADATA, b""),
+    (b"BOUNDCRS", Hint::Bound),
+    (b"ENGCRS", Hint::Class(b"Engineering CRSs")),
+    (b"ENGINEERINGCRS", Hint::Class(b"Engineering CRSs")),
+    (b"PARAMETRICCRS", Hint::Class(b"Parametric CRSs")),
+    (b"TIMECRS", Hint::Class(b"Temporal CRSs")),
+    (b"DERIVEDPROJCRS", Hint::Class(b"Derived CRSs")),
+    (b"IMAGECRS", Hint::Class(b"Image CRSs")),
+    (b"COORDINATEOPERATION", Hint::Operation),
+    (b"CONCATENATEDOPERATION", Hint::Operation),
+    (b"POINTMOTIONOPERATION", Hint::Operation),
+    (b"COORDINATEMETADATA", Hint::Metadata),
 ];
 
 // Keywords that tools write and that aren't read.
 const OTHER_KEYWORDS: [Entry; 9] = [
-    (b"AUTHORITY", KEYWORD, b"AUTHORITY is WKT1's identifier"),
-    (b"EXTENSION", KEYWORD, b"EXTENSION is WKT1's"),
-    (b"TOWGS84", sentence::TRANSFORMATION, b"TOWGS84"),
-    (b"TIMEEXTENT", KEYWORD, b"A usage's TIMEEXTENT isn't read"),
-    (b"AXISMINVALUE", KEYWORD, b"An axis's range isn't read"),
-    (b"AXISMAXVALUE", KEYWORD, b"An axis's range isn't read"),
-    (b"RANGEMEANING", KEYWORD, b"An axis's range isn't read"),
-    (b"DERIVINGCONVERSION", KEYWORD, b"Derived CRSs aren't read"),
-    (b"BASEVERTCRS", KEYWORD, b"Derived CRSs aren't read"),
+    (b"AUTHORITY", Keyword(b"AUTHORITY is WKT1's identifier")),
+    (b"EXTENSION", Keyword(b"EXTENSION is WKT1's")),
+    (b"TOWGS84", Hint::Transformation),
+    (b"TIMEEXTENT", Keyword(b"A usage's TIMEEXTENT isn't read")),
+    (b"AXISMINVALUE", Keyword(b"An axis's range isn't read")),
+    (b"AXISMAXVALUE", Keyword(b"An axis's range isn't read")),
+    (b"RANGEMEANING", Keyword(b"An axis's range isn't read")),
+    (b"DERIVINGCONVERSION", Keyword(b"Derived CRSs aren't read")),
+    (b"BASEVERTCRS", Keyword(b"Derived CRSs aren't read")),
 ];
 
 /// What a text is by its first keyword.
 pub(crate) fn by_class(keyword: &[u8]) -> Option<Hint<'_>> {
     if is_one_of(keyword, &OLD_CLASSES) {
-        return Some(Hint::of_piece(sentence::WKT1, Form::Plain, sentence::BY_PROJ));
+        return Some(Hint::Wkt1);
     }
     if names_one_of(keyword, &PARTS) {
-        return Some(Hint::of_piece(sentence::PART, Form::Capitals, keyword));
+        return Some(Hint::Part(keyword));
     }
     entry_of(keyword, &OTHER_CLASSES)
 }
@@ -81,15 +81,15 @@ pub(crate) fn is_of_text(keyword: &[u8]) -> bool {
 /// What a node is that isn't allowed where it is, by its keyword.
 pub(crate) fn by_keyword<'a>(number: u8, keyword: &[u8]) -> Option<Hint<'a>> {
     if number == NOT_HERE && names(keyword, Class::BaseCrs) {
-        return Some(Hint::of(sentence::DERIVED));
+        return Some(Hint::Derived);
     }
     entry_of(keyword, &OTHER_KEYWORDS).or(entry_of(keyword, &OTHER_CLASSES))
 }
 
 fn entry_of<'a>(keyword: &[u8], entries: &[Entry]) -> Option<Hint<'a>> {
-    for (own, sentence, words) in entries {
+    for (own, hint) in entries {
         if own.eq_ignore_ascii_case(keyword) {
-            return Some(Hint::of_piece(sentence, Form::Plain, words));
+            return Some(*hint);
         }
     }
     None

@@ -1,14 +1,13 @@
 //! What a text is by its front.
 use crate::class::by_class;
 use crate::glance::{begins, digit_count, is_one_of, keyword_at, rest, word_at};
-use crate::hint::{Entry, Form, Hint, by_first_bytes};
-use crate::sentence;
+use crate::hint::{Entry, Hint, by_first_bytes};
 use crate::string::by_string;
 
 /// What a text is by its front, which has no white space around it.
 pub(crate) fn by_front<'a>(text: &'a [u8], front: &'a [u8]) -> Option<Hint<'a>> {
     if front.is_empty() {
-        return Some(Hint::of(sentence::EMPTY));
+        return Some(Hint::Empty);
     }
     let by_bytes = by_first_bytes(text, &FORMATS)
         .or(by_utf16(text))
@@ -18,7 +17,7 @@ pub(crate) fn by_front<'a>(text: &'a [u8], front: &'a [u8]) -> Option<Hint<'a>> 
     }
     let geometry = geometry_of(front);
     if !geometry.is_empty() {
-        return Some(Hint::of_piece(sentence::GEOMETRY, Form::Capitals, geometry));
+        return Some(Hint::Geometry(geometry));
     }
     let keyword = keyword_at(front);
     if keyword.is_empty() {
@@ -30,29 +29,29 @@ pub(crate) fn by_front<'a>(text: &'a [u8], front: &'a [u8]) -> Option<Hint<'a>> 
 
 // Files that are no text.
 const FORMATS: [Entry; 14] = [
-    (b"\x00\x00\x27\x0a", sentence::SHAPEFILE, b""),
-    (b"SQLite format 3\0", sentence::GEO_PACKAGE, b""),
-    (b"II*\0", sentence::BINARY, b"a GeoTIFF, or another TIFF"),
-    (b"MM\0*", sentence::BINARY, b"a GeoTIFF, or another TIFF"),
-    (b"II+\0", sentence::BINARY, b"a GeoTIFF, or another TIFF"),
-    (b"MM\0+", sentence::BINARY, b"a GeoTIFF, or another TIFF"),
-    (b"\x89HDF", sentence::BINARY, b"netCDF or HDF5"),
-    (b"CDF\x01", sentence::BINARY, b"netCDF"),
-    (b"CDF\x02", sentence::BINARY, b"netCDF"),
-    (b"\x00\x00\x00\x0cjP  ", sentence::BINARY, b"JPEG 2000"),
-    (b"fgb\x03fgb", sentence::BINARY, b"a FlatGeobuf"),
-    (b"PAR1", sentence::BINARY, b"a Parquet file"),
-    (b"PK\x03\x04", sentence::ARCHIVE, b"a zip archive"),
-    (b"\x1f\x8b", sentence::ARCHIVE, b"a gzip archive"),
+    (b"\x00\x00\x27\x0a", Hint::Shapefile),
+    (b"SQLite format 3\0", Hint::GeoPackage),
+    (b"II*\0", Hint::Binary(b"a GeoTIFF, or another TIFF")),
+    (b"MM\0*", Hint::Binary(b"a GeoTIFF, or another TIFF")),
+    (b"II+\0", Hint::Binary(b"a GeoTIFF, or another TIFF")),
+    (b"MM\0+", Hint::Binary(b"a GeoTIFF, or another TIFF")),
+    (b"\x89HDF", Hint::Binary(b"netCDF or HDF5")),
+    (b"CDF\x01", Hint::Binary(b"netCDF")),
+    (b"CDF\x02", Hint::Binary(b"netCDF")),
+    (b"\x00\x00\x00\x0cjP  ", Hint::Binary(b"JPEG 2000")),
+    (b"fgb\x03fgb", Hint::Binary(b"a FlatGeobuf")),
+    (b"PAR1", Hint::Binary(b"a Parquet file")),
+    (b"PK\x03\x04", Hint::Archive(b"a zip archive")),
+    (b"\x1f\x8b", Hint::Archive(b"a gzip archive")),
 ];
 
 // A byte order mark, another notation, or quotes around the text.
 const MARKS: [Entry; 5] = [
-    (b"\xef\xbb\xbf", sentence::BYTE_ORDER_MARK, b""),
-    (b"{", sentence::JSON, sentence::BY_PROJ),
-    (b"<", sentence::XML, b""),
-    (b"\"", sentence::QUOTED, b""),
-    (b"'", sentence::QUOTED, b""),
+    (b"\xef\xbb\xbf", Hint::ByteOrderMark),
+    (b"{", Hint::Json),
+    (b"<", Hint::Xml),
+    (b"\"", Hint::Quoted),
+    (b"'", Hint::Quoted),
 ];
 
 // UTF-16 by its byte order mark; without one by the first four bytes, of which every second is zero. White space at the
@@ -64,7 +63,7 @@ fn by_utf16<'a>(text: &[u8]) -> Option<Hint<'a>> {
         [a, 0, b, 0, ..] if *a != 0 && *b != 0 => b"UTF-16LE",
         _ => return None,
     };
-    Some(Hint::of_piece(sentence::UTF16, Form::Plain, name))
+    Some(Hint::Utf16(name))
 }
 
 const GEOMETRIES: [&[u8]; 7] = [

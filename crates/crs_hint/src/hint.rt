@@ -1,42 +1,78 @@
 //! Hints.
 
-/// What to say of a text: a sentence, and what is filled in.
+/// What to say of a text: a sentence, with what is filled into it. What is open at the place of the refusal is looked for
+/// once the sentence is written.
 #[derive(Clone, Copy)]
-pub(crate) struct Hint<'a> {
-    pub(crate) sentence: &'static str,
-    pub(crate) filled: Filled<'a>,
-}
-
-/// What is filled into a sentence.
-#[derive(Clone, Copy)]
-pub(crate) enum Filled<'a> {
-    Nothing,
-    /// A piece of the text, or words of the library's own.
-    Piece(Form, &'a [u8]),
-    /// A place in the text.
-    Place(usize),
-    /// A byte, in hexadecimal digits.
-    Byte(u8),
+pub(crate) enum Hint<'a> {
+    // Of files that are no text, or in another encoding.
+    Empty,
+    /// A file of this kind.
+    Binary(&'a [u8]),
+    Shapefile,
+    GeoPackage,
+    /// An archive of this kind.
+    Archive(&'a [u8]),
+    ByteOrderMark,
+    /// The encoding's name.
+    Utf16(&'a [u8]),
+    // Of other notations.
+    Json,
+    Xml,
+    Quoted,
+    /// The word of its kind.
+    Geometry(&'a [u8]),
+    /// `SRID=` with its digits.
+    Srid(&'a [u8]),
+    ProjString,
+    Code(&'a [u8]),
+    /// The digits of a code of EPSG.
+    EpsgCode(&'a [u8]),
+    Path,
+    // Of classes.
+    Wkt1,
+    /// A transformation, by the word that asks for it.
+    MakesBound(&'a [u8]),
+    Bound,
+    /// CRSs of a class that isn't read.
+    Class(&'a [u8]),
+    Operation,
+    Derived,
+    Metadata,
+    /// The keyword of a part of a CRS.
+    Part(&'a [u8]),
+    // Of nodes that aren't read.
+    /// What a keyword is.
+    Keyword(&'a [u8]),
+    Transformation,
+    // Of delimiters.
+    SecondText,
+    OneTooMany,
+    Behind,
+    ClosedEarly,
+    StillOpen,
+    CutOff,
+    QuoteOpen,
+    /// The place where a quoted text is opened.
+    QuoteMissing(usize),
     /// The node that is open at the place of the refusal, and by which delimiter it is closed.
-    Closing(Open),
+    ClosedBy(Open),
     /// The first node before the place that is where none of its kind can be, and the node that it is in.
-    Inside(Open, Open),
-    /// All delimiters that are open at the place of the refusal.
-    AllOpen,
-    /// The same, each after a comma.
-    MoreOpen,
-}
-
-/// How a piece is written.
-#[derive(Clone, Copy)]
-pub(crate) enum Form {
-    /// As it is.
-    Plain,
-    Capitals,
-    /// As one word of a shell.
-    ShellWord,
-    /// As a code of EPSG, whose digits it has.
-    Code,
+    Outside(Open, Open),
+    // Of numbers.
+    DecimalComma,
+    Thousands,
+    NumberCutOff,
+    Date,
+    WithUnit,
+    // Of characters.
+    TypographicQuote,
+    SingleQuote,
+    XmlQuote,
+    EscapedQuote,
+    Semicolon,
+    /// A control character, in hexadecimal digits.
+    Control(u8),
+    Latin1,
 }
 
 /// A delimiter that is open at a place of a text: where the word before it begins, how long that is, which may be
@@ -48,31 +84,14 @@ pub(crate) struct Open {
     pub(crate) delimiter: u8,
 }
 
-impl<'a> Hint<'a> {
-    /// A hint with this filled in.
-    pub(crate) fn with(sentence: &'static str, filled: Filled<'a>) -> Hint<'a> {
-        Hint { sentence, filled }
-    }
-
-    /// A hint with nothing filled in.
-    pub(crate) fn of(sentence: &'static str) -> Hint<'a> {
-        Hint::with(sentence, Filled::Nothing)
-    }
-
-    /// A hint with a piece filled in, or with words.
-    pub(crate) fn of_piece(sentence: &'static str, form: Form, piece: &'a [u8]) -> Hint<'a> {
-        Hint::with(sentence, Filled::Piece(form, piece))
-    }
-}
-
-/// Bytes that are looked for, and the sentence and the words that tell of them.
-pub(crate) type Entry = (&'static [u8], &'static str, &'static [u8]);
+/// Bytes that are looked for, and the hint that tells of them.
+pub(crate) type Entry = (&'static [u8], Hint<'static>);
 
 /// The hint of the first of these entries with which the bytes begin.
 pub(crate) fn by_first_bytes<'a>(bytes: &[u8], entries: &[Entry]) -> Option<Hint<'a>> {
-    for (first_bytes, sentence, words) in entries {
+    for (first_bytes, hint) in entries {
         if bytes.starts_with(first_bytes) {
-            return Some(Hint::of_piece(sentence, Form::Plain, words));
+            return Some(*hint);
         }
     }
     None

@@ -3,9 +3,8 @@ use crate::before::look_before;
 use crate::class::by_keyword;
 use crate::delimiter::{by_delimiters, by_whole_text};
 use crate::glance::{back, digit_count, front, keyword_at, looked_at, rest};
-use crate::hint::{Entry, Filled, Hint, by_first_bytes};
+use crate::hint::{Entry, Hint, by_first_bytes};
 use crate::refused::{BAD_CHARACTER, BAD_NUMBER, NOT_HERE, NOT_UTF8, UNKNOWN_KEYWORD};
-use crate::sentence;
 
 /// What is at the place of a refusal, or is missing before it.
 pub(crate) fn by_place(text: &[u8], number: u8, place: usize) -> Option<Hint<'_>> {
@@ -15,7 +14,7 @@ pub(crate) fn by_place(text: &[u8], number: u8, place: usize) -> Option<Hint<'_>
     let hint = match number {
         BAD_CHARACTER => by_character(there),
         BAD_NUMBER => by_number(text, place),
-        NOT_UTF8 => Some(Hint::of(sentence::LATIN1)),
+        NOT_UTF8 => Some(Hint::Latin1),
         UNKNOWN_KEYWORD => by_keyword(number, keyword_at(there)),
         NOT_HERE => by_keyword(number, keyword_at(there)).or(by_comma(before, there)),
         _ => None,
@@ -27,24 +26,22 @@ pub(crate) fn by_place(text: &[u8], number: u8, place: usize) -> Option<Hint<'_>
 
 // Characters by their bytes, most of them quotes that aren't straight, and what to say of each.
 const CHARACTERS: [Entry; 10] = [
-    (b"&quot;", sentence::XML_QUOTE, b""),
-    (b"&#34;", sentence::XML_QUOTE, b""),
-    (b"\\\"", sentence::ESCAPED_QUOTE, b""),
-    (b"\xe2\x80\x9c", sentence::TYPOGRAPHIC_QUOTE, b""),
-    (b"\xe2\x80\x9d", sentence::TYPOGRAPHIC_QUOTE, b""),
-    (b"\xe2\x80\x9e", sentence::TYPOGRAPHIC_QUOTE, b""),
-    (b"\xc2\xab", sentence::TYPOGRAPHIC_QUOTE, b""),
-    (b"\xc2\xbb", sentence::TYPOGRAPHIC_QUOTE, b""),
-    (b"'", sentence::SINGLE_QUOTE, b""),
-    (b";", sentence::SEMICOLON, b""),
+    (b"&quot;", Hint::XmlQuote),
+    (b"&#34;", Hint::XmlQuote),
+    (b"\\\"", Hint::EscapedQuote),
+    (b"\xe2\x80\x9c", Hint::TypographicQuote),
+    (b"\xe2\x80\x9d", Hint::TypographicQuote),
+    (b"\xe2\x80\x9e", Hint::TypographicQuote),
+    (b"\xc2\xab", Hint::TypographicQuote),
+    (b"\xc2\xbb", Hint::TypographicQuote),
+    (b"'", Hint::SingleQuote),
+    (b";", Hint::Semicolon),
 ];
 
 // What a byte is that begins no token.
 fn by_character<'a>(there: &[u8]) -> Option<Hint<'a>> {
     let by_control = match there {
-        [byte, ..] if byte.is_ascii_control() => {
-            Some(Hint::with(sentence::CONTROL, Filled::Byte(*byte)))
-        }
+        [byte, ..] if byte.is_ascii_control() => Some(Hint::Control(*byte)),
         _ => None,
     };
     by_first_bytes(there, &CHARACTERS).or(by_control)
@@ -54,11 +51,11 @@ fn by_character<'a>(there: &[u8]) -> Option<Hint<'a>> {
 fn by_number<'a>(text: &[u8], place: usize) -> Option<Hint<'a>> {
     let there = looked_at(text, place);
     if is_cut_off(rest(text, place)) {
-        Some(Hint::of(sentence::NUMBER_CUT_OFF))
+        Some(Hint::NumberCutOff)
     } else if is_date(there) {
-        Some(Hint::of(sentence::DATE))
+        Some(Hint::Date)
     } else if has_unit(there) {
-        Some(Hint::of(sentence::WITH_UNIT))
+        Some(Hint::WithUnit)
     } else {
         None
     }
@@ -100,9 +97,9 @@ fn by_comma<'a>(before: &[u8], there: &[u8]) -> Option<Hint<'a>> {
         return None;
     }
     if digit_count(there) == 3 && ends_with_thousands(before) {
-        Some(Hint::of(sentence::THOUSANDS))
+        Some(Hint::Thousands)
     } else {
-        Some(Hint::of(sentence::DECIMAL_COMMA))
+        Some(Hint::DecimalComma)
     }
 }
 

@@ -1,26 +1,25 @@
 //! What a text is that doesn't begin with a node.
 use crate::front::srid_of;
 use crate::glance::{begins, digit_count, ends, front, is_of_word, rest, word_length};
-use crate::hint::{Form, Hint};
-use crate::sentence;
+use crate::hint::Hint;
 
 /// What a text is that doesn't begin with a node, by its front.
 pub(crate) fn by_string(text: &[u8]) -> Option<Hint<'_>> {
     let srid = srid_of(text);
     if !srid.is_empty() {
-        return Some(Hint::of_piece(sentence::SRID, Form::Plain, srid));
+        return Some(Hint::Srid(srid));
     }
     if is_proj_string(text) {
-        return Some(Hint::of_piece(sentence::PROJ_STRING, Form::Plain, sentence::BY_PROJ));
+        return Some(Hint::ProjString);
     }
     if digit_count(text) == text.len() {
-        return Some(Hint::of_piece(sentence::CODE, Form::Code, text));
+        return Some(Hint::EpsgCode(text));
     }
     if is_code(text) || is_address(text) {
-        return Some(Hint::of_piece(sentence::CODE, Form::ShellWord, text));
+        return Some(Hint::Code(text));
     }
     if is_path(text) {
-        return Some(Hint::of(sentence::PATH));
+        return Some(Hint::Path);
     }
     None
 }

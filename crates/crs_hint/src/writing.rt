@@ -3,10 +3,10 @@ use crate::before::{keyword_of, look_before, node_at};
 use crate::class::has_transformation;
 use crate::front::by_front;
 use crate::glance::{looked_at, rest};
-use crate::hint::{Filled, Form, Hint, Open};
+use crate::hint::{Hint, Open};
 use crate::place::by_place;
 use crate::refused::LAST_OF_TEXT;
-use crate::sentence;
+use crate::sentence::BY_PROJ;
 use crate::string::transformation_of;
 use itoa::Buffer;
 use std::alloc::{AllocError, Global};
@@ -47,32 +47,32 @@ fn beside<'a>(whole: Option<Hint<'a>>, there: Option<Hint<'a>>, number: u8) -> O
         return there;
     };
     let there = there?;
-    if is_of_class(whole.sentence) && is_of_damage(there.sentence) && number <= LAST_OF_TEXT {
+    if is_of_class(whole) && is_of_damage(there) && number <= LAST_OF_TEXT {
         Some(there)
     } else {
         None
     }
 }
 
-fn is_of_class(words: &str) -> bool {
-    matches!(words, sentence::WKT1 | sentence::BOUND | sentence::CLASS)
+fn is_of_class(whole: Hint<'_>) -> bool {
+    matches!(whole, Hint::Wkt1 | Hint::Bound | Hint::Class(_))
 }
 
-fn is_of_damage(words: &str) -> bool {
-    !matches!(words, sentence::SECOND_TEXT | sentence::BEHIND)
+fn is_of_damage(there: Hint<'_>) -> bool {
+    !matches!(there, Hint::SecondText | Hint::Behind)
 }
 
 // The transformation with which a text becomes a `BOUNDCRS`.
 fn bound<'a>(whole: Option<Hint<'a>>, text: &'a [u8], front: &'a [u8]) -> Option<Hint<'a>> {
-    let word = match whole?.sentence {
-        sentence::WKT1 if has_transformation(text) => b"TOWGS84",
-        sentence::PROJ_STRING => transformation_of(front),
+    let word = match whole? {
+        Hint::Wkt1 if has_transformation(text) => b"TOWGS84",
+        Hint::ProjString => transformation_of(front),
         _ => b"",
     };
     if word.is_empty() {
         return None;
     }
-    Some(Hint::of_piece(sentence::MAKES_BOUND, Form::Plain, word))
+    Some(Hint::MakesBound(word))
 }
 
 /// The node whose opening delimiter is at this place, as `CS[ at 24`, where its keyword begins. Profile.
@@ -86,32 +86,32 @@ pub fn opened(alloc: Global, text: &[u8], at: usize) -> Result<Vec<u8>, AllocErr
 }
 
 fn append_hint(hint: Hint<'_>, text: &[u8], place: usize, out: &mut Vec<u8>) -> Appended {
-    let words = hint.sentence;
+    let words = hint.words();
     let (front, back) = words.split_once("{}").unwrap_or((words, ""));
     out.extend_from_slice(front.as_bytes())?;
-    append_filled(hint.filled, text, place, out)?;
+    append_filled(hint, text, place, out)?;
     out.extend_from_slice(back.as_bytes())
 }
 
-fn append_filled(filled: Filled<'_>, text: &[u8], place: usize, out: &mut Vec<u8>) -> Appended {
-    match filled {
-        Filled::Nothing => Ok(()),
-        Filled::Piece(form, piece) => append_piece(form, piece, out),
-        Filled::Place(place) => append_number(place, out),
-        Filled::Byte(byte) => append_byte(byte, out),
-        Filled::Closing(open) => append_closing(text, open, out),
-        Filled::Inside(node, outer) => append_inside(text, node, outer, out),
-        Filled::AllOpen => append_open(text, look_before(text, place).all_open(), true, out),
-        Filled::MoreOpen => append_open(text, look_before(text, place).all_open(), false, out),
-    }
-}
-
-fn append_piece(form: Form, piece: &[u8], out: &mut Vec<u8>) -> Appended {
-    match form {
-        Form::Plain => out.extend_from_slice(piece),
-        Form::Capitals => append_capitals(piece, out),
-        Form::ShellWord => append_shell_word(piece, out),
-        Form::Code => append_code(piece, out),
+// What is filled into its words.
+fn append_filled(hint: Hint<'_>, text: &[u8], place: usize, out: &mut Vec<u8>) -> Appended {
+    match hint {
+        Hint::Json | Hint::ProjString | Hint::Wkt1 => out.extend_from_slice(BY_PROJ),
+        Hint::Binary(words) | Hint::Archive(words) => out.extend_from_slice(words),
+        Hint::Utf16(words) | Hint::Srid(words) | Hint::Class(words) => out.extend_from_slice(words),
+        Hint::MakesBound(words) | Hint::Keyword(words) => out.extend_from_slice(words),
+        Hint::Geometry(word) | Hint::Part(word) => append_capitals(word, out),
+        Hint::Code(word) => append_shell_word(word, out),
+        Hint::EpsgCode(digits) => append_code(digits, out),
+        Hint::QuoteMissing(begin) => append_number(begin, out),
+        Hint::Control(byte) => append_byte(byte, out),
+        Hint::ClosedBy(open) => append_closing(text, open, out),
+        Hint::Outside(node, outer) => append_inside(text, node, outer, out),
+        Hint::StillOpen | Hint::CutOff => {
+            append_open(text, look_before(text, place).all_open(), true, out)
+        }
+        Hint::QuoteOpen => append_open(text, look_before(text, place).all_open(), false, out),
+        _ => Ok(()),
     }
 }
 
