@@ -75,13 +75,15 @@ fn bound<'a>(whole: Option<Hint<'a>>, text: &'a [u8], front: &'a [u8]) -> Option
     Some(Hint::MakesBound(word))
 }
 
-/// The node whose opening delimiter is at this place, as `CS[ at 24`, where its keyword begins. Profile.
+/// The node whose opening delimiter is at this place, as `CS[ at 24`, where its keyword begins; nothing where no opening
+/// delimiter is there. Profile.
 ///
 /// `AllocError`: there is no memory for it.
 pub fn opened(alloc: Global, text: &[u8], at: usize) -> Result<Vec<u8>, AllocError> {
-    let delimiter = rest(text, at).first().copied().unwrap_or(b'[');
     let mut out = Vec::new(alloc);
-    append_node(text, node_at(text, at, delimiter), &mut out)?;
+    if let [delimiter @ (b'[' | b'('), ..] = rest(text, at) {
+        append_node(text, node_at(text, at, *delimiter), &mut out)?;
+    }
     Ok(out)
 }
 
