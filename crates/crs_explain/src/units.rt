@@ -10,9 +10,12 @@ use crs_streams::append_number;
 use crs_text::{Fault, ItemId, Items, Keyword, read_items};
 use std::alloc::{AllocError, Global};
 
+// The keywords of units.
+const UNITS: [Keyword; 3] = [Keyword::LengthUnit, Keyword::AngleUnit, Keyword::PlainUnit];
+
 /// For a unit on an axis, or where there is none, `found LENGTHUNIT in AXIS at 66, expected ANGLEUNIT`; for one that all
 /// axes share `found LENGTHUNIT for all axes, expected ANGLEUNIT for AXIS at 66, LENGTHUNIT for AXIS at 84`; nothing
-/// where the text has no items.
+/// where the text has no items, or no unit is at the place or missing there.
 pub(crate) fn units(alloc: Global, text: &[u8], place: usize) -> Result<Vec<u8>, AllocError> {
     match read_items(alloc, text) {
         Ok(items) => units_of(alloc, &items, place),
@@ -25,15 +28,20 @@ fn units_of(alloc: Global, items: &Items<'_>, place: usize) -> Result<Vec<u8>, A
     let crs = crs_around(items, place);
     let part = part_around(items, place);
     let system = InCrs { items, crs };
-    let mut out = Vec::from_slice(alloc, b"found ")?;
+    let mut out = Vec::new(alloc);
     if is_called(items, part, Keyword::Axis) {
-        system.append_unit(part, place, &mut out)?;
-        system.append_wanted(part, place, &mut out)?;
-    } else {
-        append_name(items.raw(part), &mut out)?;
-        system.append_of_all(&mut out)?;
+        system.append_of_axis(part, around(items, part, place), &mut out)?;
+    } else if is_one_of(items, part, &UNITS) {
+        system.append_of_all(part, &mut out)?;
     }
     Ok(out)
+}
+
+// Whether an item is a node of one of these keywords.
+fn is_one_of(items: &Items<'_>, id: ItemId, keywords: &[Keyword]) -> bool
+    requires { HasId items.now id }
+{
+    items.keyword(id).is_some_and(|it| keywords.contains(&it))
 }
 
 // A CRS of a text.
@@ -45,44 +53,43 @@ struct InCrs<'i, 'a> {
 }
 
 impl InCrs<'_, '_> {
-    // The unit on an axis, or that there is none, and the axis.
-    fn append_unit(&self, axis: ItemId, place: usize, out: &mut Vec<u8>) -> Result<(), AllocError>
-        requires { HasId self.now.items.now axis }
+    // `found LENGTHUNIT in AXIS at 66, expected ANGLEUNIT`, or that there is a unit for all axes too; nothing where no
+    // unit is found and none is missing.
+    fn append_of_axis(
+        &self,
+        axis: ItemId,
+        found: ItemId,
+        out: &mut Vec<u8>,
+    ) -> Result<(), AllocError>
+        requires axis { HasId self.now.items.now axis }
+        requires found { HasId self.now.items.now found }
     {
-        if self.items.place(axis) == place {
-            out.extend_from_slice(b"no unit")?;
+        let is_shared = self.first(self.crs, &UNITS).is_some();
+        if is_one_of(self.items, found, &UNITS) {
+            out.extend_from_slice(b"found ")?;
+            append_name(self.items.raw(found), out)?;
+        } else if is_shared || self.first(axis, &UNITS).is_some() {
+            return Ok(());
         } else {
-            append_name(self.items.raw(around(self.items, axis, place)), out)?;
+            out.extend_from_slice(b"found no unit")?;
         }
         out.extend_from_slice(b" in AXIS at ")?;
-        append_number(self.items.place(axis), out)
-    }
-
-    // `, expected ANGLEUNIT`, or that there is a unit for all axes too.
-    fn append_wanted(&self, axis: ItemId, place: usize, out: &mut Vec<u8>) -> Result<(), AllocError>
-        requires { HasId self.now.items.now axis }
-    {
-        if self.items.place(axis) != place && self.shares_unit() {
+        append_number(self.items.place(axis), out)?;
+        if is_shared {
             return out.extend_from_slice(b" beside one for all axes, expected one of both");
         }
         out.extend_from_slice(b", expected ")?;
         out.extend_from_slice(self.asked(axis))
     }
 
-    // Whether all axes share a unit.
-    fn shares_unit(&self) -> bool {
-        self.first(Keyword::LengthUnit).is_some()
-            || self.first(Keyword::AngleUnit).is_some()
-            || self.first(Keyword::PlainUnit).is_some()
-    }
-
-    // The first argument that is a node of a keyword.
-    fn first(&self, keyword: Keyword) -> Option<ItemId>
+    // The first argument of a node that is a node of one of these keywords.
+    fn first(&self, id: ItemId, keywords: &[Keyword]) -> Option<ItemId>
+        requires { HasId self.now.items.now id }
         ensures { Holds self.now.items.now result }
     {
-        let mut at = self.items.arg(self.crs, 0);
+        let mut at = self.items.arg(id, 0);
         while let Some(argument) = at {
-            if is_called(self.items, argument, keyword) {
+            if is_one_of(self.items, argument, keywords) {
                 return Some(argument);
             }
             at = self.items.next(argument);
@@ -90,10 +97,14 @@ impl InCrs<'_, '_> {
         None
     }
 
-    // ` for all axes, expected ANGLEUNIT for AXIS at 66, LENGTHUNIT for AXIS at 84`
-    fn append_of_all(&self, out: &mut Vec<u8>) -> Result<(), AllocError> {
-        out.extend_from_slice(b" for all axes, expected ")?;
+    // `found LENGTHUNIT for all axes, expected ANGLEUNIT for AXIS at 66, LENGTHUNIT for AXIS at 84`
+    fn append_of_all(&self, unit: ItemId, out: &mut Vec<u8>) -> Result<(), AllocError>
+        requires { HasId self.now.items.now unit }
+    {
         let items = self.items;
+        out.extend_from_slice(b"found ")?;
+        append_name(items.raw(unit), out)?;
+        out.extend_from_slice(b" for all axes, expected ")?;
         let mut is_first = true;
         let mut at = items.arg(self.crs, 0);
         while let Some(argument) = at {
@@ -118,13 +129,13 @@ impl InCrs<'_, '_> {
         append_number(self.items.place(axis), out)
     }
 
-    // The keyword of the unit for which an axis asks; no bytes where that isn't known.
+    // The keyword of the unit for which an axis asks; `a unit` where its kind isn't known.
     fn asked(&self, axis: ItemId) -> &'static [u8]
         requires { HasId self.now.items.now axis }
     {
         match self.kind_of(axis) {
             Some(kind) => kind.keyword().as_bytes(),
-            None => b"",
+            None => b"a unit",
         }
     }
 
@@ -132,7 +143,7 @@ impl InCrs<'_, '_> {
     fn kind_of(&self, axis: ItemId) -> Option<UnitKind>
         requires { HasId self.now.items.now axis }
     {
-        let system = self.first(Keyword::Cs)?;
+        let system = self.first(self.crs, &[Keyword::Cs])?;
         let system_type = SystemType::read(raw_at(self.items, system, 0))?;
         let direction = Direction::read(raw_at(self.items, axis, 1))?;
         Some(system_type.asked_kind(direction))
