@@ -42,7 +42,7 @@ printed_text bytes = flat_map (λ c. encode_utf8 (printed c)) (lossy_chars bytes
 abbrev pub blanks_below : List ℕ → List ℕ
 blanks_below bytes = flat_map (λ c. blanks (char_width false (printed c))) (lossy_chars bytes)
 
--- the place that is shown: at the text's end that of its last byte but white space
+-- the place that is shown: at the text's end the end of what it says, before its last white space
 abbrev pub shown_place : List ℕ → ℕ → ℕ
 shown_place text place =
     if place == length text then length text - suffix_len is_ascii_whitespace text else place

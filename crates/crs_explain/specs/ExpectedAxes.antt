@@ -16,8 +16,8 @@ axes_among (More item items) =
 abbrev pub axes_text : ℕ → List ℕ
 axes_text n = decimal n ++ (if n == 1 then codes " axis" else codes " axes")
 
--- in the CRS around the place its axes are found, and the dimension is expected, the second argument of
--- the `CS` there
+-- in the CRS around the place its axes are found, and as many are expected as its dimension says, the
+-- second argument of the `CS` there
 abbrev pub axes_expectation : ℕ → Item → Expectation
 axes_expectation place tree = record {
   node = named_by (raw_of (crs_around place tree));

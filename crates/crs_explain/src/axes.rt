@@ -12,7 +12,7 @@ use crs_streams::append_number;
 use crs_text::{ItemId, Items, Keyword};
 use std::alloc::{AllocError, Global};
 
-/// What is expected at a `CS`: in its CRS so many axes are found, and another dimension is said.
+/// What is expected at a `CS`: the axes of its CRS are found, and as many as its dimension says are expected.
 pub(crate) fn axes_expected(
     alloc: Global,
     items: &Items<'_>,

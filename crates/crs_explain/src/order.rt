@@ -24,7 +24,7 @@ impl Model for StepWord {
 }
 
 impl StepWord {
-    /// The word of these bytes. No step has one that paths don't have.
+    /// The word of these bytes. One that no path has matches no step.
     ///
     /// `AllocError`: there is no memory for it.
     pub fn new(alloc: Global, bytes: &[u8]) -> Result<StepWord, AllocError>
@@ -41,7 +41,7 @@ impl StepWord {
     }
 }
 
-// Puts parts that differ into the order of some words.
+/// Puts parts that differ into the order of some words.
 pub(crate) fn put_in_order(
     words: &[StepWord],
     parts: &mut Vec<DifferenceTexts>,

@@ -41,6 +41,7 @@ impl Pieces {
         &self.ends
     }
 
+    /// No texts.
     pub(crate) fn new(alloc: Global) -> Pieces
         ensures { result ≡ [] }
     {
@@ -50,7 +51,7 @@ impl Pieces {
         }
     }
 
-    // Adds a text behind the others.
+    /// Adds a text behind the others.
     pub(crate) fn push(&mut self, text: &[u8]) -> Result<(), AllocError>
         ensures { OnOk result (self.new ≡ self.old ++ text.now ∷ []) }
     {
