@@ -1,6 +1,5 @@
 //! What classes are called where they are expected.
 ghost use Rattle.std.specs.Prelude.{◌≡◌, ◌++◌, ◌∷◌, [], OnOk, slice_index_or};
-ghost use Rattle.std.specs.List.{flat_map};
 ghost use Rattle.crs_text.specs.Keywords.{spelling_of};
 ghost use Rattle.crs_explain.specs.ExpectedClasses.{class_names, names_of};
 
@@ -17,18 +16,11 @@ pub(crate) fn push_names(
 ) -> Result<(), AllocError>
     ensures { OnOk result (out.new.items ≡ out.old.items ++ names_of classes.now may_end) }
 {
-    push_classes(classes, out)?;
-    if may_end {
-        push_name(b"its closing delimiter", out)?;
-    }
-    Ok(())
-}
-
-fn push_classes(classes: &[Class], out: &mut Vec<Name>) -> Result<(), AllocError>
-    ensures { OnOk result (out.new.items ≡ out.old.items ++ flat_map class_names classes.now) }
-{
     for class in classes {
         push_class(*class, out)?;
+    }
+    if may_end {
+        push_name(b"its closing delimiter", out)?;
     }
     Ok(())
 }

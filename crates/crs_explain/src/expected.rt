@@ -4,7 +4,7 @@ ghost use Rattle.crs_shape.specs.Expected.{may_come};
 ghost use Rattle.crs_shape.specs.FaultPlace.{IsShapeNumber};
 ghost use Rattle.crs_shape.specs.Keywords.{every_class};
 ghost use Rattle.crs_explain.specs.Expected.{IsExpected, IsExpectedIn};
-ghost use Rattle.crs_explain.specs.ExpectedClasses.{IsShapeExpected, names_of, node_word, shape_expectation};
+ghost use Rattle.crs_explain.specs.ExpectedClasses.{IsShapeExpected, names_of, node_word};
 
 use crate::axes::axes_expected;
 use crate::class_names::push_names;
@@ -73,32 +73,21 @@ fn shape_expected(
 ) -> Result<Option<ExpectedTexts>, AllocError>
     ensures { IfOk result (IsShapeExpected text.now place items.now) }
 {
-    match expected(items) {
-        None => Ok(None),
-        Some(expected) => shape_texts(alloc, text, place, &expected).map(Some),
-    }
-}
-
-fn shape_texts(
-    alloc: Global,
-    text: &[u8],
-    place: usize,
-    expected: &Expected,
-) -> Result<ExpectedTexts, AllocError>
-    ensures { IfOk result (λ e. e ≡ shape_expectation text.now place expected.now) }
-{
+    let Some(expected) = expected(items) else {
+        return Ok(None);
+    };
     let node = node_text(alloc, rest_of(text, expected.place()), expected.parent())?;
     let mut found = Vec::new(alloc);
     append_found(rest_of(text, place), &mut found)?;
-    let names = names_in(alloc, expected)?;
-    let meant = meant_at(alloc, rest_of(text, place), expected)?;
-    Ok(ExpectedTexts {
+    let names = names_in(alloc, &expected)?;
+    let meant = meant_at(alloc, rest_of(text, place), &expected)?;
+    Ok(Some(ExpectedTexts {
         node,
         place: expected.place(),
         found,
         names,
         meant,
-    })
+    }))
 }
 
 // The expected keyword that the word nearly is with which these bytes begin; nothing where none is near.

@@ -1,5 +1,5 @@
 //! Refusals and parts that differ as objects of JSON, each in a line.
-ghost use Rattle.std.specs.Prelude.{◌≡◌, ◌++◌, ◌≤◌, IfOk, MatchOption, OnOk, Some, length};
+ghost use Rattle.std.specs.Prelude.{◌≡◌, ◌++◌, ◌≤◌, IfOk, MatchOption, OnOk, length};
 ghost use Rattle.std.specs.List.{flat_map};
 ghost use Rattle.crs_explain.specs.InOrder.{AreOrderedObjects};
 ghost use Rattle.crs_explain.specs.Json.{IsRefusalObject, difference_object, expected_members};
@@ -126,17 +126,11 @@ fn append_place(refusal: Refusal, position: Position, out: &mut Vec<u8>) -> Resu
 fn append_expected(expected: &Option<ExpectedTexts>, out: &mut Vec<u8>) -> Result<(), AllocError>
     ensures { OnOk result (out.new.items ≡ out.old.items ++ expected_members expected.now) }
 {
-    match expected {
-        Some(expected) => append_expectation(expected, out),
-        None => out.extend_from_slice(
+    let Some(expected) = expected else {
+        return out.extend_from_slice(
             b",\"node\":null,\"node_place\":null,\"found\":null,\"expected\":[]",
-        ),
-    }
-}
-
-fn append_expectation(expected: &ExpectedTexts, out: &mut Vec<u8>) -> Result<(), AllocError>
-    ensures { OnOk result (out.new.items ≡ out.old.items ++ expected_members (Some expected.now)) }
-{
+        );
+    };
     append_value_member(b"node", &expected.node, out)?;
     append_number_member(b"node_place", expected.place, out)?;
     append_text_member(b"found", &expected.found, out)?;

@@ -55,19 +55,16 @@ fn opens(bytes: &[u8]) -> bool
 pub(crate) fn append_name(word: &[u8], out: &mut Vec<u8>) -> Result<(), AllocError>
     ensures { OnOk result (out.new.items ≡ out.old.items ++ named_by word.now) }
 {
-    let alloc = *out.allocator();
-    let mut shown = Vec::new(alloc);
-    append_shown(word, &mut shown)?;
-    out.extend_from_slice(&shown.to_ascii_uppercase(alloc)?)
+    out.extend_from_slice(&name_text(*out.allocator(), word)?)
 }
 
 /// A word in capitals, or the front of a long one.
 pub(crate) fn name_text(alloc: Global, word: &[u8]) -> Result<Vec<u8>, AllocError>
     ensures { IfOk result (λ name. name.items ≡ named_by word.now) }
 {
-    let mut name = Vec::new(alloc);
-    append_name(word, &mut name)?;
-    Ok(name)
+    let mut shown = Vec::new(alloc);
+    append_shown(word, &mut shown)?;
+    shown.to_ascii_uppercase(alloc)
 }
 
 /// Appends a word as it is written, or the front of a long one.
