@@ -83,21 +83,9 @@ pub fn request<'a>(alloc: Global, words: &'a [&'a str]) -> Result<Request, Reque
     ensures faultless { IfOk result (λ found. fault_of desk (map (λ word. word.now) words.entry.now) ≡ []) }
     ensures refused { IfErr result (IsRefusal (map (λ word. word.now) words.entry.now)) }
 {
-    let matches = matches_of(alloc, words)?;
+    let command = desk_command(alloc).map_err(RequestFault::Memory)?;
+    let matches = matches_by(command, words)?;
     request_of_matches(alloc, &matches).map_err(RequestFault::Memory)
-}
-
-fn matches_of<'a>(alloc: Global, words: &'a [&'a str]) -> Result<ArgMatches<'a>, RequestFault>
-    ensures ok { IfOk result (λ matches. asked (map (λ word. word.now) words.entry.now)
-        ≡ option_and_then request_of (subcommand_rows_of matches)) }
-    ensures some { IfOk result (λ matches. IsSome (option_and_then request_of (subcommand_rows_of matches))) }
-    ensures faultless { IfOk result (λ matches. fault_of desk (map (λ word. word.now) words.entry.now) ≡ []) }
-    ensures refused { IfErr result (IsRefusal (map (λ word. word.now) words.entry.now)) }
-{
-    match desk_command(alloc) {
-        Ok(command) => matches_by(command, words),
-        Err(error) => Err(RequestFault::Memory(error)),
-    }
 }
 
 fn matches_by<'a>(
