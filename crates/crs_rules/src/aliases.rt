@@ -70,11 +70,7 @@ impl Model for UnitAlias {
 fn rest_of<T>(items: &[T], from: usize) -> &[T]
     ensures { result.now ≡ drop from items.now }
 {
-    if from >= items.len() {
-        return &[];
-    }
-    let (_, rest) = items.split_at(from);
-    rest
+    items.get(from..).unwrap_or(&[])
 }
 
 // What counts as another, and is looked for by a digest.
@@ -154,7 +150,7 @@ impl<A: Alias> Aliases<A> {
         Ok(())
     }
 
-    // Forgets all aliases but so many.
+    // Keeps the first `count` aliases, and forgets the rest.
     pub(crate) fn truncate(&mut self, count: usize)
         ensures { self.new ≡ take count self.old }
     {

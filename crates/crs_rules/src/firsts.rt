@@ -1,5 +1,5 @@
-//! Where aliases are looked for: of each digest a place, before which none of that digest stands. What stands there is
-//! compared, so no answer rests on a digest.
+//! Where aliases are looked for: for each digest a place before which no alias has it. What stands there is compared, so
+//! no answer rests on a digest.
 ghost use Rattle.std.specs.Prelude.{◌≡◌, ◌↔◌, [], IsTrue, OnErr, OnOk};
 ghost use Rattle.crs_rules.specs.Firsts.{IsFound, IsNoted, place_of};
 
@@ -46,7 +46,7 @@ impl Firsts {
         }
     }
 
-    // What has this digest stands at this place. Out of memory, all is as before.
+    // Notes that an alias with this digest is at this place. Out of memory, all is as before.
     pub(crate) fn note(&mut self, digest: u64, at: usize) -> Result<(), AllocError>
         ensures noted { OnOk result (IsNoted digest at self.old self.new) }
         ensures unchanged { OnErr result (self.new ≡ self.old) }

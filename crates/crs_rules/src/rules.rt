@@ -1,5 +1,5 @@
 //! Rules.
-ghost use Rattle.std.specs.Prelude.{◌≡◌, ◌++◌, ◌∷◌, [], IfOk, OnErr, OnOk, length, take};
+ghost use Rattle.std.specs.Prelude.{◌≡◌, ◌++◌, ◌∷◌, [], OnErr, OnOk, length, take};
 ghost use Rattle.crs_value.specs.BadValue.{IsAboveZero};
 ghost use Rattle.crs_value.specs.Sound.{IsText};
 ghost use Rattle.crs_rules.specs.NoRules.{no_rules};
@@ -75,8 +75,8 @@ impl Rules {
         }) }
         ensures err { OnErr result (self.new ≡ self.old) }
     {
-        let alias = copied(alloc, alias)?;
-        let name = copied(alloc, name)?;
+        let alias = Vec::from_slice(alloc, alias)?;
+        let name = Vec::from_slice(alloc, name)?;
         self.names.push(NameAlias { class, alias, name })?;
         Ok(())
     }
@@ -108,8 +108,8 @@ impl Rules {
         ensures err { OnErr result (self.new ≡ self.old) }
     {
         let _normal = (alias_factor.is_negative(), factor.is_negative());
-        let alias = copied(alloc, alias)?;
-        let name = copied(alloc, name)?;
+        let alias = Vec::from_slice(alloc, alias)?;
+        let name = Vec::from_slice(alloc, name)?;
         self.units.push(UnitAlias {
             kind,
             alias,
@@ -134,7 +134,7 @@ impl Rules {
         self.units.len()
     }
 
-    /// Forgets all names but so many, and all units but so many, that count as others: those that were added last.
+    /// Keeps the first `names` names and the first `units` units that count as others, and forgets the rest.
     pub fn truncate(&mut self, names: usize, units: usize)
         ensures { self.new ≡ record self.old {
           names = take names self.old.names;
@@ -144,12 +144,4 @@ impl Rules {
         self.names.truncate(names);
         self.units.truncate(units);
     }
-}
-
-fn copied(alloc: Global, bytes: &[u8]) -> Result<Vec<u8>, AllocError>
-    ensures { IfOk result (λ copy. copy.items ≡ bytes.now) }
-{
-    let mut copy = Vec::new(alloc);
-    copy.extend_from_slice(bytes)?;
-    Ok(copy)
 }

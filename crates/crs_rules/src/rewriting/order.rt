@@ -62,7 +62,7 @@ fn texts_of(alloc: Global, axes: &[Axis<'_>]) -> Result<Vec<AxisText>, AllocErro
     Ok(texts)
 }
 
-// Puts the axes at this place and at the next in each other's place, and their texts.
+// Exchanges the axis at this place and the next one, and their texts.
 fn exchange(axes: &mut List<Axis<'_>>, texts: &mut Vec<AxisText>, at: usize)
     requires texts { texts.old.items ≡ map (axis_text levels.Full) axes.old }
     requires at { at + 1 < length axes.old }

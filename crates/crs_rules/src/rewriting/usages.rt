@@ -1,36 +1,25 @@
 //! Usages and the ends of CRSs.
 ghost use Rattle.std.specs.Prelude.{◌≡◌};
-ghost use Rattle.std.specs.Option.{option_map};
-ghost use Rattle.crs_rules.specs.Rewritten.{extent, tail, usage};
+ghost use Rattle.crs_rules.specs.Rewritten.{tail};
 ghost use Rattle.crs_rules.specs.Rules.{meaning};
 
 use crate::laws::rules_are_sound;
-use crate::rewriting::Rewriting;
 use crate::rewriting::parts::optional_unit;
+use crate::rewriting::{Rewriting, change_part};
 use crate::rules::Rules;
 use crs_value::{Change, Extent, Tail, Usage};
 
-fn extent<'a>(value: &mut Extent<'a>, rules: &'a Rules)
-    ensures { value.new ≡ extent (meaning rules.now) value.old }
-{
-    rules_are_sound(rules);
-    optional_unit(&mut value.unit, rules);
-}
+// Extents under rules.
+impl<'a> Change<Extent<'a>> for Rewriting<'a> {
+    ghost use Rattle.crs_rules.specs.Rewritten.{extent};
+    ghost use Rattle.crs_rules.specs.Rules.{meaning};
 
-// An extent that may be missing.
-fn optional_extent<'a>(extent_or_none: &mut Option<Extent<'a>>, rules: &'a Rules)
-    ensures { extent_or_none.new ≡ option_map (extent (meaning rules.now)) extent_or_none.old }
-{
-    if let Some(found) = extent_or_none {
-        extent(found, rules);
+    ghost changed = { λ c e. extent (meaning c.rules.now) e };
+
+    fn change(&self, value: &mut Extent<'a>) {
+        rules_are_sound(self.rules);
+        optional_unit(&mut value.unit, self.rules);
     }
-}
-
-fn usage<'a>(value: &mut Usage<'a>, rules: &'a Rules)
-    ensures { value.new ≡ usage (meaning rules.now) value.old }
-{
-    rules_are_sound(rules);
-    optional_extent(&mut value.extent, rules);
 }
 
 // Usages under rules.
@@ -41,16 +30,8 @@ impl<'a> Change<Usage<'a>> for Rewriting<'a> {
     ghost changed = { λ c u. usage (meaning c.rules.now) u };
 
     fn change(&self, value: &mut Usage<'a>) {
-        usage(value, self.rules);
-    }
-}
-
-// A usage that may be missing.
-fn optional_usage<'a>(usage_or_none: &mut Option<Usage<'a>>, rules: &'a Rules)
-    ensures { usage_or_none.new ≡ option_map (usage (meaning rules.now)) usage_or_none.old }
-{
-    if let Some(found) = usage_or_none {
-        usage(found, rules);
+        rules_are_sound(self.rules);
+        change_part(&mut value.extent, self);
     }
 }
 
@@ -59,5 +40,5 @@ pub(super) fn tail<'a>(value: &mut Tail<'a>, rules: &'a Rules)
 {
     rules_are_sound(rules);
     value.usages.change_each(&Rewriting { rules });
-    optional_usage(&mut value.bare_parts, rules);
+    change_part(&mut value.bare_parts, &Rewriting { rules });
 }
