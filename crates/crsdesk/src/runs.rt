@@ -13,7 +13,7 @@ use crs_desk::{
 };
 use std::path::Path;
 
-// What a run of these words comes to that reads standard input, as one text or line by line, and writes standard output.
+// The answer of a run with these words over standard input, taken as one text or line by line, and standard output.
 macro_rules! over_standard {
     ($rt:ident, $from:ident => $run:ident($($word:expr),*) $(.map($status:expr))?) => {{
         let mut input = Input::standard($rt);
@@ -25,6 +25,15 @@ macro_rules! over_standard {
             &mut Sink::new(&mut output),
         );
         answered(answer$(.map($status))?, &input, &output)
+    }};
+}
+
+// The answer of a run with these words over standard output.
+macro_rules! to_standard {
+    ($rt:ident, $run:ident($($word:expr),*)) => {{
+        let mut output = Output::new($rt);
+        let answer = $run($rt.alloc(), $($word,)* &mut Sink::new(&mut output));
+        written(answer, &output)
     }};
 }
 
@@ -77,9 +86,8 @@ pub fn files(
     rules: Option<&Rules>,
 ) -> Result<u8, Fault> {
     let each = match (task, rules) {
-        (Task::Same(_), _) => return same_files(rt, level, rules, names),
-        (Task::ExplainPair(options), _) => {
-            return explain_files(rt, options, level, rules, names);
+        (Task::Same(_), _) | (Task::ExplainPair(_), _) => {
+            return two_files(rt, task, names, level, rules);
         }
         (Task::Explain(options), _) => FileTask::Explain(manner_of(options)),
         (Task::Check, _) => FileTask::Check,
@@ -95,30 +103,38 @@ pub fn files(
             FileTask::FormGroup(level, listing_of(flags), rules)
         }
     };
-    each_file(rt, each, names)
+    to_standard!(rt, run_files(each, names, &Opener { rt: *rt }))
 }
 
-fn each_file(rt: &HostRuntime, task: FileTask<'_>, names: &[LineWord]) -> Result<u8, Fault> {
-    let mut output = Output::new(rt);
-    let answer = run_files(
-        rt.alloc(),
-        task,
-        names,
-        &Opener { rt: *rt },
-        &mut Sink::new(&mut output),
-    );
-    written(answer, &output)
-}
-
-// Whether the texts of two files spell the same CRS.
-fn same_files(
+// What a task asks of the texts of two files: a request for two names two. The faults of both are told.
+fn two_files(
     rt: &HostRuntime,
+    task: &Task,
+    names: &[LineWord],
     level: Level,
     rules: Option<&Rules>,
-    names: &[LineWord],
 ) -> Result<u8, Fault> {
-    let (first, second) = two_texts(rt, names)?;
-    same_texts(rt, level, rules, &first, &second)
+    let [first, second, ..] = names else {
+        return Err(Fault::Told);
+    };
+    let first = file_text(rt, first.as_str());
+    let second = file_text(rt, second.as_str());
+    two_texts(rt, task, level, rules, &first?, &second?)
+}
+
+/// What a task asks of two texts, under rules where there are some.
+pub fn two_texts(
+    rt: &HostRuntime,
+    task: &Task,
+    level: Level,
+    rules: Option<&Rules>,
+    a: &[u8],
+    b: &[u8],
+) -> Result<u8, Fault> {
+    match task {
+        Task::ExplainPair(options) => explain_texts(rt, options, level, rules, a, b),
+        _ => same_texts(rt, level, rules, a, b),
+    }
 }
 
 /// Whether two texts spell the same CRS, or the same under rules.
@@ -129,33 +145,16 @@ pub fn same_texts(
     a: &[u8],
     b: &[u8],
 ) -> Result<u8, Fault> {
-    let mut output = Output::new(rt);
-    let mut sink = Sink::new(&mut output);
-    let answer = match rules {
-        Some(rules) => run_same_under(rt.alloc(), level, rules, a, b, &mut sink),
-        None => run_same(rt.alloc(), level, a, b, &mut sink),
-    };
-    written(answer, &output)
+    match rules {
+        Some(rules) => to_standard!(rt, run_same_under(level, rules, a, b)),
+        None => to_standard!(rt, run_same(level, a, b)),
+    }
 }
 
 /// What a text spells, or why it is refused, explained.
 pub fn explain_text(rt: &HostRuntime, how: Manner, word: &LineWord) -> Result<u8, Fault> {
     let text = text_of(rt, word);
-    let mut output = Output::new(rt);
-    let answer = run_explain_text(rt.alloc(), how, text, &mut Sink::new(&mut output));
-    written(answer, &output)
-}
-
-// All parts in which the texts of two files differ.
-fn explain_files(
-    rt: &HostRuntime,
-    options: &ExplainOptions,
-    level: Level,
-    rules: Option<&Rules>,
-    names: &[LineWord],
-) -> Result<u8, Fault> {
-    let (first, second) = two_texts(rt, names)?;
-    explain_texts(rt, options, level, rules, &first, &second)
+    to_standard!(rt, run_explain_text(how, text))
 }
 
 /// All parts in which two texts differ, or differ under rules.
@@ -169,25 +168,10 @@ pub fn explain_texts(
 ) -> Result<u8, Fault> {
     let how = manner_of(options);
     let order = order_of(rt.alloc(), options)?;
-    let mut output = Output::new(rt);
-    let mut sink = Sink::new(&mut output);
-    let answer = match rules {
-        Some(rules) => {
-            run_explain_pair_under(rt.alloc(), how, &order, level, rules, a, b, &mut sink)
-        }
-        None => run_explain_pair(rt.alloc(), how, &order, level, a, b, &mut sink),
-    };
-    written(answer, &output)
-}
-
-// The texts of two files: a request for two names two. The faults of both are told.
-fn two_texts(rt: &HostRuntime, names: &[LineWord]) -> Result<(Vec<u8>, Vec<u8>), Fault> {
-    let [first, second, ..] = names else {
-        return Err(Fault::Told);
-    };
-    let first = file_text(rt, first.as_str());
-    let second = file_text(rt, second.as_str());
-    Ok((first?, second?))
+    match rules {
+        Some(rules) => to_standard!(rt, run_explain_pair_under(how, &order, level, rules, a, b)),
+        None => to_standard!(rt, run_explain_pair(how, &order, level, a, b)),
+    }
 }
 
 /// The text of a file. Its fault is told.

@@ -1,6 +1,6 @@
 //! The commands under rules, of which the files are read first.
 use crate::fault::Fault;
-use crate::runs::{explain_text, explain_texts, file_text, files, same_texts, text_of};
+use crate::runs::{explain_text, file_text, files, text_of, two_texts};
 use crate::telling::tell_refused;
 use crate::{judged_level, manner_of};
 use crs_desk::{Level, LineWord, Rules, RulesFault, RulesReader, RunFault, Task};
@@ -41,23 +41,9 @@ fn texts_by(
         (Task::Explain(options), [text]) => explain_text(rt, manner_of(options), text),
         (_, [first, second, ..]) => {
             let (first, second) = (text_of(rt, first), text_of(rt, second));
-            two_by(rt, task, first, second, level, rules)
+            two_texts(rt, task, level, Some(rules), first, second)
         }
         _ => Err(Fault::Told),
-    }
-}
-
-fn two_by(
-    rt: &HostRuntime,
-    task: &Task,
-    a: &[u8],
-    b: &[u8],
-    level: Level,
-    rules: &Rules,
-) -> Result<u8, Fault> {
-    match task {
-        Task::ExplainPair(options) => explain_texts(rt, options, level, Some(rules), a, b),
-        _ => same_texts(rt, level, Some(rules), a, b),
     }
 }
 
