@@ -75,11 +75,9 @@ fn digest(name: &[u8], digits: u128) -> u64
 fn key_of(alloc: Global, member: &Member<'_>) -> Result<Key, AllocError>
     ensures { IfOk result (λ key. key ≡ member.now) }
 {
-    let mut name = Vec::new(alloc);
-    name.extend_from_slice(member.name)?;
     Ok(Key {
         class: member.class,
-        name,
+        name: Vec::from_slice(alloc, member.name)?,
         factor: member.factor,
     })
 }
@@ -114,7 +112,7 @@ impl Seen {
         self.keys.len()
     }
 
-    // Forgets all nodes but so many.
+    // Keeps the first `count` nodes, and forgets the rest.
     pub(crate) fn truncate(&mut self, count: usize)
         ensures { self.new ≡ take count self.old }
     {

@@ -1,5 +1,5 @@
 //! The words of what doesn't count.
-ghost use Rattle.std.specs.Prelude.{◌≡◌, None, Some, if◌then◌else◌};
+ghost use Rattle.std.specs.Prelude.{◌≡◌};
 ghost use Rattle.std.specs.Str.{str_eq_ignore_ascii_case};
 ghost use Rattle.crs_text.specs.Items.{HasId};
 ghost use Rattle.crs_value.specs.Reading.{item_at};
@@ -20,41 +20,30 @@ fn with_word(raw: &[u8], uncounted: Uncounted) -> Option<Uncounted>
     ensures { result ≡ with_word raw.now uncounted }
 {
     let mut more = uncounted;
-    if add_word(raw, &mut more) {
-        Some(more)
-    } else {
-        None
-    }
-}
-
-// Adds what a word names; whether it names anything.
-fn add_word(raw: &[u8], uncounted: &mut Uncounted) -> bool
-    ensures { with_word raw.now uncounted.old ≡ (if result then Some uncounted.new else None) }
-{
     if is_word("crsName", raw) {
-        uncounted.crs_names = true;
+        more.crs_names = true;
     } else if is_word("baseName", raw) {
-        uncounted.base_names = true;
+        more.base_names = true;
     } else if is_word("conversionName", raw) {
-        uncounted.conversion_names = true;
+        more.conversion_names = true;
     } else if is_word("axisName", raw) {
-        uncounted.axis_names = true;
+        more.axis_names = true;
     } else if is_word("dynamic", raw) {
-        uncounted.dynamics = true;
+        more.dynamics = true;
     } else if is_word("anchor", raw) {
-        uncounted.anchors = true;
+        more.anchors = true;
     } else if is_word("geoidModel", raw) {
-        uncounted.geoid_models = true;
+        more.geoid_models = true;
     } else if is_word("baseUnit", raw) {
-        uncounted.base_units = true;
+        more.base_units = true;
     } else if is_word("ensemble", raw) {
-        uncounted.ensembles = true;
+        more.ensembles = true;
     } else if is_word("axisOrder", raw) {
-        uncounted.axis_order = true;
+        more.axis_order = true;
     } else {
-        return false;
+        return None;
     }
-    true
+    Some(more)
 }
 
 // The same with what an item names, which is a word by itself.
