@@ -1,8 +1,8 @@
 """The commands over files: ``python -m crsdesk check|canon|same|group|audit``.
 
-Answers go to standard output, refusals in full and faults to standard error. Status 0: all texts spell CRSs, and of
-``same`` the same one. 1: a text is refused, or the two CRSs differ. 2: a file can't be read, or another fault. Where nobody reads the
-output any more the run ends with status 2, and says nothing.
+Answers go to standard output, refusals in full and faults to standard error. Status 0: no text is refused, and of
+``same`` both spell the same CRS. 1: a text is refused, or the two CRSs differ. 2: a file can't be read, or another
+fault. Where nobody reads the output any more the run ends with status 2, and says nothing.
 
 With ``--lines`` a file has a text a line; one line at a time is held, and ``group`` holds each CRS's canonical text.
 With ``--convert`` PROJ reads texts in other forms, and each that it read is marked.
