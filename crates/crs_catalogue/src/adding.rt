@@ -60,7 +60,7 @@ impl Adding for ByForm<'_> {
     }
 }
 
-// A way to add lines: as their texts are added, and where lines have names or not.
+// A way to add lines: how their texts are added, and whether lines have names.
 #[derive(Drop)]
 pub(crate) struct Way<A: Adding> {
     pub(crate) adding: A,

@@ -34,11 +34,12 @@ pub trait Inputs {
     fn tell(&self, name: &str, input: &Self::Input, fault: &RunFault);
 }
 
-/// Writes for each file in its turn what is asked of it; where there are several, each line begins with the file's name,
-/// in which control characters, ends of lines, marks of direction and backslashes are escaped, and a colon, and an object
-/// of JSON has the name as its first member, `"file"`. A file that can't be opened, or not be read to its end within the bounds of its task, is told to the user, has status 2, and the
-/// others go on; of its answer nothing was written, or where each line is a text that of whole lines, the first of all.
-/// The status is the greatest of all. `WriteFailed` where the sink has failed, `Memory` where memory ran out. Profile.
+/// Writes for each file in its turn what is asked of it. Where there are several, each line begins with the file's name
+/// and a colon; in the name control characters, ends of lines, marks of direction and backslashes are escaped. An object
+/// of JSON has the name as its first member, `"file"`. A file that can't be opened, or not be read to its end within the
+/// bounds of its task, is told to the user and has status 2, and the others go on; of its answer nothing was written, or,
+/// where each line is a text, the answers for its first whole lines. The status is the greatest of all. `WriteFailed`
+/// where the sink has failed, `Memory` where memory ran out. Profile.
 pub fn run_files<I: Inputs, W: Write>(
     alloc: Global,
     task: FileTask<'_>,

@@ -5,7 +5,7 @@ ghost use Rattle.crs_desk.specs.Prefixed.{begun, prefixed};
 use std::alloc::{AllocError, Global};
 use std::marker::Model;
 
-// What stands before each line: some bytes, which stand for the brace where lines are objects.
+// What stands before each line: some bytes, which take the place of the opening brace where lines are objects.
 #[derive(Drop)]
 pub(crate) struct Prefix {
     pub(crate) bytes: Vec<u8>,
