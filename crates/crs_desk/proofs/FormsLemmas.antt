@@ -1,5 +1,5 @@
 -- The forms of two texts, put together from what was found out about each.
-use Rattle.std.proofs.Common.{◌≡◌, ◌⊎◌, ℕ, List, Result, Ok, Err, inr, subst, sym, IsErrAnd, MatchResult}
+use Rattle.std.proofs.Common.{◌≡◌, ◌⊎◌, ℕ, List, Result, Ok, Err, inr, subst, sym, MatchResult}
 use Rattle.crs_value.specs.declared.values.level.Level.{Level}
 use Rattle.crs_writer.specs.Prelude.{CanonicalText}
 use Rattle.crs_rules.specs.Rules.{RulesParts}
@@ -24,9 +24,3 @@ pub pair-formed : (rules : RulesParts) (level : Level) (Refused : Refusals) (Com
 unfolding IsPairUnder
 pair-formed rules level Refused Compared first second a b bytes others written status (is, other) same alike compared =
     inr (bytes, others, subst (IsForm rules level first) (sym same) is, subst (IsForm rules level second) (sym alike) other, compared)
-
--- a refusal, of which this holds
-pub refused-formed : {A O : Type 0} (found : Result A O) (First : A → Type 0) (Second Other : O → Type 0)
-    → ((output : O) → Other output → Second output) → IsErrAnd found Other → MatchResult found First Second
-refused-formed (Ok forms) First Second Other weaker is = absurd is
-refused-formed (Err output) First Second Other weaker is = weaker output is

@@ -1,14 +1,12 @@
 //! The forms of two texts under rules, or what is written for the first that has none.
-ghost use Rattle.std.specs.Prelude.{◌≡◌, IfOk, IsErrAnd, MatchResult, codes};
-ghost use Rattle.crs_value.specs.SpellsText.{IsFaultOfText};
+ghost use Rattle.std.specs.Prelude.{◌≡◌, IfOk, MatchResult, codes};
 ghost use Rattle.crs_rules.specs.Under.{IsForm};
 ghost use Rattle.crs_desk.specs.RulesOutput.{IsRefusedUnder};
 
 use crate::Level;
 use crs_canon::Canon;
 use crs_rules::{Rules, canon_under};
-use crs_runs::{Telling, refusal_in};
-use crs_text::Fault;
+use crs_runs::{Telling, refused_output};
 use std::alloc::{AllocError, Global};
 
 // Rules, and the level at which texts have forms under them.
@@ -37,7 +35,7 @@ pub(crate) fn forms_of<T: Telling>(
 {
     match canon_under(alloc, first, under.level, under.rules) {
         Ok(form) => second_form(alloc, told, under, form, second),
-        Err(fault) => refused_form(alloc, told, b"first ", first, fault),
+        Err(fault) => Ok(Err(refused_output(alloc, told, b"first ", first, fault)?)),
     }
 }
 
@@ -55,21 +53,6 @@ fn second_form<T: Telling>(
 {
     match canon_under(alloc, second, under.level, under.rules) {
         Ok(form) => Ok(Ok((first, form))),
-        Err(fault) => refused_form(alloc, told, b"second ", second, fault),
+        Err(fault) => Ok(Err(refused_output(alloc, told, b"second ", second, fault)?)),
     }
-}
-
-// What is written for the refusal of a text, after the word that says which text it is.
-fn refused_form<T: Telling>(
-    alloc: Global,
-    told: T,
-    which: &[u8],
-    text: &[u8],
-    fault: Fault,
-) -> Result<Forms, AllocError>
-    requires { IsFaultOfText text.now fault }
-    ensures { IfOk result (λ found. IsErrAnd found (λ output. T.Refused told which.now text.now output.0.items output.1)) }
-{
-    let refusal = refusal_in(fault)?;
-    Ok(Err((told.refusal(alloc, which, text, refusal)?, 1)))
 }

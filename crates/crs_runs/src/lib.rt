@@ -8,7 +8,7 @@ pub use check_run::{CheckText, accepted_line, kind_word, run_check};
 use crs_streams::{RunFault, Sink, Source};
 use crs_value::Level;
 pub use judging::{kind_of_text, refusal_in};
-pub use pair::{PairAnswer, Telling, pair_output};
+pub use pair::{PairAnswer, Telling, pair_output, refused_output};
 pub use print::{line_of, refused_line};
 pub use text::read_text;
 

@@ -96,8 +96,9 @@ fn second_output<'t, T: Telling>(
     }
 }
 
-// The refusal of a text, after the word that says which text it is.
-fn refused_output<T: Telling>(
+/// What is written for the refusal of a text, after the word that says which text it is, and the status. `AllocError`:
+/// memory ran out. Profile.
+pub fn refused_output<T: Telling>(
     alloc: Global,
     told: T,
     which: &[u8],

@@ -1,6 +1,6 @@
-use Rattle.std.proofs.Common.{codes, inl}
+use Rattle.std.proofs.Common.{codes}
 use Rattle.std.proofs.lemmas.Result.{IfOk-weaker}
-use Rattle.crs_desk.proofs.FormsLemmas.{refused-formed, second-formed}
+use Rattle.crs_desk.proofs.FormsLemmas.{second-formed}
 use Rattle.crs_desk.proofs.forms.forms_of.Goals as goal
 
 pub returns-in-Ok : goal.returns-in-Ok
@@ -11,10 +11,3 @@ returns-in-Ok g c =
     (λ output. Refused (codes "first ") c.args.first.now output.0.items output.1)
     (λ output. Refused (codes "second ") c.args.second.now output.0.items output.1) c.in-Ok.ensures.answer)
     c.second_form.ensures
-
-pub refused_form-requires : goal.refused_form-requires
-refused_form-requires g c = c.in-Err.ensures.answer
-
-pub returns-in-Err : goal.returns-in-Err
-returns-in-Err g c =
-    IfOk-weaker c.refused_form.result _ _ (λ found. refused-formed found _ _ _ (λ output refused. inl refused)) c.refused_form.ensures
