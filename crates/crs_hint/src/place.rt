@@ -111,28 +111,13 @@ fn ends_with_thousands(before: &[u8]) -> bool {
         .take_while(|it| it.is_ascii_digit() || **it == b',')
         .count();
     let number = back(before, run);
-    are_thousands(number.strip_prefix(b",").unwrap_or(number))
-}
-
-fn are_thousands(number: &[u8]) -> bool {
-    let mut digits: usize = 0;
-    let mut groups: usize = 0;
-    for byte in number {
-        if *byte != b',' {
-            digits = digits.saturating_add(1);
-        } else if is_group(groups, digits) {
-            groups = groups.saturating_add(1);
-            digits = 0;
-        } else {
-            return false;
-        }
-    }
-    groups > 0 && digits == 0 && !number.starts_with(b"0")
-}
-
-// Whether so many digits are a group after so many others: three, and one to three in the first.
-fn is_group(groups: usize, digits: usize) -> bool {
-    digits == 3 || groups == 0 && digits > 0 && digits < 3
+    let number = number.strip_prefix(b",").unwrap_or(number);
+    let mut groups = number
+        .strip_suffix(b",")
+        .unwrap_or(b"")
+        .split(|it| *it == b',');
+    let begins = matches!(groups.next(), Some([b'1'..=b'9', further @ ..]) if further.len() < 3);
+    begins && groups.all(|it| it.len() == 3)
 }
 
 fn begins_number(there: &[u8]) -> bool {
