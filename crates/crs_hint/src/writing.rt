@@ -21,23 +21,16 @@ type Appended = Result<(), AllocError>;
 pub fn hints(alloc: Global, text: &[u8], number: u8, place: usize) -> Result<Vec<u8>, AllocError> {
     let front = looked_at(text.trim_ascii_start(), 0).trim_ascii_end();
     let whole = by_front(text, front);
+    let bound = bound(whole, text, front);
     let there = beside(whole, by_place(text, number, place), number);
     let mut out = Vec::new(alloc);
-    append_next(whole, text, place, &mut out)?;
-    append_next(bound(whole, text, front), text, place, &mut out)?;
-    append_next(there, text, place, &mut out)?;
-    Ok(out)
-}
-
-// A further hint, if there is one.
-fn append_next(hint: Option<Hint<'_>>, text: &[u8], place: usize, out: &mut Vec<u8>) -> Appended {
-    let Some(hint) = hint else {
-        return Ok(());
-    };
-    if !out.is_empty() {
-        out.push(b' ')?;
+    for hint in [whole, bound, there].iter().flatten() {
+        if !out.is_empty() {
+            out.push(b' ')?;
+        }
+        append_hint(*hint, text, place, &mut out)?;
     }
-    append_hint(hint, text, place, out)
+    Ok(out)
 }
 
 // What to say of the place beside what is said of the whole. For a class that isn't read, only damage is named: in
@@ -46,20 +39,9 @@ fn beside<'a>(whole: Option<Hint<'a>>, there: Option<Hint<'a>>, number: u8) -> O
     let Some(whole) = whole else {
         return there;
     };
-    let there = there?;
-    if is_of_class(whole) && is_of_damage(there) && number <= LAST_OF_TEXT {
-        Some(there)
-    } else {
-        None
-    }
-}
-
-fn is_of_class(whole: Hint<'_>) -> bool {
-    matches!(whole, Hint::Wkt1 | Hint::Bound | Hint::Class(_))
-}
-
-fn is_of_damage(there: Hint<'_>) -> bool {
-    !matches!(there, Hint::SecondText | Hint::Behind)
+    let is_of_class = matches!(whole, Hint::Wkt1 | Hint::Bound | Hint::Class(_));
+    let is_of_damage = !matches!(there?, Hint::SecondText | Hint::Behind);
+    (is_of_class && is_of_damage && number <= LAST_OF_TEXT).then_some(there?)
 }
 
 // The transformation with which a text becomes a `BOUNDCRS`.
@@ -69,10 +51,7 @@ fn bound<'a>(whole: Option<Hint<'a>>, text: &'a [u8], front: &'a [u8]) -> Option
         Hint::ProjString => transformation_of(front),
         _ => b"",
     };
-    if word.is_empty() {
-        return None;
-    }
-    Some(Hint::MakesBound(word))
+    (!word.is_empty()).then_some(Hint::MakesBound(word))
 }
 
 /// The node whose opening delimiter is at this place, as `CS[ at 24`, where its keyword begins; nothing where no opening
