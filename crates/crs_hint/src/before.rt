@@ -91,18 +91,14 @@ impl Before {
                 true
             }
             (Some(_), _) => true,
-            (None, b'"') => self.begin_quote(place, at),
+            (None, b'"') => {
+                self.quote = (at <= place).then_some(at);
+                at <= place
+            }
             (None, b'[' | b'(') => self.enter(text, node_at(text, at, byte), place),
             (None, b']' | b')') => self.leave(place, at),
             (None, _) => true,
         }
-    }
-
-    fn begin_quote(&mut self, place: usize, at: usize) -> bool {
-        if at <= place {
-            self.quote = Some(at);
-        }
-        at <= place
     }
 
     fn end_quote(&mut self, quoted: &[u8], begin: usize) {
@@ -160,19 +156,17 @@ pub(crate) fn node_at(text: &[u8], at: usize, delimiter: u8) -> Open {
         .rev()
         .take_while(|it| is_of_word(**it))
         .count();
-    let length = from_letter(back(behind, run)).len();
+    // A keyword begins with a letter.
+    let letter = back(behind, run)
+        .iter()
+        .position(|it| it.is_ascii_alphabetic());
+    let length = run.saturating_sub(letter.unwrap_or(run));
     let white = before.len().saturating_sub(behind.len());
     Open {
         begin: at.saturating_sub(white).saturating_sub(length),
         length,
         delimiter,
     }
-}
-
-// The run from its first letter on.
-fn from_letter(run: &[u8]) -> &[u8] {
-    let letter = run.iter().position(|it| it.is_ascii_alphabetic());
-    rest(run, letter.unwrap_or(run.len()))
 }
 
 // Whether a quoted text contains the end of a node, or the beginning of the next, as it does where a quote is

@@ -87,12 +87,10 @@ pub(crate) fn by_keyword<'a>(number: u8, keyword: &[u8]) -> Option<Hint<'a>> {
 }
 
 fn entry_of<'a>(keyword: &[u8], entries: &[Entry]) -> Option<Hint<'a>> {
-    for (own, hint) in entries {
-        if own.eq_ignore_ascii_case(keyword) {
-            return Some(*hint);
-        }
-    }
-    None
+    let entry = entries
+        .iter()
+        .find(|it| it.0.eq_ignore_ascii_case(keyword))?;
+    Some(entry.1)
 }
 
 /// Whether WKT1 has a transformation, `TOWGS84[`.

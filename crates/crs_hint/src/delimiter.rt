@@ -57,12 +57,8 @@ fn by_end(found: &Before, text: &[u8]) -> Option<Hint<'static>> {
     if !matches!(text.trim_ascii_end(), [.., b']' | b')']) {
         return Some(Hint::CutOff);
     }
-    let more = if found.all_open().len() > 1 {
-        Some(Hint::StillOpen)
-    } else {
-        None
-    };
-    by_open(found).or(more)
+    let is_more_open = found.all_open().len() > 1;
+    by_open(found).or(is_more_open.then_some(Hint::StillOpen))
 }
 
 // A node that is where none of its kind can be.
@@ -76,9 +72,5 @@ fn by_open(found: &Before) -> Option<Hint<'static>> {
 fn by_closing(found: &Before, there: &[u8]) -> Option<Hint<'static>> {
     let open = found.innermost()?;
     let closing = if open.delimiter == b'[' { b']' } else { b')' };
-    if begins_close(there) && there.first() != Some(&closing) {
-        Some(Hint::ClosedBy(open))
-    } else {
-        None
-    }
+    (begins_close(there) && there.first() != Some(&closing)).then_some(Hint::ClosedBy(open))
 }

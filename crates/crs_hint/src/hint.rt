@@ -89,10 +89,6 @@ pub(crate) type Entry = (&'static [u8], Hint<'static>);
 
 /// The hint of the first of these entries with which the bytes begin.
 pub(crate) fn by_first_bytes<'a>(bytes: &[u8], entries: &[Entry]) -> Option<Hint<'a>> {
-    for (first_bytes, hint) in entries {
-        if bytes.starts_with(first_bytes) {
-            return Some(*hint);
-        }
-    }
-    None
+    let entry = entries.iter().find(|it| bytes.starts_with(it.0))?;
+    Some(entry.1)
 }

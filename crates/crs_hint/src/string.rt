@@ -38,13 +38,10 @@ const TRANSFORMATIONS: [&[u8]; 3] = [b"towgs84", b"nadgrids", b"geoidgrids"];
 
 /// The word of a PROJ string that asks for a transformation, such as `+towgs84`; empty where there is none.
 pub(crate) fn transformation_of(text: &[u8]) -> &[u8] {
-    for (at, _) in text.iter().enumerate() {
-        let word = transformation_at(rest(text, at));
-        if !word.is_empty() {
-            return word;
-        }
-    }
-    b""
+    (0..text.len())
+        .map(|at| transformation_at(rest(text, at)))
+        .find(|it| !it.is_empty())
+        .unwrap_or(b"")
 }
 
 fn transformation_at(text: &[u8]) -> &[u8] {
