@@ -4,6 +4,5 @@ pub mod LineLemmas
 pub mod PieceLemmas
 pub mod DifferingLemmas
 pub mod OrderLemmas
-pub mod SameLemmas
 pub mod ToldLemmas
 pub mod TurnedLemmas

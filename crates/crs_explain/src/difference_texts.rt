@@ -1,6 +1,5 @@
 //! All parts in which two CRSs differ, each as three texts.
-ghost use Rattle.std.specs.Prelude.{◌↔◌, IfOk, IsTrue, MatchOption, OnOk};
-ghost use Rattle.crs_same.specs.PartsOfCrs.{DifferencesInCrs};
+ghost use Rattle.std.specs.Prelude.{◌≡◌, ◌++◌, ◌∷◌, [], IfOk, MatchOption, OnOk};
 ghost use Rattle.crs_same.specs.Paths.{path_text};
 ghost use Rattle.crs_same.specs.SameCrs.{SameCrs};
 ghost use Rattle.crs_canon.specs.ContentText.{IsContentText};
@@ -12,8 +11,7 @@ ghost use Rattle.crs_explain.specs.InOrder.{AreOrderedTexts};
 use crate::order::{StepWord, put_in_order};
 use crate::set_texts::Sets;
 use crs_canon::write_content;
-use crs_same::{Content, Difference, Differences, differences, laws};
-use crs_value::laws::crs_is_sound;
+use crs_same::{Content, Difference, Differences, differences, same};
 use crs_value::{Crs, Level};
 use std::alloc::{AllocError, Global};
 use std::marker::Model;
@@ -64,13 +62,13 @@ pub(crate) fn difference_texts<'a>(
 {
     let differences = differences(alloc, a, b, level)?;
     let mut texts = Vec::new(alloc);
-    append_all(&mut texts, alloc, level, differences)?;
+    append_texts(&mut texts, alloc, level, differences)?;
     Ok(texts)
 }
 
 // Appends the texts of differences that it owns. A function that lends them is slow to prove where it is lent nothing
 // before them.
-fn append_all(
+fn append_texts(
     out: &mut Vec<DifferenceTexts>,
     alloc: Global,
     level: Level,
@@ -78,7 +76,10 @@ fn append_all(
 ) -> Result<(), AllocError>
     ensures { OnOk result (AppendsTexts (AreTexts level differences.entry) out.old.items out.new.items) }
 {
-    append_texts(alloc, level, differences.as_slice(), out)
+    for difference in differences.as_slice() {
+        append_part(alloc, level, difference, out)?;
+    }
+    Ok(())
 }
 
 /// The same, in the order of some words; None exactly where the CRSs are the same. The CRSs come first: what is called with
@@ -93,40 +94,12 @@ pub(crate) fn ordered_texts<'a>(
     ensures { IfOk result (λ found. MatchOption found (SameCrs level a.now b.now)
         (λ texts. (¬ SameCrs level a.now b.now) × AreOrderedTexts words.now level a.now b.now texts.items)) }
 {
-    let differences = differences(alloc, a, b, level)?;
-    if are_none(a, b, level, differences.as_slice()) {
+    if same(a, b, level) {
         return Ok(None);
     }
-    let mut texts = Vec::new(alloc);
-    append_all(&mut texts, alloc, level, differences)?;
+    let mut texts = difference_texts(alloc, a, b, level)?;
     put_in_order(words, &mut texts)?;
     Ok(Some(texts))
-}
-
-// Whether these are no differences of two CRSs: exactly where the CRSs are the same.
-fn are_none<'a>(a: &Crs<'a>, b: &Crs<'a>, level: Level, differences: &[Difference<'_, 'a>]) -> bool
-    requires { DifferencesInCrs level a.now b.now differences.now }
-    ensures { IsTrue result ↔ SameCrs level a.now b.now }
-{
-    laws::first_difference_is_first_part();
-    laws::no_part_differs_where_same();
-    crs_is_sound(a);
-    crs_is_sound(b);
-    differences.is_empty()
-}
-
-fn append_texts(
-    alloc: Global,
-    level: Level,
-    differences: &[Difference<'_, '_>],
-    out: &mut Vec<DifferenceTexts>,
-) -> Result<(), AllocError>
-    ensures { OnOk result (AppendsTexts (AreTexts level differences.now) out.old.items out.new.items) }
-{
-    for difference in differences {
-        append_part(alloc, level, difference, out)?;
-    }
-    Ok(())
 }
 
 fn append_part(
@@ -176,9 +149,27 @@ impl At<'_> {
         ensures { OnOk result (AppendsTexts (AreTextsOfOne self.entry.level self.entry.path.now first.now second.now)
             out.old.items out.new.items) }
     {
-        let path = Vec::from_slice(self.alloc, self.path)?;
         let first = self.content_text(first)?;
         let second = self.content_text(second)?;
+        self.push(b"", first, second, out)
+    }
+
+    /// Appends texts of what is at this path with a step behind it.
+    pub(crate) fn push(
+        self,
+        step: &[u8],
+        first: Vec<u8>,
+        second: Vec<u8>,
+        out: &mut Vec<DifferenceTexts>,
+    ) -> Result<(), AllocError>
+        ensures { OnOk result (out.new.items ≡ out.old.items ++ (record {
+          path = self.entry.path.now ++ step.now;
+          first = first.items;
+          second = second.items;
+        }) ∷ []) }
+    {
+        let mut path = Vec::from_slice(self.alloc, self.path)?;
+        path.extend_from_slice(step)?;
         out.push(DifferenceTexts {
             path,
             first,

@@ -1,5 +1,5 @@
 //! What differs in a set of parameters: in those of one name, and then in the others.
-ghost use Rattle.std.specs.Prelude.{◌≡◌, ◌++◌, ◌∷◌, [], IfOk, OnOk, map};
+ghost use Rattle.std.specs.Prelude.{◌≡◌, ◌∷◌, [], IfOk, OnOk, map};
 ghost use Rattle.std.specs.Option.{option_copied};
 ghost use Rattle.crs_shape.specs.declared.unit_kind.UnitKind.TheVariants as kinds;
 ghost use Rattle.crs_value.specs.Kept.{kept};
@@ -12,14 +12,13 @@ ghost use Rattle.crs_canon.specs.Named.{named_once, unpaired};
 ghost use Rattle.crs_explain.specs.Appended.{AppendsTexts};
 ghost use Rattle.crs_explain.specs.DifferingSets.{AreTextsOfName, AreTextsOfNames, AreTextsOfOthers, AreTextsOfParts};
 ghost use Rattle.crs_explain.specs.DifferingSets.{AreTextsOfSet, are_empty, parameter_path, parts_of_parameter};
-ghost use Rattle.crs_explain.specs.DifferingSets.{unless_empty};
 
 use crate::difference_texts::{At, DifferenceTexts};
 use crs_canon::{append_lacking_members, append_unit, append_unpaired, named_once, paired_names};
 use crs_decimal::Decimal;
 use crs_matching::{same_idents, same_units_as, same_value};
 use crs_same::Content;
-use crs_value::{Ident, Level, List, Parameter, Unit, UnitKind};
+use crs_value::{Ident, List, Parameter, Unit, UnitKind};
 use std::alloc::{AllocError, Global};
 use std::collections::BTreeSet;
 
@@ -76,12 +75,12 @@ impl Sets<'_, '_> {
         ensures { OnOk result (AppendsTexts (AreTextsOfOthers self.entry.at.level self.entry.at.path.now
             self.entry.these.now self.entry.others.now) out.old.items out.new.items) }
     {
-        let one = DifferenceTexts {
-            path: Vec::from_slice(self.at.alloc, self.at.path)?,
-            first: unpaired_text(self.at, self.these, self.others)?,
-            second: unpaired_text(self.at, self.others, self.these)?,
-        };
-        push_unless_empty(one, out)
+        let first = unpaired_text(self.at, self.these, self.others)?;
+        let second = unpaired_text(self.at, self.others, self.these)?;
+        if are_empty(&first, &second) {
+            return Ok(());
+        }
+        self.at.push(b"", first, second, out)
     }
 }
 
@@ -96,16 +95,6 @@ fn unpaired_text<'a>(
     let mut text = Vec::new(at.alloc);
     append_unpaired(at.alloc, &mut text, these, others, at.level)?;
     Ok(text)
-}
-
-fn push_unless_empty(one: DifferenceTexts, out: &mut Vec<DifferenceTexts>) -> Result<(), AllocError>
-    ensures { OnOk result (out.new.items ≡ out.old.items ++ unless_empty one) }
-{
-    if are_empty(&one.first, &one.second) {
-        return Ok(());
-    }
-    out.push(one)?;
-    Ok(())
 }
 
 fn are_empty(first: &[u8], second: &[u8]) -> bool
@@ -168,12 +157,7 @@ impl At<'_> {
         if same_units_as(UnitKind::Plain, a, b, self.level) {
             return Ok(());
         }
-        out.push(DifferenceTexts {
-            path: behind(self, b"/unit")?,
-            first: unit_text(self, a)?,
-            second: unit_text(self, b)?,
-        })?;
-        Ok(())
+        self.push(b"/unit", unit_text(self, a)?, unit_text(self, b)?, out)
     }
 
     fn append_identifiers<'a>(
@@ -188,22 +172,10 @@ impl At<'_> {
         if same_idents(a, b, self.level) {
             return Ok(());
         }
-        out.push(DifferenceTexts {
-            path: behind(self, b"/id")?,
-            first: identifiers_text(self, a, b)?,
-            second: identifiers_text(self, b, a)?,
-        })?;
-        Ok(())
+        let first = identifiers_text(self, a, b)?;
+        let second = identifiers_text(self, b, a)?;
+        self.push(b"/id", first, second, out)
     }
-}
-
-// The path with a step behind it.
-fn behind(at: At<'_>, step: &[u8]) -> Result<Vec<u8>, AllocError>
-    ensures { IfOk result (λ text. text.items ≡ at.entry.path.now ++ step.now) }
-{
-    let mut text = Vec::from_slice(at.alloc, at.path)?;
-    text.extend_from_slice(step)?;
-    Ok(text)
 }
 
 fn unit_text(at: At<'_>, unit: Option<&Unit<'_>>) -> Result<Vec<u8>, AllocError>

@@ -4,5 +4,5 @@ use Rattle.crs_explain.proofs.difference_texts.append_texts.Given as goal
 
 abbrev pub invariant-loop-difference : goal.invariant-loop-difference
 invariant-loop-difference l =
-    (rest : List PartTexts) → AreTexts l.level (drop l.difference-index l.differences) rest →
-    (texts : List PartTexts) × AreTexts l.level l.differences texts × (l.out.items ++ rest ≡ l.fn.out.items ++ texts)
+    (rest : List PartTexts) → AreTexts l.level (drop l.difference-index l.difference-items) rest →
+    (texts : List PartTexts) × AreTexts l.level l.difference-items texts × (l.out.items ++ rest ≡ l.fn.out.items ++ texts)
