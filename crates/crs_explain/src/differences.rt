@@ -67,7 +67,11 @@ pub fn difference_pieces<'a>(
     ensures { IfOk result (AreDifferencePieces level a.now b.now) }
 {
     let differences = difference_texts(alloc, a, b, level)?;
-    pieces_of(alloc, &differences)
+    let mut pieces = Pieces::new(alloc);
+    for difference in &differences {
+        append_part(difference, &mut pieces)?;
+    }
+    Ok(pieces)
 }
 
 fn lines_of(alloc: Global, differences: &[DifferenceTexts]) -> Result<Vec<u8>, AllocError>
@@ -78,16 +82,6 @@ fn lines_of(alloc: Global, differences: &[DifferenceTexts]) -> Result<Vec<u8>, A
         append_line(difference, &mut lines)?;
     }
     Ok(lines)
-}
-
-fn pieces_of(alloc: Global, differences: &[DifferenceTexts]) -> Result<Pieces, AllocError>
-    ensures { IfOk result (λ pieces. pieces ≡ flat_map part_pieces differences.now) }
-{
-    let mut pieces = Pieces::new(alloc);
-    for difference in differences {
-        append_part(difference, &mut pieces)?;
-    }
-    Ok(pieces)
 }
 
 fn append_line(difference: &DifferenceTexts, out: &mut Vec<u8>) -> Result<(), AllocError>

@@ -1,14 +1,13 @@
 //! Refusals and parts that differ as objects of JSON, each in a line.
 ghost use Rattle.std.specs.Prelude.{◌≡◌, ◌++◌, ◌≤◌, IfOk, MatchOption, OnOk, length};
-ghost use Rattle.std.specs.List.{flat_map};
 ghost use Rattle.crs_explain.specs.InOrder.{AreOrderedObjects};
 ghost use Rattle.crs_explain.specs.Json.{IsRefusalObject, difference_object, expected_members};
-ghost use Rattle.crs_explain.specs.Json.{place_members, refusal_object, sentence_members, which_member};
+ghost use Rattle.crs_explain.specs.Json.{place_members, sentence_members, which_member};
 ghost use Rattle.crs_same.specs.SameCrs.{SameCrs};
 
 use crate::difference_texts::{DifferenceTexts, ordered_texts};
 use crate::expected_texts::ExpectedTexts;
-use crate::explanation::{ExplanationOf, explanation};
+use crate::explanation::explanation;
 use crate::names::append_array;
 use crate::order::StepWord;
 use crate::place::word_at;
@@ -37,7 +36,14 @@ pub fn refusal_object(
     ensures { IfOk result (λ object. IsRefusalObject which.now text.now refusal object.items) }
 {
     let explanation = explanation(alloc, text, refusal)?;
-    object_of(alloc, which, refusal, &explanation)
+    let mut out = Vec::from_slice(alloc, b"{")?;
+    append_which(which, &mut out)?;
+    append_place(refusal, explanation.position, &mut out)?;
+    append_text_member(b"excerpt", &explanation.excerpt, &mut out)?;
+    append_expected(&explanation.expected, &mut out)?;
+    append_sentences(&explanation.sentences, &mut out)?;
+    out.extend_from_slice(b"}\n")?;
+    Ok(out)
 }
 
 /// An object of JSON and a line feed for each line of `differences_text`; None exactly where the CRSs are the same. It has
@@ -59,17 +65,11 @@ pub fn difference_objects<'a>(
     let Some(differences) = ordered_texts(alloc, a, b, level, words)? else {
         return Ok(None);
     };
-    objects_of(alloc, &differences).map(Some)
-}
-
-fn objects_of(alloc: Global, differences: &[DifferenceTexts]) -> Result<Vec<u8>, AllocError>
-    ensures { IfOk result (λ objects. objects.items ≡ flat_map difference_object differences.now) }
-{
     let mut objects = Vec::new(alloc);
-    for difference in differences {
+    for difference in &differences {
         append_difference(difference, &mut objects)?;
     }
-    Ok(objects)
+    Ok(Some(objects))
 }
 
 fn append_difference(difference: &DifferenceTexts, out: &mut Vec<u8>) -> Result<(), AllocError>
@@ -80,24 +80,6 @@ fn append_difference(difference: &DifferenceTexts, out: &mut Vec<u8>) -> Result<
     append_value_member(b"first", &difference.first, out)?;
     append_value_member(b"second", &difference.second, out)?;
     out.extend_from_slice(b"}\n")
-}
-
-fn object_of(
-    alloc: Global,
-    which: &[u8],
-    refusal: Refusal,
-    explanation: &ExplanationOf,
-) -> Result<Vec<u8>, AllocError>
-    ensures { IfOk result (λ object. object.items ≡ refusal_object which.now refusal explanation.now) }
-{
-    let mut out = Vec::from_slice(alloc, b"{")?;
-    append_which(which, &mut out)?;
-    append_place(refusal, explanation.position, &mut out)?;
-    append_text_member(b"excerpt", &explanation.excerpt, &mut out)?;
-    append_expected(&explanation.expected, &mut out)?;
-    append_sentences(&explanation.sentences, &mut out)?;
-    out.extend_from_slice(b"}\n")?;
-    Ok(out)
 }
 
 // `"text":"first",`, or nothing where there is one text.

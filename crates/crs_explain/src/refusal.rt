@@ -1,9 +1,9 @@
 //! The refusal of a text, explained to a person and to a program.
 ghost use Rattle.std.specs.Prelude.{◌≡◌, ◌++◌, ◌∷◌, ◌≤◌, [], IfOk, OnOk, codes, decimal, length};
-ghost use Rattle.crs_explain.specs.Explained.{AreExplainedPieces, IsExplained, explanation_pieces, explanation_text, head};
+ghost use Rattle.crs_explain.specs.Explained.{AreExplainedPieces, IsExplained, head};
 
 use crate::expected_texts::{ExpectedTexts, or_nothing};
-use crate::explanation::{ExplanationOf, explanation};
+use crate::explanation::explanation;
 use crate::names::push_each;
 use crate::pieces::Pieces;
 use crs_streams::{append_number, append_refusal};
@@ -22,7 +22,13 @@ pub fn refusal_text(alloc: Global, text: &[u8], refusal: Refusal) -> Result<Vec<
     ensures { IfOk result (λ told. IsExplained text.now refusal told.items) }
 {
     let explanation = explanation(alloc, text, refusal)?;
-    text_of(alloc, refusal, &explanation)
+    let nothing = ExpectedTexts::nothing(alloc);
+    let mut told = Vec::new(alloc);
+    append_head(refusal, explanation.position, &mut told)?;
+    told.extend_from_slice(&explanation.excerpt)?;
+    or_nothing(&explanation.expected, &nothing).append_line(&mut told)?;
+    explanation.sentences.append_lines(&mut told)?;
+    Ok(told)
 }
 
 /// The explanation of a refusal as numbers and pieces. Profile.
@@ -62,23 +68,19 @@ pub fn refusal_pieces(
     ensures { IfOk result (AreExplainedPieces text.now refusal) }
 {
     let explanation = explanation(alloc, text, refusal)?;
-    pieces_of(alloc, &explanation)
-}
-
-fn text_of(
-    alloc: Global,
-    refusal: Refusal,
-    explanation: &ExplanationOf,
-) -> Result<Vec<u8>, AllocError>
-    ensures { IfOk result (λ told. told.items ≡ explanation_text refusal explanation.now) }
-{
     let nothing = ExpectedTexts::nothing(alloc);
-    let mut told = Vec::new(alloc);
-    append_head(refusal, explanation.position, &mut told)?;
-    told.extend_from_slice(&explanation.excerpt)?;
-    or_nothing(&explanation.expected, &nothing).append_line(&mut told)?;
-    explanation.sentences.append_lines(&mut told)?;
-    Ok(told)
+    let expected = or_nothing(&explanation.expected, &nothing);
+    let mut pieces = Pieces::new(alloc);
+    pieces.push(&explanation.excerpt)?;
+    expected.push_found(alloc, &mut pieces)?;
+    explanation.sentences.push(&mut pieces)?;
+    push_each(&expected.names, &mut pieces)?;
+    Ok(ExplanationPieces {
+        line: explanation.position.line,
+        column: explanation.position.column,
+        node: expected.place,
+        pieces,
+    })
 }
 
 // `refused N NAME at P, line L, column C`, and a line feed.
@@ -99,22 +101,4 @@ fn append_position(position: Position, out: &mut Vec<u8>) -> Result<(), AllocErr
     out.extend_from_slice(b", column ")?;
     append_number(position.column, out)?;
     out.extend_from_slice(b"\n")
-}
-
-fn pieces_of(alloc: Global, explanation: &ExplanationOf) -> Result<ExplanationPieces, AllocError>
-    ensures { IfOk result (λ told. told ≡ explanation_pieces explanation.now) }
-{
-    let nothing = ExpectedTexts::nothing(alloc);
-    let expected = or_nothing(&explanation.expected, &nothing);
-    let mut pieces = Pieces::new(alloc);
-    pieces.push(&explanation.excerpt)?;
-    expected.push_found(alloc, &mut pieces)?;
-    explanation.sentences.push(&mut pieces)?;
-    push_each(&expected.names, &mut pieces)?;
-    Ok(ExplanationPieces {
-        line: explanation.position.line,
-        column: explanation.position.column,
-        node: expected.place,
-        pieces,
-    })
 }
