@@ -1,5 +1,5 @@
 //! The piece of a line at a place, and below it a caret under the place.
-ghost use Rattle.std.specs.Prelude.{◌≡◌, ◌++◌, ◌≤◌, ◌-◌, ℕ, List, IfOk, IfSome, OnOk, codes, length, take, drop};
+ghost use Rattle.std.specs.Prelude.{◌≡◌, ◌++◌, ◌≤◌, ◌-◌, ℕ, List, IfOk, IfSome, OnOk, length, take, drop};
 ghost use Rattle.crs_explain.specs.Excerpt.{IsExcerpt, blanks, blanks_below, printed_text, shown_place};
 
 use crate::place::rest_of;
@@ -28,7 +28,13 @@ pub(crate) fn excerpt(alloc: Global, text: &[u8], place: usize) -> Result<Vec<u8
     let position = position_of(text, shown);
     let left = before_place(between(text, position.begin, shown));
     let right = behind_place(between(text, shown, position.end));
-    lines_of(alloc, left, right)
+    let mut out = Vec::from_slice(alloc, b"  ")?;
+    append_printed(left, &mut out)?;
+    append_printed(right, &mut out)?;
+    out.extend_from_slice(b"\n  ")?;
+    append_blanks(left, &mut out)?;
+    out.extend_from_slice(b"^\n")?;
+    Ok(out)
 }
 
 fn between(text: &[u8], begin: usize, end: usize) -> &[u8]
@@ -53,35 +59,16 @@ fn shown_place(text: &[u8], place: usize) -> usize
     }
 }
 
-// The two lines.
-fn lines_of(alloc: Global, left: &[u8], right: &[u8]) -> Result<Vec<u8>, AllocError>
-    ensures { IfOk result (λ lines. lines.items ≡ codes "  " ++ printed_text left.now
-        ++ printed_text right.now ++ codes "\n  " ++ blanks_below left.now ++ codes "^\n") }
-{
-    let mut out = Vec::from_slice(alloc, b"  ")?;
-    append_printed(left, &mut out)?;
-    append_printed(right, &mut out)?;
-    out.extend_from_slice(b"\n  ")?;
-    append_blanks(left, &mut out)?;
-    out.extend_from_slice(b"^\n")?;
-    Ok(out)
-}
-
 // The last characters of the bytes.
 fn before_place(bytes: &[u8]) -> &[u8]
     ensures { (front : List ℕ) × (bytes.now ≡ front ++ result.now) }
 {
-    rest_of(bytes, hidden_before(bytes))
-}
-
-// How many bytes are before the last characters.
-fn hidden_before(bytes: &[u8]) -> usize {
     let hidden = bytes.len().saturating_sub(BYTES_BEFORE);
-    let bytes = rest_of(bytes, hidden);
-    let count = bytes.chars().count();
-    match bytes.char_indices().nth(count.saturating_sub(BEFORE)) {
-        Some((begin, _, _)) => hidden.saturating_add(begin),
-        None => hidden,
+    let last = rest_of(bytes, hidden);
+    let more = last.chars().count().saturating_sub(BEFORE);
+    match last.char_indices().nth(more) {
+        Some((begin, _, _)) => rest_of(bytes, hidden.saturating_add(begin)),
+        None => last,
     }
 }
 
@@ -89,18 +76,12 @@ fn hidden_before(bytes: &[u8]) -> usize {
 fn behind_place(bytes: &[u8]) -> &[u8]
     ensures { (rest : List ℕ) × (bytes.now ≡ result.now ++ rest) }
 {
-    between(bytes, 0, shown_behind(bytes)).trim_ascii_end()
-}
-
-// How many bytes the first characters have.
-fn shown_behind(bytes: &[u8]) -> usize
-    ensures { result ≤ length bytes.now }
-{
     let most = bytes.len().min(BYTES_BEHIND);
-    match between(bytes, 0, most).char_indices().nth(BEHIND) {
+    let end = match between(bytes, 0, most).char_indices().nth(BEHIND) {
         Some((end, _, _)) => end.min(most),
         None => most,
-    }
+    };
+    between(bytes, 0, end).trim_ascii_end()
 }
 
 // Appends bytes as they are printed.

@@ -1,5 +1,5 @@
 //! Texts one after the other, and where each ends.
-ghost use Rattle.std.specs.Prelude.{◌≡◌, ◌++◌, ◌∷◌, [], OnErr, OnOk, length};
+ghost use Rattle.std.specs.Prelude.{◌≡◌, ◌++◌, ◌∷◌, [], OnOk};
 ghost use Rattle.crs_explain.specs.Pieces.{ends_from, joined};
 
 use std::alloc::{AllocError, Global};
@@ -55,20 +55,10 @@ impl Pieces {
     pub(crate) fn push(&mut self, text: &[u8]) -> Result<(), AllocError>
         ensures { OnOk result (self.new ≡ self.old ++ text.now ∷ []) }
     {
-        append_piece(text, &mut self.bytes, &mut self.ends)?;
+        // The room for the end is asked for first, so that the last push can't fail.
+        self.ends.reserve(1)?;
+        self.bytes.extend_from_slice(text)?;
+        self.ends.push(self.bytes.len())?;
         Ok(())
     }
-}
-
-// Adds a text and where it ends, or neither. The room for the end is asked for first, so that the last push can't fail.
-fn append_piece(text: &[u8], bytes: &mut Vec<u8>, ends: &mut Vec<usize>) -> Result<(), AllocError>
-    ensures bytes { OnOk result (bytes.new.items ≡ bytes.old.items ++ text.now) }
-    ensures ends { OnOk result (ends.new.items ≡ ends.old.items ++ length bytes.new.items ∷ []) }
-    ensures as_before { OnErr result (bytes.new.items ≡ bytes.old.items) }
-    ensures no_end { OnErr result (ends.new.items ≡ ends.old.items) }
-{
-    ends.reserve(1)?;
-    bytes.extend_from_slice(text)?;
-    ends.push(bytes.len())?;
-    Ok(())
 }

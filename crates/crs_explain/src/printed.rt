@@ -1,6 +1,5 @@
 //! Characters as one line can show them.
 ghost use Rattle.std.specs.Prelude.{◌≡◌};
-ghost use Rattle.ucd_category.specs.GeneralCategory.{general_category};
 ghost use Rattle.crs_explain.specs.Excerpt.{is_hidden, printed};
 
 use ucd_category::GeneralCategory;

@@ -1,5 +1,5 @@
 //! What is open, was meant or is asked for, what a number means, and hints.
-ghost use Rattle.std.specs.Prelude.{◌≡◌, ◌++◌, ◌∷◌, ◌≤◌, [], IfOk, OnOk, length, map};
+ghost use Rattle.std.specs.Prelude.{◌≡◌, ◌++◌, ◌∷◌, ◌≤◌, [], IfOk, OnOk, length};
 ghost use Rattle.crs_explain.specs.Explained.{AreSentences, AreWords, line_if_any, sentence_lines};
 ghost use Rattle.crs_explain.specs.Lines.{in_line};
 
@@ -98,26 +98,16 @@ fn words_of(alloc: Global, words: &[u8]) -> Result<Vec<u8>, AllocError>
     ensures { IfOk result (λ line. AreWords line.items) }
 {
     let mut line = Vec::new(alloc);
-    append_in_line(shortened(words), &mut line)?;
+    for byte in shortened(words) {
+        line.push(in_line(*byte))?;
+    }
     Ok(line)
 }
 
 fn shortened(words: &[u8]) -> &[u8]
     ensures { length result.now ≤ 1000 }
 {
-    match words.get(..MOST) {
-        Some(front) => front,
-        None => words,
-    }
-}
-
-fn append_in_line(words: &[u8], out: &mut Vec<u8>) -> Result<(), AllocError>
-    ensures { OnOk result (out.new.items ≡ out.old.items ++ map in_line words.now) }
-{
-    for byte in words {
-        out.push(in_line(*byte))?;
-    }
-    Ok(())
+    words.get(..MOST).unwrap_or(words)
 }
 
 fn in_line(byte: u8) -> u8
