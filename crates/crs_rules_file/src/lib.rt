@@ -2,15 +2,11 @@
 #![tactic(auto)]
 
 mod fault;
-mod joining;
 pub mod laws;
 mod member;
 mod reader;
-mod reading;
 mod seen;
-mod subject;
 mod words;
 
 pub use fault::{RulesFault, RulesRefusal};
-pub use reader::RulesReader;
-pub use reading::read_rules;
+pub use reader::{RulesReader, read_rules};

@@ -1,16 +1,15 @@
-//! The nodes of a `SAME`.
+//! The nodes of a `SAME`, and their classes.
 ghost use Rattle.std.specs.Prelude.{◌≡◌, ◌↔◌, IfSome, IsTrue, Some};
 ghost use Rattle.crs_text.specs.Items.{HasId, here, kind_of_item, rest_of};
 ghost use Rattle.crs_value.specs.BadValue.{IsAboveZero};
 ghost use Rattle.crs_value.specs.Reading.{IsReading, item_at};
-ghost use Rattle.crs_rules_file.specs.Members.{Says, SaysFactor, kind_of};
+ghost use Rattle.crs_rules_file.specs.Members.{Says, SaysFactor, kind_of, subject_of};
 ghost use Rattle.crs_rules_file.specs.Named.{SaysNamed};
 
-use crate::subject::{kind_of, subject_of};
 use crs_decimal::Decimal;
 use crs_decimal::laws::denotes_one;
 use crs_shape::Class;
-use crs_text::{ItemId, ItemKind, Items};
+use crs_text::{ItemId, ItemKind, Items, Keyword};
 use crs_value::UnitKind;
 use std::marker::Model;
 
@@ -39,6 +38,49 @@ impl Drop for Member<'_> {
             name: _,
             factor: _,
         } = self;
+    }
+}
+
+// The class that this keyword is of; `None` where nodes of its classes never count as one.
+fn subject(keyword: Keyword) -> Option<Class>
+    ensures { result ≡ subject_of (Some keyword) }
+{
+    match keyword {
+        Keyword::Datum | Keyword::Trf | Keyword::GeodeticDatum => Some(Class::GeodeticFrame),
+        Keyword::VDatum | Keyword::Vrf | Keyword::VerticalDatum => Some(Class::VerticalFrame),
+        Keyword::Member => Some(Class::Member),
+        Keyword::Ellipsoid | Keyword::Spheroid => Some(Class::Ellipsoid),
+        Keyword::PrimeM | Keyword::PrimeMeridian => Some(Class::PrimeMeridian),
+        Keyword::Method | Keyword::Projection => Some(Class::Method),
+        Keyword::Parameter => Some(Class::Parameter),
+        Keyword::GeoidModel => Some(Class::GeoidModel),
+        Keyword::Model | Keyword::VelocityGrid => Some(Class::DeformationModel),
+        Keyword::Axis => Some(Class::Axis),
+        Keyword::PlainUnit => Some(Class::PlainUnit),
+        Keyword::LengthUnit => Some(Class::LengthUnit),
+        Keyword::AngleUnit => Some(Class::AngleUnit),
+        Keyword::ScaleUnit => Some(Class::ScaleUnit),
+        _ => None,
+    }
+}
+
+// The class that a keyword is of, where there is one.
+fn subject_of(keyword: Option<Keyword>) -> Option<Class>
+    ensures { result ≡ subject_of keyword }
+{
+    subject(keyword?)
+}
+
+// The kind of units of this class; `None` where its nodes are no units.
+pub(crate) fn kind_of(class: Class) -> Option<UnitKind>
+    ensures { result ≡ kind_of class }
+{
+    match class {
+        Class::PlainUnit => Some(UnitKind::Plain),
+        Class::LengthUnit => Some(UnitKind::Length),
+        Class::AngleUnit => Some(UnitKind::Angle),
+        Class::ScaleUnit => Some(UnitKind::Scale),
+        _ => None,
     }
 }
 

@@ -1,29 +1,43 @@
-//! Rules files line by line.
+//! From the bytes of rules files to their rules, line by line.
 ghost use Rattle.std.specs.Prelude.{◌≡◌, ◌≢◌, ◌↔◌, ◌+◌, ◌^◌, ◌<◌, [], ◌∷◌, ℕ, List, length};
 ghost use Rattle.std.specs.Prelude.{IfErr, IfOk, IsTrue, MatchResult, OnErr, OnOk, Some};
 ghost use Rattle.std.specs.Option.{option_copied};
 ghost use Rattle.crs_text.specs.Items.{HasId, IsNode, arguments};
 ghost use Rattle.crs_streams.specs.Lines.{AreLines};
 ghost use Rattle.crs_value.specs.Reading.{Holds, ahead, item_at};
-ghost use Rattle.crs_rules_file.specs.RulesFile.{FaultOfLine, Reads, ReadsFile, RefusesFile, is_idle, start};
+ghost use Rattle.crs_rules_file.specs.Members.{kind_of};
+ghost use Rattle.crs_rules_file.specs.RulesFile.{FaultOfLine, Reads, ReadsFile, RefusesFile, SpellsRules, is_idle, start};
 ghost use Rattle.crs_rules_file.specs.Statements.{Adds, AddsSet, Drops, FaultOfNode, FaultOfSet, FaultOfStatement};
 ghost use Rattle.crs_rules_file.specs.Statements.{FaultOfWord, FaultOver, IsRefusedBy, Joins, Over, States};
-ghost use Rattle.crs_rules_file.specs.Statements.{IsOfSet, joined, listed};
+ghost use Rattle.crs_rules_file.specs.Statements.{IsOfSet, joined, listed, with_alias};
 ghost use Rattle.crs_rules_file.specs.Grown.{HasGrown};
 ghost use Rattle.crs_rules_file.specs.Marks.{IsMarked, gone_back};
 ghost use Rattle.crs_rules_file.specs.Faults.{IsFaultIn, IsMemory, refused_at};
 
 use crate::fault::{RulesFault, RulesRefusal};
-use crate::joining::join;
-use crate::member::{Member, member_at};
+use crate::member::{Member, kind_of, member_at};
 use crate::seen::Seen;
 use crate::words::{is_word, with_item};
 use crs_rules::{Rules, Uncounted};
 use crs_streams::laws::lines_are_one;
 use crs_streams::{split_line, text_of};
 use crs_text::{Fault, ItemId, Items, read_items};
-use std::alloc::Global;
+use std::alloc::{AllocError, Global};
 use std::marker::Model;
+
+/// The rules that the bytes of a rules file spell; for more files, see [`RulesReader`].
+///
+/// `Refused`: the first line that is refused, with its number and place. `Memory`: there is no memory for the rules.
+/// Time is linear in the bytes. Profile.
+pub fn read_rules(alloc: Global, bytes: &[u8]) -> Result<Rules, RulesFault>
+    ensures { MatchResult result (SpellsRules bytes.now) (IsRefusedBy (RefusesFile start bytes.now)) }
+{
+    let mut reader = RulesReader::new(alloc);
+    match reader.read(alloc, bytes) {
+        Ok(()) => Ok(reader.into_rules()),
+        Err(fault) => Err(fault),
+    }
+}
 
 // Where a reader is: its line, how many nodes of sets, names and units there are, and what doesn't count.
 #[derive(Drop)]
@@ -339,6 +353,29 @@ impl RulesReader {
             Ok(items) => self.statement(alloc, &items),
             Err(fault) => Err(fault_in(self.line, fault)),
         }
+    }
+}
+
+// A node counts as the first of its set. Out of memory, the rules are as before.
+fn join(
+    alloc: Global,
+    rules: &mut Rules,
+    first: &Member<'_>,
+    member: &Member<'_>,
+) -> Result<(), AllocError>
+    ensures joined { OnOk result (rules.new ≡ with_alias (kind_of first.now.class) first.now member.now rules.old) }
+    ensures unchanged { OnErr result (rules.new ≡ rules.old) }
+{
+    match kind_of(first.class) {
+        None => rules.alias_name(alloc, member.class, member.name, first.name),
+        Some(kind) => rules.alias_unit(
+            alloc,
+            kind,
+            member.name,
+            member.factor,
+            first.name,
+            first.factor,
+        ),
     }
 }
 
