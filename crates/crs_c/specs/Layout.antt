@@ -3,23 +3,23 @@ use prog.Memory.{size, align}
 use denote.Param.{layout}
 use Rattle.std.specs.Prelude.{replicate}
 use Rattle.crs_c.specs.declared.layout.Sizes.{Sizes}
-use Rattle.crs_calls.specs.declared.canon_each.Entry.{Entry}
-use Rattle.crs_calls.specs.declared.refusal_pieces.Explained.{Explained}
+use Rattle.crs_calls.specs.declared.canon.Entry.{Entry}
+use Rattle.crs_calls.specs.declared.explain.Explained.{Explained}
 use Rattle.crs_calls.specs.declared.refused.Refused.{Refused}
-use Rattle.crs_calls.specs.declared.catalogue_answers.Numbered.{Numbered}
+use Rattle.crs_calls.specs.declared.catalogue.Numbered.{Numbered}
 use Rattle.crs_calls.specs.declared.piece.Piece.{Piece}
-use Rattle.crs_calls.specs.declared.catalogue_answers.Standing.{Standing}
-use Rattle.crs_calls.specs.declared.rules_answers.Form.{Form}
-use Rattle.crs_calls.specs.declared.rules_answers.RulesStanding.{RulesStanding}
-use Rattle.crs_calls.specs.contracts.canon_each.Entry as entry
-use Rattle.crs_calls.specs.contracts.refusal_pieces.Explained as explained
+use Rattle.crs_calls.specs.declared.catalogue.Standing.{Standing}
+use Rattle.crs_calls.specs.declared.rules.Form.{Form}
+use Rattle.crs_calls.specs.declared.rules.RulesStanding.{RulesStanding}
+use Rattle.crs_calls.specs.contracts.canon.Entry as entry
+use Rattle.crs_calls.specs.contracts.explain.Explained as explained
 use Rattle.crs_calls.specs.contracts.refused.Refused as refused
-use Rattle.crs_calls.specs.contracts.catalogue_answers.Standing as standing
-use Rattle.crs_calls.specs.contracts.catalogue_answers.Numbered as numbered
+use Rattle.crs_calls.specs.contracts.catalogue.Standing as standing
+use Rattle.crs_calls.specs.contracts.catalogue.Numbered as numbered
 use Rattle.crs_calls.specs.contracts.piece.Piece as piece
-use Rattle.crs_calls.specs.contracts.held_rules.HeldRules as held_rules
-use Rattle.crs_calls.specs.contracts.rules_answers.Form as form
-use Rattle.crs_calls.specs.contracts.rules_answers.RulesStanding as rules_standing
+use Rattle.crs_calls.specs.contracts.rules.HeldRules as held_rules
+use Rattle.crs_calls.specs.contracts.rules.Form as form
+use Rattle.crs_calls.specs.contracts.rules.RulesStanding as rules_standing
 use Rattle.crs_catalogue.specs.contracts.catalogue.Catalogue as catalogue
 
 -- the bytes that a catalogue, rules and each struct take, and the alignment of a catalogue and of rules

@@ -5,7 +5,7 @@ use denote.RawPtr.{Ptr, lies_at, room_at}
 use Rattle.crs_placed.specs.Catalogue.{CatalogueParts}
 use Rattle.crs_catalogue.specs.contracts.catalogue.Catalogue as catalogue
 use Rattle.crs_calls.specs.Held.{HeldParts}
-use Rattle.crs_calls.specs.contracts.held_rules.HeldRules as held_rules
+use Rattle.crs_calls.specs.contracts.rules.HeldRules as held_rules
 
 -- this catalogue is there, and belongs to the holder of this
 unfoldable pub catalogue_at : Ptr → CatalogueParts → Fml

@@ -11,9 +11,9 @@ use Rattle.crs_catalogue.specs.UnderRules.{IsCatalogueUnder}
 use Rattle.crs_rules.specs.Rules.{RulesParts}
 use Rattle.crs_placed.specs.declared.placed.Placed.{Placed}
 use Rattle.crs_placed.specs.declared.placed.Placed.TheVariants as placed
-use Rattle.crs_calls.specs.declared.catalogue_answers.Numbered.{Numbered}
+use Rattle.crs_calls.specs.declared.catalogue.Numbered.{Numbered}
 use Rattle.crs_calls.specs.declared.piece.Piece.{Piece}
-use Rattle.crs_calls.specs.declared.catalogue_answers.Standing.{Standing}
+use Rattle.crs_calls.specs.declared.catalogue.Standing.{Standing}
 use Rattle.crs_calls.specs.Codes.{level_numbered}
 use Rattle.crs_calls.specs.Pieces.{IsPiece}
 use Rattle.crs_calls.specs.Refusals.{no_refusal, place_and_number}

@@ -5,7 +5,7 @@ use Rattle.crs_value.specs.declared.values.crs.Crs.{Crs}
 use Rattle.crs_value.specs.SpellsText.{Spells, Refuses}
 use Rattle.crs_explain.specs.Differing.{AreDifferencePieces}
 use Rattle.crs_explain.specs.Explained.{AreExplainedPieces, ExplainedPieces}
-use Rattle.crs_calls.specs.declared.refusal_pieces.Explained.{Explained}
+use Rattle.crs_calls.specs.declared.explain.Explained.{Explained}
 use Rattle.crs_calls.specs.Answers.{Answer, IsAtLevel}
 use Rattle.crs_calls.specs.Pairs.{IsPairAnswer}
 use Rattle.crs_calls.specs.PieceBuffers.{AreGiven, GivesPieces, PieceBuffers}

@@ -8,8 +8,8 @@ use Rattle.crs_rules_file.specs.RulesFile.{ReadsFile, RefusesFile}
 use Rattle.crs_rules_file.specs.declared.fault.RulesFault.{RulesFault}
 use Rattle.crs_rules_file.specs.declared.fault.RulesFault.TheVariants as faults
 use Rattle.crs_rules_file.specs.declared.fault.RulesRefusal.{RulesRefusal}
-use Rattle.crs_calls.specs.declared.rules_answers.Form.{Form}
-use Rattle.crs_calls.specs.declared.rules_answers.RulesStanding.{RulesStanding}
+use Rattle.crs_calls.specs.declared.rules.Form.{Form}
+use Rattle.crs_calls.specs.declared.rules.RulesStanding.{RulesStanding}
 use Rattle.crs_calls.specs.Codes.{level_numbered}
 use Rattle.crs_calls.specs.Held.{HeldParts}
 use Rattle.crs_calls.specs.Refusals.{no_refusal, place_and_number}

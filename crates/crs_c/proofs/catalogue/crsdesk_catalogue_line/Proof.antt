@@ -6,8 +6,8 @@ use Rattle.crs_c.proofs.catalogue.crsdesk_catalogue_line.Code as code
 use Rattle.crs_calls.specs.contracts.looked_up as g
 use Rattle.crs_calls.proofs.looked_up.Met.{met}
 use Rattle.crs_calls.specs.Catalogues.{line_at}
-use Rattle.crs_calls.specs.contracts.catalogue_answers.Numbered as numbered
-use Rattle.crs_calls.proofs.catalogue_answers.Numbered.TheLaws as numbered_laws
+use Rattle.crs_calls.specs.contracts.catalogue.Numbered as numbered
+use Rattle.crs_calls.proofs.catalogue.Numbered.TheLaws as numbered_laws
 
 pub crsdesk_catalogue_line_spec : {M : Type 1} → statement M
 unfolding catalogue_at

@@ -2,7 +2,7 @@ use Rattle.std.proofs.Common.{refl, rules}
 use Rattle.crs_calls.specs.FirstPart.{DiffersFirst}
 use Rattle.crs_calls.specs.Same.{TellsSame}
 use Rattle.crs_calls.proofs.ComparisonLemmas.{pair-fault, pair-made}
-use Rattle.crs_calls.proofs.same.same_at.Goals as goal
+use Rattle.crs_calls.proofs.comparison.same_at.Goals as goal
 
 pub returns-in-Ok : goal.returns-in-Ok
 returns-in-Ok c =

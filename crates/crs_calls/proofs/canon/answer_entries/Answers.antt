@@ -1,6 +1,6 @@
 use Rattle.std.proofs.Common.{◌≡◌, ◌∙◌, length, arith}
 use Rattle.crs_calls.proofs.EachLemmas.{ends_before, ends_behind, nothing_yet, one_more, same_room, turn_done, turn_ends}
-use Rattle.crs_calls.proofs.canon_each.answer_entries.Goals as goal
+use Rattle.crs_calls.proofs.canon.answer_entries.Goals as goal
 
 pub loop-index-init : goal.loop-index-init
 loop-index-init c = nothing_yet c.args.level c.args.texts.now c.args.entries.now c.args.out.now

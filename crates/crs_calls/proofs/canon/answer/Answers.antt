@@ -1,6 +1,6 @@
 use Rattle.std.proofs.Common.{refl}
 use Rattle.crs_calls.proofs.EachLemmas.{turn_refused, turn_written}
-use Rattle.crs_calls.proofs.canon_each.answer.Goals as goal
+use Rattle.crs_calls.proofs.canon.answer.Goals as goal
 
 pub returns-in-Ok : goal.returns-in-Ok
 returns-in-Ok c =

@@ -1,5 +1,5 @@
 use Rattle.crs_calls.proofs.EachLemmas.{SoFar}
-use Rattle.crs_calls.proofs.canon_each.answer_entries.Given as goal
+use Rattle.crs_calls.proofs.canon.answer_entries.Given as goal
 
 abbrev pub invariant-loop-index : goal.invariant-loop-index
 invariant-loop-index l =

@@ -1,7 +1,7 @@
 use Rattle.crs_explain.specs.Differing.{AreDifferencePieces}
 use Rattle.crs_calls.specs.PieceBuffers.{GivesPieces}
 use Rattle.crs_calls.proofs.ComparisonLemmas.{pair-fault, pair-made}
-use Rattle.crs_calls.proofs.difference_pieces.pieces_at.Goals as goal
+use Rattle.crs_calls.proofs.comparison.pieces_at.Goals as goal
 
 pub returns-in-Ok : goal.returns-in-Ok
 returns-in-Ok c =

@@ -1,7 +1,7 @@
 use Rattle.std.proofs.Common.{◌∙◌, inl, sym}
 use Rattle.std.proofs.lemmas.Result.{IfOk-weaker}
 use Rattle.crs_calls.proofs.ExplainLemmas.{refused-text}
-use Rattle.crs_calls.proofs.explain.explained.Goals as goal
+use Rattle.crs_calls.proofs.explain.fault_explained.Goals as goal
 
 pub returns : goal.returns
 returns c =

@@ -1,7 +1,7 @@
 use Rattle.std.proofs.Common.{◌∙◌, inl, sym}
 use Rattle.crs_calls.specs.ExplainPieces.{IsRefusalExplained}
 use Rattle.crs_calls.proofs.ExplainLemmas.{refused-text}
-use Rattle.crs_calls.proofs.refusal_pieces.fault_in_pieces.Goals as goal
+use Rattle.crs_calls.proofs.explain.fault_in_pieces.Goals as goal
 
 pub returns-in-Ok : goal.returns-in-Ok
 unfolding IsRefusalExplained

@@ -2,7 +2,7 @@ use Rattle.std.proofs.Common.{ℕ, Vec, Global}
 use Rattle.crs_explain.specs.Differing.{IsDifferencesText}
 use Rattle.crs_calls.specs.Buffers.{Gives}
 use Rattle.crs_calls.proofs.ComparisonLemmas.{pair-fault, pair-made}
-use Rattle.crs_calls.proofs.differences.differences_at.Goals as goal
+use Rattle.crs_calls.proofs.comparison.differences_at.Goals as goal
 
 pub returns-in-Ok : goal.returns-in-Ok
 returns-in-Ok c =

@@ -1,5 +1,5 @@
 use Rattle.crs_calls.proofs.ComparisonLemmas.{pair-fault, path-answer}
-use Rattle.crs_calls.proofs.first_part.part_at.Goals as goal
+use Rattle.crs_calls.proofs.comparison.part_at.Goals as goal
 
 pub returns-in-Ok : goal.returns-in-Ok
 returns-in-Ok c =

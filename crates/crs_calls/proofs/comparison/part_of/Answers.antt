@@ -1,6 +1,6 @@
 use Rattle.crs_same.specs.Prelude.{SameCrs}
 use Rattle.crs_calls.proofs.WordLemmas.{no-words}
-use Rattle.crs_calls.proofs.first_part.part_of.Goals as goal
+use Rattle.crs_calls.proofs.comparison.part_of.Goals as goal
 
 pub returns : goal.returns
 returns c =
