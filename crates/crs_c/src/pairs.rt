@@ -1,0 +1,124 @@
+//! Whether two texts spell the same CRS, and where they differ.
+ghost use Rattle.crs_calls.specs.Explain.{IsDifferencesAnswer};
+ghost use Rattle.crs_calls.specs.ExplainPieces.{IsDifferencePiecesAnswer};
+ghost use Rattle.crs_calls.specs.FirstPart.{IsPartAnswer};
+ghost use Rattle.crs_calls.specs.PieceBuffers.{buffers_of};
+ghost use Rattle.crs_calls.specs.Same.{IsSameAnswer};
+
+use crs_calls::{NO_LEVEL, Refused, differences_at, level_numbered, part_at, pieces_at, same_at};
+use std::alloc::Global;
+
+/// Whether two texts spell the same CRS at a level.
+///
+/// 0: each spells a CRS, and `is_same` is 1 where they are the same, else 0. 1: the first spells none, and `refused`
+/// says why. 2: the first spells a CRS and the second none, and `refused` says why. 3: memory was refused. 4: there
+/// is no such level. What a code doesn't mention is as before. Profile.
+#[unsafe(no_mangle)]
+pub extern "C" fn crsdesk_same(
+    alloc: Global,
+    first: &[u8],
+    second: &[u8],
+    level: u32,
+    is_same: &mut u32,
+    refused: &mut Refused,
+) -> u32
+    ensures { IsSameAnswer level first.now second.now
+        (record { answer = is_same.old; refused = refused.old })
+        (record { answer = is_same.new; refused = refused.new })
+        result }
+{
+    match level_numbered(level) {
+        Some(level) => same_at(alloc, first, second, level, is_same, refused),
+        None => NO_LEVEL,
+    }
+}
+
+/// The first part in which the CRSs of two texts differ at a level: the words of its path, with `/` between them; no
+/// words exactly where they are the same.
+///
+/// 0: each spells a CRS, and the path is at the front of `out`; `length` is its number of bytes. 1: the first spells
+/// none, and `refused` says why. 2: the first spells a CRS and the second none, and `refused` says why. 3: memory was
+/// refused. 4: there is no such level. 5: the path has more bytes than `out`; `length` is their number. What a code
+/// doesn't mention is as before. Profile.
+#[unsafe(no_mangle)]
+pub extern "C" fn crsdesk_first_part(
+    alloc: Global,
+    first: &[u8],
+    second: &[u8],
+    level: u32,
+    out: &mut [u8],
+    length: &mut usize,
+    refused: &mut Refused,
+) -> u32
+    ensures { IsPartAnswer level first.now second.now
+        (record { answer = record { items = out.old; told = length.old }; refused = refused.old })
+        (record { answer = record { items = out.new; told = length.new }; refused = refused.new })
+        result }
+{
+    match level_numbered(level) {
+        Some(level) => part_at(alloc, first, second, level, out, length, refused),
+        None => NO_LEVEL,
+    }
+}
+
+/// All parts in which the CRSs of two texts differ at a level, a line each: the path, and the values in the first and
+/// in the second. No lines exactly where they are the same.
+///
+/// 0: each spells a CRS, and the lines are at the front of `out`; `length` is their number of bytes. 1: the first
+/// spells none, and `refused` says why. 2: the first spells a CRS and the second none, and `refused` says why. 3:
+/// memory was refused. 4: there is no such level. 5: the lines have more bytes than `out`; `length` is their number.
+/// What a code doesn't mention is as before. Profile.
+#[unsafe(no_mangle)]
+pub extern "C" fn crsdesk_differences(
+    alloc: Global,
+    first: &[u8],
+    second: &[u8],
+    level: u32,
+    out: &mut [u8],
+    length: &mut usize,
+    refused: &mut Refused,
+) -> u32
+    ensures { IsDifferencesAnswer level first.now second.now
+        (record { answer = record { items = out.old; told = length.old }; refused = refused.old })
+        (record { answer = record { items = out.new; told = length.new }; refused = refused.new })
+        result }
+{
+    match level_numbered(level) {
+        Some(level) => differences_at(alloc, first, second, level, out, length, refused),
+        None => NO_LEVEL,
+    }
+}
+
+/// All parts in which the CRSs of two texts differ at a level, three pieces each: the path, and the values in the first
+/// and in the second, with nothing escaped and no bytes where there is no value. No pieces exactly where they are the
+/// same.
+///
+/// 0: each spells a CRS; the bytes of all pieces are at the front of `out`, one after the other, and where each ends at
+/// the front of `ends`; `length` and `count` are their numbers. 1: the first spells none, and `refused` says why. 2: the
+/// first spells a CRS and the second none, and `refused` says why. 3: memory was refused. 4: there is no such level. 5:
+/// there are more bytes than `out` or more pieces than `ends` has room for; `length` and `count` are their numbers, and a
+/// buffer with the room has what it has with 0. What a code doesn't mention is as before. Profile.
+#[unsafe(no_mangle)]
+pub extern "C" fn crsdesk_difference_pieces(
+    alloc: Global,
+    first: &[u8],
+    second: &[u8],
+    level: u32,
+    out: &mut [u8],
+    length: &mut usize,
+    ends: &mut [usize],
+    count: &mut usize,
+    refused: &mut Refused,
+) -> u32
+    ensures { IsDifferencePiecesAnswer level first.now second.now
+        (record { answer = buffers_of out.old length.old ends.old count.old; refused = refused.old })
+        (record { answer = buffers_of out.new length.new ends.new count.new; refused = refused.new })
+        result }
+{
+    match level_numbered(level) {
+        Some(level) => pieces_at(
+            alloc, first, second, level, out, length, ends, count, refused,
+        ),
+        None => NO_LEVEL,
+    }
+}

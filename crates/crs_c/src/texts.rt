@@ -1,0 +1,134 @@
+//! What a text spells, or why it is refused, and canonical texts.
+ghost use Rattle.crs_calls.specs.Canon.{IsCanonAnswer};
+ghost use Rattle.crs_calls.specs.Check.{IsCheckAnswer};
+ghost use Rattle.crs_calls.specs.Each.{IsEachAnswer};
+ghost use Rattle.crs_calls.specs.Explain.{IsExplainAnswer};
+ghost use Rattle.crs_calls.specs.ExplainPieces.{IsRefusalPiecesAnswer};
+ghost use Rattle.crs_calls.specs.PieceBuffers.{buffers_of};
+
+use crs_calls::{
+    Entry, Explained, NO_LEVEL, Refused, canon_at, check_text, each_at, explain_in_pieces,
+    explain_text, level_numbered,
+};
+use std::alloc::Global;
+
+/// Whether a text spells a CRS, and of which kind; no value is built.
+///
+/// 0: it does, and `kind` is the number of its kind. 1: it spells none, and `refused` says why. 3: memory was
+/// refused. What a code doesn't mention is as before. ISO 19162:2019, "Coordinate reference systems"; the checks are
+/// the profile's.
+#[unsafe(no_mangle)]
+pub extern "C" fn crsdesk_check(
+    alloc: Global,
+    text: &[u8],
+    kind: &mut u32,
+    refused: &mut Refused,
+) -> u32
+    ensures { IsCheckAnswer text.now
+        (record { answer = kind.old; refused = refused.old })
+        (record { answer = kind.new; refused = refused.new })
+        result }
+{
+    check_text(alloc, text, kind, refused)
+}
+
+/// Why a text spells no CRS, over some lines: its refusal, the line and column, the piece of the line with a caret,
+/// what is expected there, what the number means, and a hint where one holds. No bytes where the text spells a CRS.
+///
+/// 0: the explanation is at the front of `out`; `length` is its number of bytes. 3: memory was refused. 5: it has
+/// more bytes than `out`; `length` is their number. What a code doesn't mention is as before. Profile.
+#[unsafe(no_mangle)]
+pub extern "C" fn crsdesk_explain(
+    alloc: Global,
+    text: &[u8],
+    out: &mut [u8],
+    length: &mut usize,
+) -> u32
+    ensures { IsExplainAnswer text.now
+        (record { items = out.old; told = length.old })
+        (record { items = out.new; told = length.new })
+        result }
+{
+    explain_text(alloc, text, out, length)
+}
+
+/// Why a text spells no CRS, in pieces: the piece of the line with a caret, in two lines; for 11 to 13, 21 and 25 the
+/// line of what is found and what could stand there, the keyword of the node in which something else is expected, and
+/// what is found; what is open, was meant or is asked for; what the number means; hints; and then the name of each that
+/// could stand there. What isn't to be said has no bytes.
+///
+/// 0: the text spells a CRS. 1: it spells none, and `explained` says why and where; the bytes of all pieces are at the
+/// front of `out`, one after the other, and where each ends at the front of `ends`; `length` and `count` are their
+/// numbers. 3: memory was refused. 5: it spells none, and `explained` says why and where; there are more bytes than
+/// `out` or more pieces than `ends` has room for; `length` and `count` are their numbers, and a buffer with the room has
+/// what it has with 1. What a code doesn't mention is as before. Profile.
+#[unsafe(no_mangle)]
+pub extern "C" fn crsdesk_refusal_pieces(
+    alloc: Global,
+    text: &[u8],
+    out: &mut [u8],
+    length: &mut usize,
+    ends: &mut [usize],
+    count: &mut usize,
+    explained: &mut Explained,
+) -> u32
+    ensures { IsRefusalPiecesAnswer text.now
+        (record { buffers = buffers_of out.old length.old ends.old count.old; explained = explained.old })
+        (record { buffers = buffers_of out.new length.new ends.new count.new; explained = explained.new })
+        result }
+{
+    explain_in_pieces(alloc, text, out, length, ends, count, explained)
+}
+
+/// The canonical text, at a level, of the CRS that a text spells.
+///
+/// 0: it is at the front of `out`; `length` is its number of bytes. 1: the text spells no CRS, and `refused` says
+/// why. 3: memory was refused. 4: there is no such level. 5: the canonical text has more bytes than `out`; `length`
+/// is their number. What a code doesn't mention is as before. Profile.
+#[unsafe(no_mangle)]
+pub extern "C" fn crsdesk_canon(
+    alloc: Global,
+    text: &[u8],
+    level: u32,
+    out: &mut [u8],
+    length: &mut usize,
+    refused: &mut Refused,
+) -> u32
+    ensures { IsCanonAnswer level text.now
+        (record { answer = record { items = out.old; told = length.old }; refused = refused.old })
+        (record { answer = record { items = out.new; told = length.new }; refused = refused.new })
+        result }
+{
+    match level_numbered(level) {
+        Some(level) => canon_at(alloc, text, level, out, length, refused),
+        None => NO_LEVEL,
+    }
+}
+
+/// The canonical texts, at a level, of many texts in one buffer, written one after the other into another. The text of
+/// an entry is what the buffer has from its beginning to its end; where it has less, the text is what there is.
+///
+/// 0: each entry is answered; `done` is their number. 3: memory was refused to the entry after the first `done`. 4:
+/// there is no such level, and all is as before. 5: the canonical text of the entry after the first `done` has more bytes
+/// than there is room for. The first `done` entries are answered with 3 and 5 too: their code is 0, and their canonical
+/// text ends at `written_end`, or 1, and they say why their text spells no CRS. All others, the rest of `out` and what
+/// the caller sets are as before. Profile.
+#[unsafe(no_mangle)]
+pub extern "C" fn crsdesk_canon_each(
+    alloc: Global,
+    texts: &[u8],
+    entries: &mut [Entry],
+    level: u32,
+    out: &mut [u8],
+    done: &mut usize,
+) -> u32
+    ensures { IsEachAnswer level texts.now
+        (record { entries = entries.old; out = out.old; done = done.old })
+        (record { entries = entries.new; out = out.new; done = done.new })
+        result }
+{
+    match level_numbered(level) {
+        Some(level) => each_at(alloc, texts, entries, level, out, done),
+        None => NO_LEVEL,
+    }
+}
