@@ -1,11 +1,10 @@
 //! Groups and refused lines as objects of JSON, each in a line.
-ghost use Rattle.std.specs.Prelude.{◌≡◌, ◌++◌, OnOk, codes, decimal};
-ghost use Rattle.crs_catalogue.specs.GroupObjects.{group_object, json_name, name_member, names_member, refusal_members};
+ghost use Rattle.std.specs.Prelude.{◌≡◌, ◌++◌, OnOk, codes};
+ghost use Rattle.crs_catalogue.specs.GroupObjects.{group_object, json_line, name_member, names_member, refusal_members};
 ghost use Rattle.crs_catalogue.specs.GroupObjects.{refused_object};
 ghost use Rattle.crs_streams.specs.Json.{json_array, json_more, text_member};
 
 use crate::group_text::Listed;
-use crate::names::Names;
 use crs_streams::append_number;
 use crs_streams::json::{append_key, append_number_member, append_text, append_text_member};
 use crs_text::Refusal;
@@ -26,7 +25,7 @@ impl Listed<'_> {
         out.extend_from_slice(b"{\"group\":")?;
         append_number(number, out)?;
         append_key(b"lines", out)?;
-        write_numbers(out, lines)?;
+        self.write_array(out, false, lines)?;
         self.write_names(out, lines)?;
         end_object(out, text)
     }
@@ -37,9 +36,47 @@ impl Listed<'_> {
     {
         if self.listing.names {
             append_key(b"line_names", out)?;
-            return write_names(out, self.ledger.names(), numbers);
+            return self.write_array(out, true, numbers);
         }
         Ok(())
+    }
+
+    // An array of the numbers of lines, or of their names.
+    fn write_array(self, out: &mut Vec<u8>, named: bool, numbers: &[u64]) -> Result<(), AllocError>
+        ensures { OnOk result (out.new.items ≡ out.old.items
+            ++ json_array (json_line named self.entry.ledger.now.names) numbers.now) }
+    {
+        match numbers {
+            [] => out.extend_from_slice(b"[]"),
+            [first, others @ ..] => {
+                out.extend_from_slice(b"[")?;
+                self.write_member(out, named, *first)?;
+                self.write_more(out, named, others)?;
+                out.extend_from_slice(b"]")
+            }
+        }
+    }
+
+    // Numbers or names, each after a comma.
+    fn write_more(self, out: &mut Vec<u8>, named: bool, numbers: &[u64]) -> Result<(), AllocError>
+        ensures { OnOk result (out.new.items ≡ out.old.items
+            ++ json_more (json_line named self.entry.ledger.now.names) numbers.now) }
+    {
+        for number in numbers {
+            out.extend_from_slice(b",")?;
+            self.write_member(out, named, *number)?;
+        }
+        Ok(())
+    }
+
+    fn write_member(self, out: &mut Vec<u8>, named: bool, number: u64) -> Result<(), AllocError>
+        ensures { OnOk result (out.new.items ≡ out.old.items
+            ++ json_line named self.entry.ledger.now.names number) }
+    {
+        if named {
+            return append_text(self.ledger.names().at(number), out);
+        }
+        append_number(number as usize, out)
     }
 
     // A refused line.
@@ -76,58 +113,6 @@ fn end_object(out: &mut Vec<u8>, text: &[u8]) -> Result<(), AllocError>
 {
     append_text_member(b"canonical", text, out)?;
     out.extend_from_slice(b"}\n")
-}
-
-// An array of the numbers of lines.
-fn write_numbers(out: &mut Vec<u8>, numbers: &[u64]) -> Result<(), AllocError>
-    ensures { OnOk result (out.new.items ≡ out.old.items ++ json_array decimal numbers.now) }
-{
-    match numbers {
-        [] => out.extend_from_slice(b"[]"),
-        [first, others @ ..] => {
-            out.extend_from_slice(b"[")?;
-            append_number(*first as usize, out)?;
-            write_more_numbers(out, others)?;
-            out.extend_from_slice(b"]")
-        }
-    }
-}
-
-// Numbers, each after a comma.
-fn write_more_numbers(out: &mut Vec<u8>, numbers: &[u64]) -> Result<(), AllocError>
-    ensures { OnOk result (out.new.items ≡ out.old.items ++ json_more decimal numbers.now) }
-{
-    for number in numbers {
-        out.extend_from_slice(b",")?;
-        append_number(*number as usize, out)?;
-    }
-    Ok(())
-}
-
-// An array of the names of lines.
-fn write_names(out: &mut Vec<u8>, names: &Names, numbers: &[u64]) -> Result<(), AllocError>
-    ensures { OnOk result (out.new.items ≡ out.old.items ++ json_array (json_name names.now) numbers.now) }
-{
-    match numbers {
-        [] => out.extend_from_slice(b"[]"),
-        [first, others @ ..] => {
-            out.extend_from_slice(b"[")?;
-            append_text(names.at(*first), out)?;
-            write_more_names(out, names, others)?;
-            out.extend_from_slice(b"]")
-        }
-    }
-}
-
-// Names, each after a comma.
-fn write_more_names(out: &mut Vec<u8>, names: &Names, numbers: &[u64]) -> Result<(), AllocError>
-    ensures { OnOk result (out.new.items ≡ out.old.items ++ json_more (json_name names.now) numbers.now) }
-{
-    for number in numbers {
-        out.extend_from_slice(b",")?;
-        append_text(names.at(*number), out)?;
-    }
-    Ok(())
 }
 
 // The number, its name and the place.

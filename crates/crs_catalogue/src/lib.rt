@@ -12,11 +12,9 @@ mod ledger;
 mod listing;
 mod names;
 pub mod pieces;
-mod reading;
 mod recent;
 mod running;
 mod summary;
-mod writing;
 
 pub use catalogue::{Catalogue, is_blank};
 pub use listing::{Listing, PLAIN};

@@ -2,7 +2,7 @@ use Rattle.std.proofs.Common.{◌≡◌, rules, ℕ, List, IfOk}
 use Rattle.crs_catalogue.specs.GroupCutting.{IsCutTo, IsLedgerFor}
 use Rattle.crs_catalogue.proofs.GroupCutLemmas.{cut-fresh}
 use Rattle.crs_catalogue.proofs.GroupRunLemmas.{kept, read-fits, whole-ledger}
-use Rattle.crs_catalogue.proofs.reading.read_ledger.Goals as goal
+use Rattle.crs_catalogue.proofs.running.read_ledger.Goals as goal
 
 pub read_into-requires-clause-cutter : goal.read_into-requires-clause-cutter
 read_into-requires-clause-cutter g c =

@@ -3,7 +3,7 @@ use Rattle.crs_catalogue.specs.GroupRun.{IsReadingFault}
 use Rattle.crs_streams.specs.declared.fault.RunFault.TheVariants.{ReadFailed}
 use Rattle.crs_catalogue.proofs.FaultLemmas.{handed-on}
 use Rattle.crs_catalogue.proofs.GroupRunLemmas.{failed-read, fault-in-piece, gives-short, lines-fit}
-use Rattle.crs_catalogue.proofs.reading.read_into.Goals as goal
+use Rattle.crs_catalogue.proofs.running.read_into.Goals as goal
 
 pub returns-in_err-count-clause-err : goal.returns-in_err-count-clause-err
 returns-in_err-count-clause-err g c =

@@ -1,7 +1,7 @@
 use Rattle.std.proofs.Common.{◌≡◌, ℕ, List, length, false}
 use Rattle.crs_catalogue.specs.GroupCutting.{IsCutTo}
 use Rattle.crs_streams.specs.Prelude.{HasGiven}
-use Rattle.crs_catalogue.proofs.reading.read_into.Given as goal
+use Rattle.crs_catalogue.proofs.running.read_into.Given as goal
 
 abbrev pub invariant-loop-turn : goal.invariant-loop-turn
 invariant-loop-turn g l =
