@@ -11,17 +11,15 @@ use std::alloc::{AllocError, Global};
 pub fn check(alloc: Global, tally: &mut Tally, texts: Texts<'_>) {
     tally.count("crs_canon::canon", refuses(alloc));
     let (text, canonical) = (texts.named("height"), texts.named("height_canonical"));
-    let is_spelled = holds(alloc, text, |crs| has_text(alloc, canonical, crs));
+    let is_spelled = holds(alloc, text, |crs| has_text(crs, canonical, alloc));
     tally.count("crs_canon::canon_of", is_spelled);
     match canon(alloc, text, Level::Full) {
         Ok(text) => check_text(alloc, tally, texts, &text),
         Err(_fault) => tally.count("crs_canon::Canon", false),
     }
     let (codes, set) = (texts.named("codes"), texts.named("set_of_codes"));
-    let is_same = holds(alloc, codes, |crs| set_is_same(crs));
-    tally.count("crs_canon::Set::same", is_same);
-    let is_written = holds(alloc, codes, |crs| set_is_written(alloc, crs, set));
-    tally.count("crs_canon::Set::write", is_written);
+    let are_set = holds(alloc, codes, |crs| check_set(crs, tally, set, alloc));
+    tally.count("crs_canon::Set", are_set);
 }
 
 fn refuses(alloc: Global) -> bool {
@@ -30,7 +28,7 @@ fn refuses(alloc: Global) -> bool {
 }
 
 // Whether this is the canonical text of a CRS.
-fn has_text(alloc: Global, expected: &[u8], crs: &Crs<'_>) -> bool {
+fn has_text(crs: &Crs<'_>, expected: &[u8], alloc: Global) -> bool {
     let answer: Result<Canon, AllocError> = canon_of(alloc, crs, Level::Full);
     matches!(answer, Ok(text) if text.bytes() == expected)
 }
@@ -60,26 +58,30 @@ fn is_equal(text: &Canon, other: Result<Canon, Fault>) -> bool {
     text.same(other) && are_equal(text, other) && hash_of(text) == hash_of(other)
 }
 
-// The identifiers of a vertical CRS; none of another one.
-fn identifiers_of<'c, 'a>(crs: &'c Crs<'a>) -> &'c [Ident<'a>] {
-    match crs {
-        Crs::Vertical(crs) => crs.tail.identifiers.as_slice(),
-        Crs::Geodetic(_) | Crs::Projected(_) | Crs::Compound(_) => &[],
-    }
+// Looks at the set of a vertical CRS's identifiers; none of another one.
+fn check_set(crs: &Crs<'_>, tally: &mut Tally, expected: &[u8], alloc: Global) -> bool {
+    let Crs::Vertical(crs) = crs else {
+        return false;
+    };
+    let members = crs.tail.identifiers.as_slice();
+    tally.count("crs_canon::Set::same", set_is_same(members));
+    tally.count(
+        "crs_canon::Set::write",
+        set_is_written(members, expected, alloc),
+    );
+    true
 }
 
-// Whether the set of its identifiers is the same as itself, and not as that of those after the first.
-fn set_is_same(crs: &Crs<'_>) -> bool {
-    let members = identifiers_of(crs);
+// Whether a set is the same as itself, and not as that of the members after the first.
+fn set_is_same(members: &[Ident<'_>]) -> bool {
     let set: Set<'_, Ident<'_>> = Set::of(members);
     set.same(&Set::of(members), Level::Full)
         && !set.same(&Set::of(members.get(1..).unwrap_or(&[])), Level::Full)
 }
 
-// Whether the set of its identifiers is written as this text.
-fn set_is_written(alloc: Global, crs: &Crs<'_>, expected: &[u8]) -> bool {
+// Whether a set is written as this text.
+fn set_is_written(members: &[Ident<'_>], expected: &[u8], alloc: Global) -> bool {
     let mut out = Vec::new(alloc);
-    let set = Set::of(identifiers_of(crs));
-    let written: Result<(), AllocError> = set.write(alloc, Level::Full, &mut out);
+    let written: Result<(), AllocError> = Set::of(members).write(alloc, Level::Full, &mut out);
     written.is_ok() && out.as_slice() == expected
 }

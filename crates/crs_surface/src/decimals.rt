@@ -7,7 +7,9 @@ use std::alloc::{AllocError, Global};
 pub fn check(alloc: Global, tally: &mut Tally) {
     let parsed: Result<Decimal, NumberFault> = Decimal::parse(b"-0012.3400");
     tally.count("crs_decimal::Decimal::parse", parsed.is_ok());
-    if let (Ok(number), Ok(zero)) = (parsed, Decimal::parse(b"-0E999")) {
+    if let Ok(number) = parsed
+        && let Ok(zero) = Decimal::parse(b"-0E999")
+    {
         check_signs(tally, number, zero);
         check_digits(alloc, tally, number, zero);
     }

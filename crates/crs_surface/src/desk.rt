@@ -99,12 +99,12 @@ fn asks(alloc: Global, line: &[&str], command: &str, words: &[&str]) -> bool {
 // The last nine variants are additions.
 fn is_request(asked: &Request, command: &str, words: &[&str]) -> bool {
     match asked {
-        Request::Canon(level) => command == "Canon" && are_words(&[level], words),
+        Request::Canon(level) => command == "Canon" && [word(level)].as_slice() == words,
         Request::Check => command == "Check" && words.is_empty(),
         Request::Same(first, second, level) => {
-            command == "Same" && are_words(&[first, second, level], words)
+            command == "Same" && [word(first), word(second), word(level)].as_slice() == words
         }
-        Request::Group(level) => command == "Group" && are_words(&[level], words),
+        Request::Group(level) => command == "Group" && [word(level)].as_slice() == words,
         Request::CanonLines(_)
         | Request::CheckLines
         | Request::GroupListed(_, _)
@@ -117,12 +117,6 @@ fn is_request(asked: &Request, command: &str, words: &[&str]) -> bool {
     }
 }
 
-fn are_words(found: &[&LineWord], words: &[&str]) -> bool {
-    for (own, word) in found.iter().zip(words) {
-        let text: &str = own.as_str();
-        if text != *word {
-            return false;
-        }
-    }
-    found.len() == words.len()
+fn word(word: &LineWord) -> &str {
+    word.as_str()
 }

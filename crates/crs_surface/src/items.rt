@@ -28,7 +28,7 @@ fn check_whole(alloc: Global, tally: &mut Tally, items: &Items<'_>) {
     tally.count("crs_text::Items::root", has_root(items, alloc));
     tally.count("crs_text::Items::contains", contains(items, alloc));
     tally.count("crs_text::Items::place", items.place(root) == 0);
-    tally.count("crs_text::Items::close", items.close(root) == Some(73));
+    tally.count("crs_text::Items::close", has_close(items) == Some(true));
     tally.count("crs_text::Items::size", items.size(root) == 13);
     tally.count("crs_text::Items::arg_count", items.arg_count(root) == 4);
 }
@@ -37,7 +37,8 @@ fn check_parts(alloc: Global, tally: &mut Tally, items: &Items<'_>) {
     tally.count("crs_text::Items::arg", has_arguments(items) == Some(true));
     tally.count("crs_text::Items::next", has_next(items) == Some(true));
     tally.count("crs_text::ItemKind", has_kinds(items) == Some(true));
-    tally.count("crs_text::Items::raw", has_raw(items) == Some(true));
+    let has_raw = has_raw(items) == Some(true) && has_quotes(alloc) == Some(true);
+    tally.count("crs_text::Items::raw", has_raw);
     tally.count("crs_text::Items::number", has_number(items) == Some(true));
 }
 
@@ -54,6 +55,12 @@ fn contains(items: &Items<'_>, alloc: Global) -> bool {
     };
     let other = read_items(alloc, b"a[1]");
     matches!(&other, Ok(other) if items.contains(axis) && !other.contains(axis))
+}
+
+// A node has a closing delimiter, and nothing else has one.
+fn has_close(items: &Items<'_>) -> Option<bool> {
+    let name = items.arg(items.root(), 0)?;
+    Some(items.close(items.root()) == Some(73) && items.close(name).is_none())
 }
 
 fn has_arguments(items: &Items<'_>) -> Option<bool> {
@@ -95,6 +102,13 @@ fn kind_letter(kind: ItemKind) -> char {
 fn has_raw(items: &Items<'_>) -> Option<bool> {
     let name = items.arg(items.root(), 0)?;
     Some(items.raw(name) == b"H".as_slice() && keyword(items) == b"VERTCRS".as_slice())
+}
+
+// Quotes inside a text stay doubled.
+fn has_quotes(alloc: Global) -> Option<bool> {
+    let items = read_items(alloc, b"a[\"b\"\"c\"]").ok()?;
+    let text = items.arg(items.root(), 0)?;
+    Some(items.raw(text) == b"b\"\"c".as_slice())
 }
 
 // It borrows the text, not the table.

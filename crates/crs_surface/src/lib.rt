@@ -40,23 +40,15 @@ pub fn check_all(rt: &(impl Files + Print + AllocGlobal)) -> io::Result<()> {
 }
 
 fn check(alloc: Global, tally: &mut Tally, texts: Texts<'_>) {
-    check_reading(alloc, tally, texts);
-    check_values(alloc, tally, texts);
-    catalogues::check(alloc, tally, texts);
-    desk::check(alloc, tally, texts);
-}
-
-fn check_reading(alloc: Global, tally: &mut Tally, texts: Texts<'_>) {
     decimals::check(alloc, tally);
     refusals::check(alloc, tally);
     items::check(alloc, tally, texts);
     feeders::check(alloc, tally, texts);
     shapes::check(alloc, tally, texts);
-}
-
-fn check_values(alloc: Global, tally: &mut Tally, texts: Texts<'_>) {
     values::check(alloc, tally, texts);
     sameness::check(alloc, tally, texts);
     nodes::check(alloc, tally, texts);
     canonical::check(alloc, tally, texts);
+    catalogues::check(alloc, tally, texts);
+    desk::check(alloc, tally, texts);
 }

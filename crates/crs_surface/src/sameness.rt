@@ -6,69 +6,78 @@ use crs_suite::about_both;
 use crs_value::{Crs, Level};
 use std::alloc::{AllocError, Global};
 
+// Two texts, whether they are the same, by definition and with everything, and the path to the first part that differs.
+const PAIRS: [(&str, [&str; 2], [bool; 2], &str); 4] = [
+    ("same", ["height", "identified"], [true, false], "id"),
+    ("first_part", ["geographic", "greenwich"], [true, true], ""),
+    (
+        "Path::steps",
+        ["utm_and_height", "utm_in_feet_and_height"],
+        [false, false],
+        "horizontal/base/datum/ellipsoid/unit",
+    ),
+    (
+        "Path::write",
+        ["paris", "paris_in_grads"],
+        [false, false],
+        "meridian/unit",
+    ),
+];
+
 pub fn check(alloc: Global, tally: &mut Tally, texts: Texts<'_>) {
-    let identified = ["height", "identified"];
-    let by_definition = holds(alloc, texts, identified, are_same_by_definition);
-    tally.count("crs_same::same", by_definition);
-    let in_no_part = holds(alloc, texts, ["geographic", "greenwich"], are_same);
-    tally.count("crs_same::first_part", in_no_part);
-    let paris = ["paris", "paris_in_grads"];
-    let by_steps = holds(alloc, texts, paris, differ_in_unit);
-    tally.count("crs_same::Path::steps", by_steps);
-    let by_text = holds(alloc, texts, paris, |a, b| is_written(alloc, a, b));
-    tally.count("crs_same::Path::write", by_text);
-}
-
-// Whether this is so of the CRSs of two texts, which are named.
-fn holds<'t, Q: FnOnce(&Crs<'t>, &Crs<'t>) -> bool + Drop>(
-    alloc: Global,
-    texts: Texts<'t>,
-    named: [&str; 2],
-    question: Q,
-) -> bool
-    requires { Q.IsAlwaysCallable question }
-{
-    let [first, second] = named;
-    let (first, second) = (texts.named(first), texts.named(second));
-    matches!(about_both(alloc, first, second, question), Ok(true))
-}
-
-// Identifiers don't count at the level of definition.
-fn are_same_by_definition<'a>(first: &Crs<'a>, second: &Crs<'a>) -> bool {
-    same(first, second, Level::Definition) && !same(first, second, Level::Full)
-}
-
-fn are_same<'a>(first: &Crs<'a>, second: &Crs<'a>) -> bool {
-    same(first, second, Level::Full) && first_part(first, second, Level::Full).is_none()
-}
-
-// They differ first in the meridian's unit.
-fn differ_in_unit<'a>(first: &Crs<'a>, second: &Crs<'a>) -> bool {
-    has_steps(&first_part(first, second, Level::Full))
-}
-
-fn has_steps(found: &Option<Path>) -> bool {
-    matches!(found, Some(path) if are_to_unit(path.steps()))
-}
-
-fn are_to_unit(steps: &[Step]) -> bool {
-    match steps {
-        [first, second] => step_word(first) == "meridian" && step_word(second) == "unit",
-        _ => false,
+    for (item, [first, second], are_same, path) in PAIRS {
+        let (first, second) = (texts.named(first), texts.named(second));
+        let agrees = match about_both(alloc, first, second, compared) {
+            Ok(found) => found.are_same == are_same && found.has_path(alloc, path),
+            Err(_fault) => false,
+        };
+        tally.count_in("crs_same::", item, agrees);
     }
 }
 
-fn is_written<'a>(alloc: Global, first: &Crs<'a>, second: &Crs<'a>) -> bool {
-    is_path_written(alloc, &first_part(first, second, Level::Full))
+// What is answered of two CRSs.
+#[derive(Drop)]
+struct Comparison {
+    // by definition, and with everything
+    are_same: [bool; 2],
+    part: Option<Path>,
 }
 
-fn is_path_written(alloc: Global, found: &Option<Path>) -> bool {
+fn compared<'t>(first: &Crs<'t>, second: &Crs<'t>) -> Comparison {
+    let by_definition: bool = same(first, second, Level::Definition);
+    let with_everything: bool = same(first, second, Level::Full);
+    let part: Option<Path> = first_part(first, second, Level::Full);
+    Comparison {
+        are_same: [by_definition, with_everything],
+        part,
+    }
+}
+
+impl Comparison {
+    // Whether the part has the path of this text; whether there is none, where the text is empty.
+    fn has_path(&self, alloc: Global, text: &str) -> bool {
+        match &self.part {
+            Some(path) => has_steps(path.steps(), text) && is_written(alloc, path, text),
+            None => text.is_empty(),
+        }
+    }
+}
+
+// Whether these are the steps of a text, which are at most five.
+fn has_steps(steps: &[Step], text: &str) -> bool {
+    let mut words = text.split('/');
+    for step in steps {
+        if words.next() != Some(step_word(step)) {
+            return false;
+        }
+    }
+    words.next().is_none() && steps.len() <= 5
+}
+
+fn is_written(alloc: Global, path: &Path, text: &str) -> bool {
     let mut out = Vec::new(alloc);
-    let written: Result<(), AllocError> = match found {
-        Some(path) => path.write(&mut out),
-        None => Ok(()),
-    };
-    written.is_ok() && out.as_slice() == b"meridian/unit".as_slice()
+    let written: Result<(), AllocError> = path.write(&mut out);
+    written.is_ok() && out.as_slice() == text.as_bytes()
 }
 
 // The word of a step; for an axis, without its position.

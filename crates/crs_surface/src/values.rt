@@ -7,61 +7,38 @@ use crs_text::{Fault, Items, read_items};
 use crs_value::{Crs, Direction, Kind, Level, SystemType, read, value_of};
 use std::alloc::Global;
 
-// Texts that are written as they were read.
-const TEXTS: [&str; 12] = [
-    "height",
-    "geographic",
-    "geocentric",
-    "ensemble",
-    "projected",
-    "polar",
-    "compound",
-    "dynamic",
-    "anchored",
-    "extent",
-    "cited",
-    "bare_usage",
-];
-
-// A text of each kind.
-const KINDS: [(&str, Kind); 5] = [
-    ("geocentric", Kind::Geodetic),
-    ("geographic", Kind::Geographic),
-    ("projected", Kind::Projected),
+// Texts that are written as they were read, and the kind of each.
+const TEXTS: [(&str, Kind); 12] = [
     ("height", Kind::Vertical),
+    ("geographic", Kind::Geographic),
+    ("geocentric", Kind::Geodetic),
+    ("ensemble", Kind::Geographic),
+    ("projected", Kind::Projected),
+    ("polar", Kind::Projected),
     ("compound", Kind::Compound),
+    ("dynamic", Kind::Vertical),
+    ("anchored", Kind::Vertical),
+    ("extent", Kind::Vertical),
+    ("cited", Kind::Vertical),
+    ("bare_usage", Kind::Vertical),
 ];
 
 pub fn check(alloc: Global, tally: &mut Tally, texts: Texts<'_>) {
     tally.count("crs_value::read", is_read(alloc));
     tally.count("crs_value::value_of", has_value(alloc, texts));
-    check_kinds(alloc, tally, texts);
-    check_words(tally);
-    check_texts(alloc, tally, texts)
-}
-
-fn check_words(tally: &mut Tally) {
-    tally.count(
-        "crs_value::Level",
-        is_whole(Level::Full) && !is_whole(Level::Definition),
-    );
+    let has_levels = is_whole(Level::Full) && !is_whole(Level::Definition);
+    tally.count("crs_value::Level", has_levels);
     tally.count("crs_value::SystemType", has_types());
     tally.count("crs_value::Direction", has_directions());
-}
-
-fn check_kinds(alloc: Global, tally: &mut Tally, texts: Texts<'_>) {
-    for (name, kind) in KINDS {
-        let agrees = holds(alloc, texts.named(name), |crs| crs.kind() == kind);
-        tally.count_in("crs_value::Kind of ", name, agrees);
-    }
-}
-
-fn check_texts(alloc: Global, tally: &mut Tally, texts: Texts<'_>) {
-    for name in TEXTS {
+    for (name, kind) in TEXTS {
         let text = texts.named(name);
-        let agrees = holds(alloc, text, |crs| is_text_of(alloc, crs, text));
-        tally.count(name, agrees);
+        let agrees = holds(alloc, text, |crs| is_read_as(crs, kind, text, alloc));
+        tally.count_in("crs_value::Crs of ", name, agrees);
     }
+}
+
+fn is_read_as(crs: &Crs<'_>, kind: Kind, text: &[u8], alloc: Global) -> bool {
+    crs.kind() == kind && is_text_of(crs, text, alloc)
 }
 
 fn is_read(alloc: Global) -> bool {
@@ -137,7 +114,7 @@ fn is_compass(direction: Direction) -> bool {
 }
 
 /// Whether a value is written as this text.
-pub fn is_text_of<T: Written>(alloc: Global, value: &T, text: &[u8]) -> bool {
+pub fn is_text_of<T: Written>(value: &T, text: &[u8], alloc: Global) -> bool {
     let mut out = Text::new(alloc);
     value.put(&mut out);
     out.is(text)
