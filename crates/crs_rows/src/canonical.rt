@@ -3,40 +3,36 @@ use crs_canon::{Canon, Canonical, canon, canon_of};
 use crs_suite::{Answer, Row, about_crs, split_line};
 use crs_text::Fault;
 use crs_value::{Crs, Level};
-use std::alloc::{AllocError, Global};
+use std::alloc::AllocError;
 
 /// `text` and the canonical text of a text, or its refusal; `another text` where the text's value has another one, or
 /// where the canonical text isn't its own.
 pub fn put_canon(out: &mut Answer, row: &Row<'_>) {
-    if let Some(text) = out.accepted(canon(out.alloc(), &row.input, row.level)) {
-        let is_own = is_of_text(out, text.bytes(), &text);
-        let alloc = out.alloc();
-        let asked = about_crs(alloc, &row.input, |crs| spells(alloc, crs, &text));
+    let alloc = out.alloc();
+    if let Some(text) = out.accepted(canon(alloc, &row.input, row.level))
+        && let Some(mut appended) = out.made(Vec::from_slice(alloc, b"x"))
+    {
+        let asked = about_crs(alloc, &row.input, |crs| spells(crs, &text, &mut appended));
+        let is_own = is_of_text(out, text.bytes(), &text)
+            && matches!(appended.as_slice(), [b'x', own @ ..] if own == text.bytes());
         match out.accepted(asked) {
-            Some(spells) if is_own && out.holds(spells) => put_spelling(out, &text),
+            Some(spells) if out.holds(spells) && is_own => put_spelling(out, &text),
             Some(_) => out.put("another text"),
             None => (),
         }
     }
 }
 
-// Whether this is a CRS's canonical text at its level, and what it appends by itself.
-fn spells(alloc: Global, crs: &Crs<'_>, text: &Canon) -> Result<bool, AllocError> {
-    let level = text.level();
-    let is_own = is_text(canon_of(alloc, crs, level), text)?;
-    Ok(is_own && appends(alloc, level, crs, text.bytes())?)
+// Whether this is a CRS's canonical text at its level; appends what the CRS does by itself.
+fn spells(crs: &Crs<'_>, text: &Canon, out: &mut Vec<u8>) -> Result<bool, AllocError> {
+    let (alloc, level) = (*out.allocator(), text.level());
+    crs.write(alloc, level, out)?;
+    is_text(canon_of(alloc, crs, level), text)
 }
 
 fn is_text(own: Result<Canon, AllocError>, text: &Canon) -> Result<bool, AllocError> {
     let own = own?;
     Ok(own.level() == text.level() && own.same(text))
-}
-
-// Whether a CRS by itself appends this text, and no other.
-fn appends(alloc: Global, level: Level, crs: &Crs<'_>, text: &[u8]) -> Result<bool, AllocError> {
-    let mut out = Vec::from_slice(alloc, b"x")?;
-    crs.write(alloc, level, &mut out)?;
-    Ok(matches!(out.as_slice(), [b'x', written @ ..] if written == text))
 }
 
 /// `text` and a canonical text.

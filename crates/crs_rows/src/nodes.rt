@@ -1,9 +1,8 @@
 //! The parts of a vertical CRS: what each appends by itself, and a set of them.
 use crs_canon::{Canonical, Set};
 use crs_suite::{Answer, Row, about_crs};
-use crs_text::Fault;
 use crs_value::{Crs, Ident, Level, Tail, Vertical};
-use std::alloc::Global;
+use std::alloc::AllocError;
 
 /// A CRS, or a part of a vertical one.
 #[derive(Clone, Copy)]
@@ -30,113 +29,104 @@ pub enum Part {
     Idents,
 }
 
-/// What is asked of a part.
-pub trait AboutPart {
-    /// What is answered.
-    type Answer;
-
-    /// The answer for a node.
-    fn of_node<T: Canonical>(self, node: &T) -> Self::Answer;
-
-    /// The answer for a set of identifiers.
-    fn of_set(self, idents: &[Ident<'_>]) -> Self::Answer;
-}
-
-/// What is answered of a part of the CRS that a text spells, None where it has no such part; or why it spells none.
-pub fn about_part<Q: AboutPart + Drop>(
-    alloc: Global,
-    text: &[u8],
-    part: Part,
-    question: Q,
-) -> Result<Option<Q::Answer>, Fault> {
-    about_crs(alloc, text, |crs| part.asked_in(crs, question))
-}
-
 impl Part {
-    fn asked_in<Q: AboutPart + Drop>(self, crs: &Crs<'_>, question: Q) -> Option<Q::Answer> {
+    /// Appends this part of a CRS at a level, and answers whether it is the same as itself; None where the CRS has no such
+    /// part.
+    pub fn append(
+        self,
+        crs: &Crs<'_>,
+        level: Level,
+        out: &mut Vec<u8>,
+    ) -> Option<Result<bool, AllocError>> {
         match crs {
-            _ if matches!(self, Part::Crs) => Some(question.of_node(crs)),
-            Crs::Vertical(vertical) => self.asked(vertical, question),
+            _ if matches!(self, Part::Crs) => append(crs, level, out),
+            Crs::Vertical(vertical) => self.append_of(vertical, level, out),
             Crs::Geodetic(_) | Crs::Projected(_) | Crs::Compound(_) => None,
         }
     }
 
-    fn asked<Q: AboutPart + Drop>(self, crs: &Vertical<'_>, question: Q) -> Option<Q::Answer> {
+    fn append_of(
+        self,
+        crs: &Vertical<'_>,
+        level: Level,
+        out: &mut Vec<u8>,
+    ) -> Option<Result<bool, AllocError>> {
+        let axes = crs.system.axes.as_slice();
         match self {
-            Part::Crs => of_node(Some(crs), question),
-            Part::Axis => of_node(crs.system.axes.as_slice().first(), question),
-            Part::Unit => of_node(crs.system.axes.as_slice().first()?.unit.as_ref(), question),
-            Part::Frame => of_node(Some(&crs.frame), question),
-            Part::Dynamic => of_node(crs.dynamic.as_ref(), question),
-            Part::Model => of_node(crs.dynamic.as_ref()?.model.as_ref(), question),
+            Part::Crs => append(crs, level, out),
+            Part::Axis => append(axes.first()?, level, out),
+            Part::Unit => append(axes.first()?.unit.as_ref()?, level, out),
+            Part::Frame => append(&crs.frame, level, out),
+            Part::Dynamic => append(crs.dynamic.as_ref()?, level, out),
+            Part::Model => append(crs.dynamic.as_ref()?.model.as_ref()?, level, out),
             Part::Usage | Part::Extent | Part::Ident | Part::Idents => {
-                self.asked_behind(&crs.tail, question)
+                self.append_behind(&crs.tail, level, out)
             }
         }
     }
 
-    fn asked_behind<Q: AboutPart + Drop>(self, tail: &Tail<'_>, question: Q) -> Option<Q::Answer> {
+    fn append_behind(
+        self,
+        tail: &Tail<'_>,
+        level: Level,
+        out: &mut Vec<u8>,
+    ) -> Option<Result<bool, AllocError>> {
+        let usages = tail.usages.as_slice();
+        let idents = tail.identifiers.as_slice();
         match self {
-            Part::Usage => of_node(tail.usages.as_slice().first(), question),
-            Part::Extent => of_node(tail.usages.as_slice().first()?.extent.as_ref(), question),
-            Part::Ident => of_node(tail.identifiers.as_slice().first(), question),
-            _ => Some(question.of_set(tail.identifiers.as_slice())),
+            Part::Usage => append(usages.first()?, level, out),
+            Part::Extent => append(usages.first()?.extent.as_ref()?, level, out),
+            Part::Ident => append(idents.first()?, level, out),
+            _ => append_set(idents, level, out),
         }
     }
 }
 
-fn of_node<T: Canonical, Q: AboutPart + Drop>(node: Option<&T>, question: Q) -> Option<Q::Answer> {
-    Some(question.of_node(node?))
+fn append<T: Canonical>(
+    node: &T,
+    level: Level,
+    out: &mut Vec<u8>,
+) -> Option<Result<bool, AllocError>> {
+    let written = node.write(*out.allocator(), level, out);
+    answered(written, node.same(node, level))
+}
+
+fn append_set(
+    idents: &[Ident<'_>],
+    level: Level,
+    out: &mut Vec<u8>,
+) -> Option<Result<bool, AllocError>> {
+    let set = Set::of(idents);
+    let written = set.write(*out.allocator(), level, out);
+    answered(written, set.same(&set, level))
+}
+
+fn answered(written: Result<(), AllocError>, is_itself: bool) -> Option<Result<bool, AllocError>> {
+    match written {
+        Ok(()) => Some(Ok(is_itself)),
+        Err(error) => Some(Err(error)),
+    }
 }
 
 /// `text` and what a part of the CRS of a text appends by itself, or the refusal of the text; what is said of an absent
 /// part where it has none, `one way` where the part isn't the same as itself, and `nothing` for an empty set, which
 /// appends nothing.
 pub fn put_part(out: &mut Answer, row: &Row<'_>, part: Part, absent: &str) {
-    let alloc = out.alloc();
-    let question = Written {
-        out: &mut *out,
-        level: row.level,
-    };
-    let asked = about_part(alloc, &row.input, part, question);
-    if let Some(None) = out.accepted(asked) {
-        out.put(absent);
-    }
-}
-
-// What a part appends at a level.
-#[derive(Drop)]
-struct Written<'o> {
-    out: &'o mut Answer,
-    level: Level,
-}
-
-impl AboutPart for Written<'_> {
-    type Answer = ();
-
-    fn of_node<T: Canonical>(self, node: &T) {
-        let Written { out, level } = self;
-        let mut text = Vec::new(out.alloc());
-        out.note(node.write(out.alloc(), level, &mut text));
-        put_written(out, &text, node.same(node, level));
-    }
-
-    fn of_set(self, idents: &[Ident<'_>]) {
-        let Written { out, level } = self;
-        let set = Set::of(idents);
-        let mut text = Vec::new(out.alloc());
-        out.note(set.write(out.alloc(), level, &mut text));
-        put_written(out, &text, set.same(&set, level));
-    }
-}
-
-fn put_written(out: &mut Answer, text: &[u8], is_itself: bool) {
-    if !is_itself {
-        out.put("one way");
-    } else if text.is_empty() {
-        out.put("nothing");
-    } else {
-        out.put("text ");
-        out.put_bytes(text);
+    let level = row.level;
+    let mut text = Vec::new(out.alloc());
+    let asked = about_crs(
+        out.alloc(),
+        &row.input,
+        |crs| part.append(crs, level, &mut text),
+    );
+    match out.accepted(asked) {
+        Some(Some(is_itself)) if !out.holds(is_itself) => out.put("one way"),
+        Some(Some(_)) if text.is_empty() => out.put("nothing"),
+        Some(Some(_)) => {
+            out.put("text ");
+            out.put_bytes(&text);
+        }
+        Some(None) => out.put(absent),
+        None => (),
     }
 }

@@ -1,11 +1,10 @@
 //! Calls that append to a vector.
-use crate::nodes::{AboutPart, Part, about_part};
+use crate::nodes::Part;
 use crate::trials::unmade;
-use crs_canon::{Canonical, Set};
 use crs_decimal::Decimal;
 use crs_same::{Path, first_part};
-use crs_suite::{Trial, Turn, about_both, run_trial, unusable};
-use crs_value::{Ident, Level};
+use crs_suite::{Trial, Turn, about_both, about_crs, run_trial, unusable};
+use crs_value::{Crs, Level};
 use std::alloc::{AllocError, Global};
 use std::io;
 
@@ -13,43 +12,35 @@ use std::io;
 const BEFORE: &[u8] = b"before:";
 
 // What is appended.
-trait Appended: Sized {
-    fn append(&self, alloc: Global, out: &mut Vec<u8>) -> Result<(), AllocError>;
+trait Appended {
+    fn append(&self, out: &mut Vec<u8>) -> Result<(), AllocError>;
 }
 
 impl Appended for Decimal {
-    fn append(&self, _alloc: Global, out: &mut Vec<u8>) -> Result<(), AllocError> {
+    fn append(&self, out: &mut Vec<u8>) -> Result<(), AllocError> {
         self.write(out)
     }
 }
 
 impl Appended for Path {
-    fn append(&self, _alloc: Global, out: &mut Vec<u8>) -> Result<(), AllocError> {
+    fn append(&self, out: &mut Vec<u8>) -> Result<(), AllocError> {
         self.write(out)
     }
 }
 
-// A node by itself.
+// A part of a CRS; nothing where it has no such part.
 #[derive(Clone, Copy)]
-struct Node<'v, T> {
-    node: &'v T,
+struct PartOf<'c, 'a> {
+    crs: &'c Crs<'a>,
+    part: Part,
 }
 
-impl<T: Canonical> Appended for Node<'_, T> {
-    fn append(&self, alloc: Global, out: &mut Vec<u8>) -> Result<(), AllocError> {
-        self.node.write(alloc, Level::Full, out)
-    }
-}
-
-// Identifiers, as a set.
-#[derive(Clone, Copy)]
-struct Idents<'v, 'a> {
-    idents: &'v [Ident<'a>],
-}
-
-impl Appended for Idents<'_, '_> {
-    fn append(&self, alloc: Global, out: &mut Vec<u8>) -> Result<(), AllocError> {
-        Set::of(self.idents).write(alloc, Level::Full, out)
+impl Appended for PartOf<'_, '_> {
+    fn append(&self, out: &mut Vec<u8>) -> Result<(), AllocError> {
+        match self.part.append(self.crs, Level::Full, out) {
+            Some(Err(error)) => Err(error),
+            Some(Ok(_)) | None => Ok(()),
+        }
     }
 }
 
@@ -62,7 +53,7 @@ struct Append<'v, T> {
 
 impl<T: Appended> Trial for Append<'_, T> {
     fn call<R: Print + AllocGlobal>(&mut self, turn: &mut Turn<'_, R>) -> io::Result<()> {
-        let appended = self.part.append(turn.alloc(), &mut self.out);
+        let appended = self.part.append(&mut self.out);
         let out = turn.end()?;
         out.note(appended);
         out.put_bytes(&self.out);
@@ -108,25 +99,10 @@ pub fn try_path<'a>(
 
 /// `Canonical::write` of a part of the CRS that a text spells, or `Set::write` of its identifiers.
 pub fn try_part(rt: &(impl Print + AllocGlobal), part: Part, text: &[u8]) -> io::Result<()> {
-    let question = Appending { rt };
-    let asked = about_part(rt.alloc(), text, part, question).map_err(unmade)?;
-    asked.unwrap_or(Err(unusable()))
-}
-
-// The trial of a part.
-#[derive(Drop)]
-struct Appending<'r, R> {
-    rt: &'r R,
-}
-
-impl<R: Print + AllocGlobal> AboutPart for Appending<'_, R> {
-    type Answer = io::Result<()>;
-
-    fn of_node<T: Canonical>(self, node: &T) -> io::Result<()> {
-        run_append(self.rt, &Node { node })
-    }
-
-    fn of_set(self, idents: &[Ident<'_>]) -> io::Result<()> {
-        run_append(self.rt, &Idents { idents })
-    }
+    about_crs(
+        rt.alloc(),
+        text,
+        |crs| run_append(rt, &PartOf { crs, part }),
+    )
+    .map_err(unmade)?
 }
