@@ -3,28 +3,16 @@ ghost use Rattle.std.specs.Prelude.{◌↔◌, ◌≢◌, [], IsTrue};
 ghost use Rattle.crs_text.specs.Items.{HasId, arguments};
 ghost use Rattle.crs_shape.specs.Shaped.{Shaped};
 ghost use Rattle.crs_value.specs.Cursor.{args, item};
-ghost use Rattle.crs_value.specs.BadDynamic.{BadDynamic, HasEnsemble, IsUnsteady};
+ghost use Rattle.crs_value.specs.BadDynamic.{BadDynamic, HasEnsemble};
 ghost use Rattle.crs_value.specs.Break.{IsLeast};
 ghost use Rattle.crs_value.specs.Reading.{item_at, those, IsFound};
 
-use crate::checks::{Check, any_from, refusal_at};
+use crate::checks::any_from;
+use crate::checks::single::Refused;
 use crate::reading::arguments::first;
 use crate::reading::cursor::Cursor;
 use crs_shape::Class;
 use crs_text::{ItemId, Items, Refusal};
-
-// 29: a dynamic part beside an ensemble.
-struct Unsteady;
-
-impl Check for Unsteady {
-    ghost Fits = { λ s tree class. Unit {0} };
-
-    ghost Broken = { λ s tree item f. IsUnsteady item f };
-
-    fn check(&self, items: &Items<'_>, id: ItemId, _class: Class) -> Option<Refusal> {
-        Some(refusal_at(items, id, 29))
-    }
-}
 
 // Whether a node has an argument of this class.
 pub(crate) fn has_some(items: &Items<'_>, id: ItemId, parent: Class, class: Class) -> bool
@@ -52,7 +40,13 @@ pub(crate) fn bad_dynamic(node: &Cursor<'_, '_>, dynamic: Option<ItemId>) -> Opt
     if dynamic.is_none() || !has_ensemble(node.items, node.id, node.class) {
         return None;
     }
-    any_from(&Unsteady, node.items, dynamic, node.class, Class::Dynamic)
+    any_from(
+        &Refused::<29>,
+        node.items,
+        dynamic,
+        node.class,
+        Class::Dynamic,
+    )
 }
 
 // The same where the first dynamic part wasn't looked for yet.

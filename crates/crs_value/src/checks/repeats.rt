@@ -9,7 +9,7 @@ ghost use Rattle.crs_value.specs.FirstArguments.{AreFirsts};
 ghost use Rattle.crs_value.specs.RepeatedPart.{IsRepeated, Repeats, RepeatsAny};
 ghost use Rattle.crs_value.specs.Reading.{those, IsFound};
 
-use crate::checks::single::Repeated;
+use crate::checks::single::Refused;
 use crate::checks::{any_from, lesser};
 use crate::reading::arguments::{first, later};
 use crate::reading::cursor::Cursor;
@@ -58,7 +58,7 @@ fn behind(items: &Items<'_>, id: ItemId, parent: Class, class: Class) -> Option<
     ensures { IsLeast (AnyOf IsRepeated (those parent class (rest_of (here items.now id)))) result }
 {
     any_from(
-        &Repeated,
+        &Refused::<22>,
         items,
         later(items, id, parent, class),
         parent,

@@ -2,12 +2,12 @@
 ghost use Rattle.std.specs.Prelude.{◌≡◌, ◌≤◌, ◌≢◌, IsTrue, ◌↔◌, None};
 ghost use Rattle.std.specs.List.{find};
 ghost use Rattle.crs_text.specs.Items.{HasId};
+ghost use Rattle.crs_text.specs.Refusal.{is_refusal};
 ghost use Rattle.crs_shape.specs.declared.class.Class.TheVariants as classes;
 ghost use Rattle.crs_value.specs.BadValue.{IsAboveZero, NotAbove, IsNegative};
-ghost use Rattle.crs_value.specs.Break.{IsLeast};
+ghost use Rattle.crs_value.specs.Break.{at, IsLeast};
 ghost use Rattle.crs_value.specs.FirstByte.{first_byte, is_telling};
 ghost use Rattle.crs_value.specs.Reading.{item_at};
-ghost use Rattle.crs_value.specs.RepeatedPart.{IsRepeated};
 
 use crate::checks::{Check, refusal_at};
 use crate::reading::node::decimal_of;
@@ -116,16 +116,16 @@ impl Check for UnknownDirection {
     }
 }
 
-// 22: a repeated part.
-pub(crate) struct Repeated;
+// Whatever stands there, with this number.
+pub(crate) struct Refused<const NUMBER: u8>;
 
-impl Check for Repeated {
-    ghost Fits = { λ s tree class. Unit {0} };
+impl<const NUMBER: u8> Check for Refused<NUMBER> {
+    ghost Fits = { λ s tree class. IsTrue (is_refusal NUMBER) };
 
-    ghost Broken = { λ s tree item f. IsRepeated item f };
+    ghost Broken = { λ s tree item f. f ≡ at NUMBER item };
 
     fn check(&self, items: &Items<'_>, id: ItemId, _class: Class) -> Option<Refusal> {
-        Some(refusal_at(items, id, 22))
+        Some(refusal_at(items, id, NUMBER))
     }
 }
 

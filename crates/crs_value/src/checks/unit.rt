@@ -5,11 +5,12 @@ ghost use Rattle.crs_shape.specs.Shaped.{Shaped};
 ghost use Rattle.crs_shape.specs.declared.class.Class.TheVariants as classes;
 ghost use Rattle.crs_value.specs.Cursor.{args, item};
 ghost use Rattle.crs_value.specs.BadUnit.{Asks, Fits, AllAsk, SharedFits, BadShared, BadUnit, Misfits, BadOwnUnit};
-ghost use Rattle.crs_value.specs.BadUnit.{IsSuperfluous, HasOwnUnit};
+ghost use Rattle.crs_value.specs.BadUnit.{HasOwnUnit};
 ghost use Rattle.crs_value.specs.Break.{IsLeast};
 ghost use Rattle.crs_value.specs.Reading.{item_at, those, IsFound, IsReading, ReadsFirst};
 ghost use Rattle.crs_value.specs.Reads.{HasType, ReadsDirection, ReadsKind};
 
+use crate::checks::single::Refused;
 use crate::checks::system::type_of;
 use crate::checks::{Check, any_from, lesser, only_from, only_of, refusal_at};
 use crate::reading::arguments::{first, later};
@@ -123,20 +124,6 @@ impl Check for OwnUnit {
     }
 }
 
-// 27: a unit that is beside a shared one.
-#[derive(Drop)]
-struct Superfluous;
-
-impl Check for Superfluous {
-    ghost Fits = { λ s tree class. Unit {0} };
-
-    ghost Broken = { λ s tree item f. IsSuperfluous item f };
-
-    fn check(&self, items: &Items<'_>, id: ItemId, _class: Class) -> Option<Refusal> {
-        Some(refusal_at(items, id, 27))
-    }
-}
-
 // 27: with a shared unit, a unit on an axis.
 #[derive(Drop)]
 struct NoUnit;
@@ -148,7 +135,11 @@ impl Check for NoUnit {
 
     fn check(&self, items: &Items<'_>, id: ItemId, _class: Class) -> Option<Refusal> {
         let class = Class::Axis;
-        only_of(&Superfluous, &Cursor { items, id, class }, Class::AxisUnit)
+        only_of(
+            &Refused::<27>,
+            &Cursor { items, id, class },
+            Class::AxisUnit,
+        )
     }
 }
 
