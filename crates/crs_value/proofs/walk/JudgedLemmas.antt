@@ -7,12 +7,12 @@ use denote.Enum.Bare.{sameb, true_same, same_false, false_same}
 use Rattle.crs_text.specs.Prelude.{Item, leaf, node, Siblings, End, More, arguments, first_of, rest_of, close_of, here, HasId, IsAt, RefusedAt}
 use Rattle.crs_shape.specs.contracts.class.Class.{the_type}
 use Rattle.crs_shape.specs.declared.class.Class.{Class}
-use Rattle.crs_shape.specs.Prelude.{or_later, fault_by, step_as, first_inside, first_in_arguments, Shaped, class_in, is_of, misplaced, missing, SlotParts, is_class, takes, slots_of, again}
+use Rattle.crs_shape.specs.Prelude.{or_later, fault_by, step_as, first_inside, first_in_arguments, Shaped, class_in, is_of, misplaced, missing, SlotParts, is_class, takes, slots_of, again, any_of, one_of, some_of}
 use Rattle.crs_value.specs.Break.{IsLeast}
 use Rattle.crs_value.specs.Checks.{AtClass, Own, Breaks, BreaksAmong}
 use Rattle.crs_value.specs.Judged.{is_in, Gives, Judged, Walked, Passed, Answers}
 use Rattle.crs_value.specs.Least.{lesser}
-use Rattle.crs_value.specs.Reading.{item_at}
+use Rattle.crs_value.specs.Reading.{item_at, ahead}
 use Rattle.crs_value.proofs.found.ArgumentLemmas.{ahead_at, class-is}
 use Rattle.crs_value.proofs.checked.LeastLemmas.{IsFirst, first-self, first-trans, least-either, least-same, least-beside}
 
@@ -138,20 +138,27 @@ passed-one tree c close slot at id next old mid answer few same has is-at said a
     let e : behind slot slots ≡ slots = ap (λ b. if b then again slot ∷ slots else slots) few in
     goes-on tree c close slot slots at id next old mid last ok same has is-at (rw said at answers) (rw e rest)
 
--- the same where more may follow, which are passed over then
-pub passed-more : (tree : Item) (c : Class) (close : ℕ) (slot : SlotParts) (at : Option ℕ) (id : ℕ) (next : Option ℕ) (old mid : Option RefusedAt) (answer : Option Bool)
-    (found : Option (Option ℕ)) (new : Option RefusedAt) → slot.many ≡ true → at ≡ Some id → HasId tree id → IsAt tree (rest_of (here tree id)) next → answer ≡ Some true →
-    Answers c slot.classes (item_at tree id) old answer mid → Passed tree c close (again slot) next mid found new → Passed tree c close slot at old found new
-passed-more tree c close slot at id next old mid answer found new many same has is-at said answers = by found
-  where
-    on : (slots : List SlotParts) (ok : Bool) (last : Option RefusedAt) → Walked tree c close (again slot ∷ slots) next mid ok last → Walked tree c close (slot ∷ slots) at old ok last
-    on slots ok last rest =
-        let e : behind slot slots ≡ again slot ∷ slots = ap (λ b. if b then again slot ∷ slots else slots) many in
-        goes-on tree c close slot slots at id next old mid last ok same has is-at (rw said at answers) (rw e rest)
+-- one argument and then any number are one or more
+some-split : (c : Class) (close : ℕ) (cs : List Class) (slots : List SlotParts) (items : Siblings) →
+    first_in_arguments c close (some_of cs ∷ slots) items ≡ first_in_arguments c close (one_of cs ∷ any_of cs ∷ slots) items
+unfolding first_inside first_in_arguments
+some-split c close cs slots End = refl
+some-split c close cs slots (More item items) =
+    let by : List SlotParts → Option Class → Option RefusedAt = λ ss o. fault_by item (λ d. first_inside d item) (λ next. first_in_arguments c close next items) (step_as ss o) in
+    elim (class_in c item) as (λ o. by (some_of cs ∷ slots) o ≡ by (one_of cs ∷ any_of cs ∷ slots) o) [
+      | None ↦ refl
+      | Some d ↦ refl
+    ]
 
-    by : (o : Option (Option ℕ)) → Passed tree c close (again slot) next mid o new → Passed tree c close slot at old o new
-    by None h = λ slots. on slots false new (h slots)
-    by (Some n) h = λ slots ok last rest. on slots ok last (h slots ok last rest)
+pub passed-some : (tree : Item) (c : Class) (close : ℕ) (cs : List Class) (at next : Option ℕ) (old mid : Option RefusedAt) (found : Option (Option ℕ)) (new : Option RefusedAt) →
+    Passed tree c close (one_of cs) at old (Some next) mid → Passed tree c close (any_of cs) next mid found new → Passed tree c close (some_of cs) at old found new
+passed-some tree c close cs at next old mid None new one more = λ slots. rw (some-split c close cs slots (ahead tree at)) (one (any_of cs ∷ slots) false new (more slots))
+passed-some tree c close cs at next old mid (Some last) new one more = λ slots ok end rest.
+    rw (some-split c close cs slots (ahead tree at)) (one (any_of cs ∷ slots) ok end (more slots ok end rest))
+
+pub passed-none : (tree : Item) (c : Class) (close : ℕ) (cs : List Class) (at : Option ℕ) (old new : Option RefusedAt) → Passed tree c close (one_of cs) at old None new →
+    Passed tree c close (some_of cs) at old None new
+passed-none tree c close cs at old new one = λ slots. rw (some-split c close cs slots (ahead tree at)) (one (any_of cs ∷ slots))
 
 -- a fault of shape in it stops the walk
 pub passed-stop : (tree : Item) (c : Class) (close : ℕ) (slot : SlotParts) (at : Option ℕ) (id : ℕ) (old mid : Option RefusedAt) (answer : Option Bool) → at ≡ Some id → HasId tree id →

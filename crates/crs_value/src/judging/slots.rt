@@ -225,17 +225,9 @@ impl<P: Part> Slot for OneOrMore<P> {
 
     #[inline(always)]
     fn pass(parent: Parent<'_, '_>, at: Option<ItemId>, found: &mut Found) -> Rest {
-        let Some(id) = at else {
-            stop_short(parent.close, found);
-            return None;
-        };
-        match P::judge(parent.items, id, parent.class, found) {
-            None => {
-                stop_at(parent.items, id, found);
-                None
-            }
-            Some(false) => None,
-            Some(true) => Any::<P>::pass(parent, parent.items.next(id), found),
+        match One::<P>::pass(parent, at, found) {
+            None => None,
+            Some(next) => Any::<P>::pass(parent, next, found),
         }
     }
 }

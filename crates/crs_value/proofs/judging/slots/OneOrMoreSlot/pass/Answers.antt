@@ -1,28 +1,14 @@
-use Rattle.std.proofs.Common.{refl, ap, Some}
 use Rattle.crs_shape.specs.Prelude.{some_of}
-use Rattle.crs_value.proofs.found.ArgumentLemmas.{has-some}
-use Rattle.crs_value.proofs.walk.JudgedLemmas.{passed-short, passed-wrong, passed-more, passed-stop}
-use Rattle.crs_value.proofs.walk.LeftLemmas.{leaves-judged, leaves-again}
+use Rattle.crs_value.proofs.walk.JudgedLemmas.{passed-none, passed-some}
+use Rattle.crs_value.proofs.walk.LeftLemmas.{leaves-again}
 use Rattle.crs_value.proofs.judging.slots.OneOrMoreSlot.pass.Goals as goal
 
-pub returns-in_default-clause-passed : goal.returns-in_default-clause-passed
-returns-in_default-clause-passed g c = passed-short _ _ _ (some_of g.P.Part.classes) _ _ _ refl c.in_default.is c.stop_short.ensures
-
 pub returns-in-None-clause-passed : goal.returns-in-None-clause-passed
-returns-in-None-clause-passed g c =
-    passed-wrong _ _ _ (some_of g.P.Part.classes) _ _ _ _ _ _ refl c.in-Some.is (has-some _ _ _ c.in-Some.is c.requires) refl c.in-None.ensures c.stop_at.ensures
+returns-in-None-clause-passed g c = passed-none _ _ _ g.P.Part.classes _ _ _ c.in-None.ensures.passed
 
-pub returns-in-Some-true-clause-leaves : goal.returns-in-Some-true-clause-leaves
-returns-in-Some-true-clause-leaves g c =
-    leaves-again c.args.parent.items.now c.args.parent.class (some_of g.P.Part.classes) c.args.at c.next.result c.pass.result
-    (leaves-judged _ _ (some_of g.P.Part.classes) _ _ _ _ _ _ c.in-Some.is (has-some _ _ _ c.in-Some.is c.requires) c.next.ensures (ap Some c.in-Some-true.field-0-test) c.in-Some-true.ensures)
-    c.pass.ensures.leaves
+pub returns-in-Some-clause-leaves : goal.returns-in-Some-clause-leaves
+returns-in-Some-clause-leaves g c =
+    leaves-again c.args.parent.items.now c.args.parent.class (some_of g.P.Part.classes) c.args.at c.in-Some.next c.pass-in-Some.result c.in-Some.ensures.leaves c.pass-in-Some.ensures.leaves
 
-pub returns-in-Some-true-clause-passed : goal.returns-in-Some-true-clause-passed
-returns-in-Some-true-clause-passed g c =
-    passed-more _ _ _ (some_of g.P.Part.classes) _ _ _ _ _ _ _ _ refl c.in-Some.is (has-some _ _ _ c.in-Some.is c.requires) c.next.ensures (ap Some c.in-Some-true.field-0-test) c.in-Some-true.ensures
-    c.pass.ensures.passed
-
-pub returns-in-Some-false-clause-passed : goal.returns-in-Some-false-clause-passed
-returns-in-Some-false-clause-passed g c =
-    passed-stop _ _ _ (some_of g.P.Part.classes) _ _ _ _ _ c.in-Some.is (has-some _ _ _ c.in-Some.is c.requires) (ap Some c.in-Some-false.field-0-test) c.in-Some-false.ensures
+pub returns-in-Some-clause-passed : goal.returns-in-Some-clause-passed
+returns-in-Some-clause-passed g c = passed-some _ _ _ g.P.Part.classes _ c.in-Some.next _ _ c.pass-in-Some.result _ c.in-Some.ensures.passed c.pass-in-Some.ensures.passed
