@@ -143,10 +143,7 @@ fn placed(items: &Items<'_>, places: Option<Places>, order: Option<ItemId>) -> O
 {
     let Some(old) = places else { return None };
     let Some(order) = order else { return None };
-    let Some(place) = whole_of(items, order, Class::Order) else {
-        return None;
-    };
-    with_place(old, place)
+    with_place(old, whole_of(items, order, Class::Order)?)
 }
 
 // Whether the unit of an axis fits where this kind is asked.
@@ -169,24 +166,13 @@ pub(crate) fn noted(items: &Items<'_>, system_type: SystemType, seen: Seen, axes
     ensures { IsNoted items.now system_type seen axes result }
 {
     let kind = system_type.asked_kind(seen.direction);
-    let places = placed(items, axes.places, seen.order);
-    let no_order = is_none(seen.order);
-    let orderless = still(axes.orderless, no_order);
-    let fit = fits_own(items, seen.unit, kind);
-    let own = still(axes.own, fit);
-    let no_unit = is_none(seen.unit);
-    let alone = still(axes.alone, no_unit);
-    let long = same_kind(kind, UnitKind::Length);
-    let lengths = still(axes.lengths, long);
-    let turned = same_kind(kind, UnitKind::Angle);
-    let angles = still(axes.angles, turned);
     Axes {
         count: axes.count + 1,
-        places,
-        orderless,
-        own,
-        alone,
-        lengths,
-        angles,
+        places: placed(items, axes.places, seen.order),
+        orderless: still(axes.orderless, is_none(seen.order)),
+        own: still(axes.own, fits_own(items, seen.unit, kind)),
+        alone: still(axes.alone, is_none(seen.unit)),
+        lengths: still(axes.lengths, same_kind(kind, UnitKind::Length)),
+        angles: still(axes.angles, same_kind(kind, UnitKind::Angle)),
     }
 }

@@ -71,9 +71,7 @@ fn axes_until(
         if !stands_as(items, axis, class, Class::Axis) {
             return None;
         }
-        let Some(seen) = seen_of(items, axis) else {
-            return None;
-        };
+        let seen = seen_of(items, axis)?;
         axes = noted(items, system_type, seen, axes);
         at = items.next(axis);
     }

@@ -83,10 +83,7 @@ fn fits_all(items: &Items<'_>, unit: ItemId, all: bool, kind: UnitKind) -> bool
     requires { HasId items.now unit }
     ensures { IsTrue result → (all ≡ true) × Fits (item_at items.now unit) kind }
 {
-    if !all {
-        return false;
-    }
-    fits(items, unit, kind)
+    all && fits(items, unit, kind)
 }
 
 // Whether the units of the axes fit, with the one that they share.
@@ -98,10 +95,8 @@ pub(crate) fn units_fit(items: &Items<'_>, axes: Axes, shared: Option<ItemId>) -
     if !axes.alone {
         return false;
     }
-    if fits_all(items, unit, axes.lengths, UnitKind::Length) {
-        return true;
-    }
-    fits_all(items, unit, axes.angles, UnitKind::Angle)
+    fits_all(items, unit, axes.lengths, UnitKind::Length)
+        || fits_all(items, unit, axes.angles, UnitKind::Angle)
 }
 
 // The place of a class among those that may stand but once at a CRS's end, in their usual order; 0 for others.

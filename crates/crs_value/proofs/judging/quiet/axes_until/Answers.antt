@@ -21,8 +21,8 @@ seen_of-requires-clause-shaped c =
 
 pub loop-at-preserved : goal.loop-at-preserved
 loop-at-preserved c =
-    noted-on _ _ _ _ c.in-Some-seen_of.seen _ _ _ c.in-Some.axis _ c.in-Some.is (has-some _ _ _ c.in-Some.is c.loop-at.invariant.holds) c.next-at.ensures
-    (sym c.stands_as.ensures ∙ c.if-not-stands_as.false) c.in-Some-seen_of.ensures c.noted-axes.ensures c.loop-at.invariant
+    noted-on _ _ _ _ c.in_ok-seen.seen _ _ _ c.in-Some.axis _ c.in-Some.is (has-some _ _ _ c.in-Some.is c.loop-at.invariant.holds) c.next-at.ensures
+    (sym c.stands_as.ensures ∙ c.if-not-stands_as.false) c.in_ok-seen.ensures c.noted-axes.ensures c.loop-at.invariant
 
 pub returns : goal.returns
 returns c = noted-end _ _ _ _ _ _ c.loop-at.invariant (ap (λ o. those c.args.class class.Axis (ahead c.args.items.now o)) c.in_default.is)
