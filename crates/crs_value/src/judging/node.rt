@@ -16,11 +16,11 @@ use crate::checks::dynamic::bad_dynamic;
 use crate::checks::lesser;
 use crate::checks::own::own_of_part;
 use crate::judging::named::AxisUnit;
+use crate::judging::parts::{Axis, CoordinateSystem};
 use crate::judging::quiet::{Layout, NOWHERE, is_quiet};
 use crate::judging::slots::{
     Any, Found, One, OneOrMore, Optional, Parent, Part, Slot, Slots, ends, walk,
 };
-use crate::judging::system::{Axis, CoordinateSystem};
 use crate::reading::arguments::first_before;
 use crate::reading::cursor::Cursor;
 use crs_shape::{Class, laws, stands_as};
