@@ -3,7 +3,7 @@ ghost use Rattle.std.specs.Prelude.{[], ◌∷◌, IfOk};
 ghost use Rattle.crs_value.specs.Checks.{IsSound};
 ghost use Rattle.crs_value.specs.Cursor.{item};
 ghost use Rattle.crs_value.specs.Reading.{Requires, RequiresOneOf};
-ghost use Rattle.crs_value.specs.ReadsCrs.{ReadsFrame, ReadsGeodeticFrame, ReadsVerticalFrame};
+ghost use Rattle.crs_value.specs.ReadsCrs.{ReadsFrame};
 
 use crate::reading::arguments::first;
 use crate::reading::cursor::Cursor;
@@ -14,7 +14,7 @@ use std::alloc::{AllocError, Global};
 
 // The frame of a CRS: its reference frame, of the one class, or where there is none its ensemble, of the
 // other.
-fn read_frame<'a>(
+pub(crate) fn read_frame<'a>(
     alloc: Global,
     node: &Cursor<'_, 'a>,
     frame: Class,
@@ -38,28 +38,4 @@ fn read_frame<'a>(
     };
     let class = ensemble;
     Ensemble::read(alloc, &Cursor { items, id, class }).map(Frame::Ensemble)
-}
-
-// The frame of a geodetic or geographic CRS, or of a base CRS.
-pub(crate) fn geodetic_frame<'a>(
-    alloc: Global,
-    node: &Cursor<'_, 'a>,
-) -> Result<Frame<'a>, AllocError>
-    requires sound { IsSound node.now.class (item node.now) }
-    requires there { RequiresOneOf node.now.class (Class.GeodeticFrame ∷ Class.GeodeticEnsemble ∷ []) }
-    ensures { IfOk result (λ frame. ReadsGeodeticFrame node.now.class (item node.now) frame) }
-{
-    read_frame(alloc, node, Class::GeodeticFrame, Class::GeodeticEnsemble)
-}
-
-// The frame of a vertical CRS.
-pub(crate) fn vertical_frame<'a>(
-    alloc: Global,
-    node: &Cursor<'_, 'a>,
-) -> Result<Frame<'a>, AllocError>
-    requires sound { IsSound node.now.class (item node.now) }
-    requires there { RequiresOneOf node.now.class (Class.VerticalFrame ∷ Class.VerticalEnsemble ∷ []) }
-    ensures { IfOk result (λ frame. ReadsVerticalFrame node.now.class (item node.now) frame) }
-{
-    read_frame(alloc, node, Class::VerticalFrame, Class::VerticalEnsemble)
 }

@@ -6,7 +6,7 @@ ghost use Rattle.crs_value.specs.ReadsCrs.{IsGeodeticClass, ReadsGeodetic};
 
 use crate::reading::cursor::Cursor;
 use crate::reading::firsts::firsts_of;
-use crate::values::crs_frame::geodetic_frame;
+use crate::values::crs_frame::read_frame;
 use crate::values::dynamic::Dynamic;
 use crate::values::frame::Frame;
 use crate::values::meridian::Meridian;
@@ -78,7 +78,7 @@ pub(crate) fn read_geodetic<'a>(
     Ok(Geodetic {
         name: node.text(),
         dynamic: node.optional_from(alloc, Class::Dynamic, firsts.dynamic)?,
-        frame: geodetic_frame(alloc, node)?,
+        frame: read_frame(alloc, node, Class::GeodeticFrame, Class::GeodeticEnsemble)?,
         meridian: node.optional(alloc, Class::PrimeMeridian)?,
         system: read_system(alloc, node, &firsts)?,
         tail: read_tail(alloc, node, &firsts)?,

@@ -6,7 +6,7 @@ use crate::reading::cursor::Cursor;
 use crate::reading::firsts::firsts_of;
 use crate::reading::node::Node;
 use crate::values::conversion::Conversion;
-use crate::values::crs_frame::geodetic_frame;
+use crate::values::crs_frame::read_frame;
 use crate::values::dynamic::Dynamic;
 use crate::values::frame::Frame;
 use crate::values::ident::Ident;
@@ -145,7 +145,7 @@ impl<'a> Node<'a> for Base<'a> {
         Ok(Base {
             name: node.text(),
             dynamic: node.optional(alloc, Class::Dynamic)?,
-            frame: geodetic_frame(alloc, node)?,
+            frame: read_frame(alloc, node, Class::GeodeticFrame, Class::GeodeticEnsemble)?,
             meridian: node.optional(alloc, Class::PrimeMeridian)?,
             unit: node.optional(alloc, Class::AngleUnit)?,
             identifiers: node.many(alloc, Class::Identifier)?,

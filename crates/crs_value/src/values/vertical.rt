@@ -5,7 +5,7 @@ ghost use Rattle.crs_shape.specs.declared.class.Class.TheVariants as classes;
 use crate::reading::cursor::Cursor;
 use crate::reading::firsts::firsts_of;
 use crate::reading::node::Node;
-use crate::values::crs_frame::vertical_frame;
+use crate::values::crs_frame::read_frame;
 use crate::values::dynamic::Dynamic;
 use crate::values::frame::Frame;
 use crate::values::ident::Ident;
@@ -100,7 +100,7 @@ impl<'a> Node<'a> for Vertical<'a> {
         Ok(Vertical {
             name: node.text(),
             dynamic: node.optional_from(alloc, Class::Dynamic, firsts.dynamic)?,
-            frame: vertical_frame(alloc, node)?,
+            frame: read_frame(alloc, node, Class::VerticalFrame, Class::VerticalEnsemble)?,
             system: read_system(alloc, node, &firsts)?,
             geoid_models: node.many(alloc, Class::GeoidModel)?,
             tail: read_tail(alloc, node, &firsts)?,
