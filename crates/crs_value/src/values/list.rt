@@ -1,4 +1,6 @@
 //! Lists.
+#![tactic(auto, unfolding(crate::specs::Fronts::front))]
+
 ghost use Rattle.std.specs.Prelude.{◌≡◌, ◌<◌, [], ◌∷◌, ◌++◌, IfOk, None, OnErr, length, map, take};
 ghost use Rattle.std.specs.List.{swap};
 ghost use Rattle.crs_value.specs.Fronts.{AreFollowedByOnce, front};
@@ -63,7 +65,6 @@ pub trait Change<T> {
 
 impl<T> List<T> {
     /// The members, in order.
-    #[tactic(auto, unfolding(crate::specs::Fronts::front))]
     pub fn as_slice(&self) -> &[T]
         ensures { result.now ≡ self.now }
     {
@@ -75,7 +76,6 @@ impl<T> List<T> {
 
     /// The same members. Of more than 32 identifiers that were read, each is there once, so that two lists are compared
     /// in the time of the shorter one.
-    #[tactic(auto, unfolding(crate::specs::Fronts::front))]
     pub fn once(&self) -> &[T]
         ensures { HaveSameMembers result.now self.now }
     {
@@ -102,7 +102,6 @@ impl<T> List<T> {
     }
 
     /// Changes each member. Profile.
-    #[tactic(auto, unfolding(crate::specs::Fronts::front))]
     pub fn change_each<C: Change<T>>(&mut self, change: &C)
     where
         T: Drop,
@@ -115,7 +114,6 @@ impl<T> List<T> {
     }
 
     /// Puts two members in each other's place. Profile.
-    #[tactic(auto, unfolding(crate::specs::Fronts::front))]
     pub fn swap(&mut self, first: usize, second: usize)
     where
         T: Drop,
@@ -128,7 +126,6 @@ impl<T> List<T> {
     }
 
     /// Takes all members out. Profile.
-    #[tactic(auto, unfolding(crate::specs::Fronts::front))]
     pub fn clear(&mut self)
     where
         T: Drop,
@@ -138,7 +135,6 @@ impl<T> List<T> {
         self.members.clear();
     }
 
-    #[tactic(auto, unfolding(crate::specs::Fronts::front))]
     pub(crate) fn new(alloc: Global) -> List<T>
         ensures { result ≡ [] }
     {
@@ -149,7 +145,6 @@ impl<T> List<T> {
     }
 
     // Out of memory, the list is as before.
-    #[tactic(auto, unfolding(crate::specs::Fronts::front))]
     pub(crate) fn push(&mut self, member: T) -> Result<(), AllocError>
     where
         T: Drop,
@@ -161,7 +156,6 @@ impl<T> List<T> {
     }
 
     // Has the list know where its members are, if they are many. Out of memory, it is as before.
-    #[tactic(auto, unfolding(crate::specs::Fronts::front))]
     pub(crate) fn note_places(&mut self, alloc: Global) -> Result<(), AllocError>
     where
         T: Keyed + Drop,
@@ -176,7 +170,6 @@ impl<T> List<T> {
 }
 
 // Leaves the members alone.
-#[tactic(auto, unfolding(crate::specs::Fronts::front))]
 fn forget<T: Drop>(members: &mut Vec<T>, lookup: &mut Option<Box<Lookup>>)
     ensures members { members.new.items ≡ front (λ lookup. lookup.value.count) lookup.old members.old.items }
     ensures lookup { lookup.new ≡ None }
@@ -188,7 +181,6 @@ fn forget<T: Drop>(members: &mut Vec<T>, lookup: &mut Option<Box<Lookup>>)
 }
 
 // How these are found; behind them, where some are repeated, each once. Out of memory, they are as before.
-#[tactic(auto, unfolding(crate::specs::Fronts::front))]
 fn lookup_of<T: Keyed + Drop>(
     alloc: Global,
     members: &mut Vec<T>,
