@@ -101,25 +101,15 @@ fn laid<H: Slots, T: Part>(
     ensures { Laid parent.entry.items.now parent.entry.class parent.entry.close (H.slots ++ rest_slots (any_of
         T.classes)) at found.old result found.new }
 {
-    let Some(system) = H::pass(parent, at, found) else {
-        return None;
-    };
+    let system = H::pass(parent, at, found)?;
     let layout = Layout { system, ..NOWHERE };
-    let Some(axes) = One::<CoordinateSystem>::pass(parent, layout.system, found) else {
-        return None;
-    };
+    let axes = One::<CoordinateSystem>::pass(parent, layout.system, found)?;
     let layout = Layout { axes, ..layout };
-    let Some(unit) = OneOrMore::<Axis>::pass(parent, layout.axes, found) else {
-        return None;
-    };
+    let unit = OneOrMore::<Axis>::pass(parent, layout.axes, found)?;
     let layout = Layout { unit, ..layout };
-    let Some(tail) = Optional::<AxisUnit>::pass(parent, layout.unit, found) else {
-        return None;
-    };
+    let tail = Optional::<AxisUnit>::pass(parent, layout.unit, found)?;
     let layout = Layout { tail, ..layout };
-    let Some(end) = Any::<T>::pass(parent, layout.tail, found) else {
-        return None;
-    };
+    let end = Any::<T>::pass(parent, layout.tail, found)?;
     if !ends(parent, end, found) {
         return None;
     }
