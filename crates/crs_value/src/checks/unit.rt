@@ -183,13 +183,9 @@ impl Sharing<'_, '_> {
         ensures { IsTrue result ↔ AllAsk (item_at self.now.crs.items.now self.now.cs)
             (args classes.Axis self.now.crs) kind }
     {
-        let Cursor {
-            items,
-            id,
-            class,
-            ..
-        } = self.crs;
-        let mut at = first(items, id, class, Class::Axis);
+        let items = self.crs.items;
+        let class = self.crs.class;
+        let mut at = first(items, self.crs.id, class, Class::Axis);
         while let Some(axis) = at {
             if !asks(items, self.cs, self.system_type, axis, kind) {
                 return false;
