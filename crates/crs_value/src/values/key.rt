@@ -146,12 +146,7 @@ impl Key {
     }
 
     fn put_kind(&mut self, kind: UnitKind) {
-        self.put(match kind {
-            UnitKind::Length => 0,
-            UnitKind::Angle => 1,
-            UnitKind::Scale => 2,
-            UnitKind::Plain => 3,
-        });
+        self.put(kind as u64);
     }
 
     // The identifiers that the level keeps, in any order and however often.
@@ -218,22 +213,14 @@ fn key_of_set(idents: &List<Ident<'_>>) -> u128 {
 
 fn key_of_few(idents: &[Ident<'_>]) -> u128 {
     let mut keys = [0; FEW];
-    let mut count: usize = 0;
-    for ident in idents.iter().take(FEW) {
-        if count < FEW {
-            keys[count] = key_of_ident(ident);
-            count += 1;
-        }
+    for (key, ident) in keys.iter_mut().zip(idents) {
+        *key = key_of_ident(ident);
     }
-    let keys = &mut keys[..count.min(FEW)];
+    let keys = &mut keys[..idents.len().min(FEW)];
     keys.sort_unstable();
-    key_of_sorted(keys)
-}
-
-fn key_of_sorted(keys: &[u128]) -> u128 {
-    let mut key = SetKey::new();
-    for one in keys {
-        key.put(*one);
+    let mut set = SetKey::new();
+    for key in keys {
+        set.put(*key);
     }
-    key.finish()
+    set.finish()
 }

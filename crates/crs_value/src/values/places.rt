@@ -61,7 +61,10 @@ impl Places {
     // The last place before this one that has its key.
     pub(crate) fn before_of(&self, at: usize) -> usize {
         match self.keys.get(at) {
-            Some(key) => self.before(*key, at),
+            Some(key) => match self.rank(*key, at).checked_sub(1) {
+                Some(rank) => self.place(rank, *key),
+                None => NOWHERE,
+            },
             None => NOWHERE,
         }
     }
@@ -76,18 +79,6 @@ impl Places {
         match self.sorted.get(rank) {
             Some(entry) if entry.0 == key => entry.1,
             _ => NOWHERE,
-        }
-    }
-
-    fn first(&self, key: u128) -> usize {
-        self.place(self.rank(key, 0), key)
-    }
-
-    // The last place before this one.
-    fn before(&self, key: u128, at: usize) -> usize {
-        match self.rank(key, at).checked_sub(1) {
-            Some(rank) => self.place(rank, key),
-            None => NOWHERE,
         }
     }
 }
@@ -143,7 +134,7 @@ impl<'b> Guesses<'b> {
 fn guessed(own: &Places, others: &Places, at: usize) -> Guess {
     Guess {
         other: match own.keys.get(at) {
-            Some(key) => others.first(*key),
+            Some(key) => others.place(others.rank(*key, 0), *key),
             None => NOWHERE,
         },
         before: own.before_of(at),
