@@ -1,9 +1,7 @@
 -- A bridge: the keywords by the length of their spelling, for a quick look-up.
-use Rattle.std.specs.Prelude.{◌≡◌, ◌≤◌, ◌<◌, ◌==◌, ◌&&◌, nat_le, slice_index, ℕ, Bool, IsTrue}
-use Rattle.std.specs.Prelude.{length, filter, take}
+use Rattle.std.specs.Prelude.{◌≡◌, ◌==◌, ◌&&◌, nat_le, ℕ, Bool, IsTrue, length, filter, take}
 use Rattle.std.specs.List.{list_all}
 use Rattle.std.specs.Prelude.{Option, Some, None, List, [], ◌∷◌, if◌then◌else◌}
-use Rattle.std.specs.Char.{to_ascii_lowercase}
 use Rattle.std.specs.Str.{str_eq_ignore_ascii_case}
 use Rattle.crs_text.specs.Keywords.{spelling_of, every_keyword, keyword_of}
 use Rattle.crs_text.specs.declared.keyword.Keyword.{Keyword}
@@ -36,21 +34,6 @@ first_among (s ∷ ss) word =
 -- a capital
 abbrev pub is_capital : ℕ → Bool
 is_capital c = nat_le 65 c && nat_le c 90
-
--- a word of capitals
-abbrev pub AreCapitals : List ℕ → Type 0
-AreCapitals word = (k : ℕ) → k < length word → IsTrue (is_capital (slice_index word k))
-
--- the word of each is capitals
-abbrev pub AreSpellings : List Spelled → Type 0
-AreSpellings [] = Unit {0}
-AreSpellings (s ∷ ss) = AreCapitals s.word × AreSpellings ss
-
--- two words are the same from one place up to another, letter case aside
-abbrev pub AreSameWithin : List ℕ → List ℕ → ℕ → ℕ → Type 0
-AreSameWithin letters word low high =
-    (k : ℕ) → low ≤ k → k < high →
-    to_ascii_lowercase (slice_index letters k) ≡ to_ascii_lowercase (slice_index word k)
 
 -- the word is spelled as this keyword, or is none
 abbrev pub IsNamed : Option Keyword → List ℕ → Type 0

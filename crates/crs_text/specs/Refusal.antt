@@ -16,9 +16,9 @@ is_refusal n =
 abbrev pub is_before : RefusedAt → RefusedAt → Bool
 is_before a b = nat_lt a.number b.number || (a.number == b.number && nat_lt a.place b.place)
 
--- the names of the refusals of the text itself
-abbrev pub text_name : ℕ → List ℕ
-text_name n =
+-- the name of a refusal's number: of the text itself, of a shape, of a value
+abbrev pub name_of : ℕ → List ℕ
+name_of n =
     if n == 1 then codes "BadCharacter"
     else (if n == 2 then codes "BadNumber"
     else (if n == 3 then codes "NumberRange"
@@ -26,18 +26,11 @@ text_name n =
     else (if n == 5 then codes "OpenText"
     else (if n == 6 then codes "Unexpected"
     else (if n == 7 then codes "UnexpectedEnd"
-    else codes "TooDeep"))))))
-
--- the names of the refusals of a shape
-abbrev pub shape_name : ℕ → List ℕ
-shape_name n =
-    if n == 11 then codes "UnknownKeyword"
-    else (if n == 12 then codes "NotHere" else codes "Missing")
-
--- the names of the refusals of a value
-abbrev pub value_name : ℕ → List ℕ
-value_name n =
-    if n == 21 then codes "UnknownWord"
+    else (if n == 8 then codes "TooDeep"
+    else (if n == 11 then codes "UnknownKeyword"
+    else (if n == 12 then codes "NotHere"
+    else (if n == 13 then codes "Missing"
+    else (if n == 21 then codes "UnknownWord"
     else (if n == 22 then codes "RepeatedPart"
     else (if n == 23 then codes "BadSystem"
     else (if n == 24 then codes "BadComponent"
@@ -45,11 +38,7 @@ value_name n =
     else (if n == 26 then codes "BadOrder"
     else (if n == 27 then codes "BadUnit"
     else (if n == 28 then codes "BadValue"
-    else codes "BadDynamic")))))))
-
--- the name of a refusal's number
-abbrev pub name_of : ℕ → List ℕ
-name_of n = if nat_le n 8 then text_name n else (if nat_le n 13 then shape_name n else value_name n)
+    else codes "BadDynamic"))))))))))))))))))
 
 -- `refused N NAME at P`
 abbrev pub refused_text : ℕ → ℕ → List ℕ

@@ -1,10 +1,10 @@
 //! Keywords: the words that the grammar of well-known text gives a meaning, found by their spelling.
-ghost use Rattle.std.specs.Prelude.{◌≡◌, ℕ, ◌+◌, ◌≤◌, ◌<◌, ◌↔◌, IsTrue, IfSome, length, map, take};
+ghost use Rattle.std.specs.Prelude.{◌≡◌, ℕ, ◌≤◌, ◌<◌, IsTrue, IfSome, length, map, take};
 ghost use Rattle.std.specs.Char.{to_ascii_lowercase};
 ghost use Rattle.std.specs.Str.{str_eq_ignore_ascii_case};
 ghost use Rattle.crs_text.specs.Keywords.{keyword_of, spelling_of};
-ghost use Rattle.crs_text.specs.KeywordTable.{as_spelled, spelled, of_length, first_among, is_capital, AreCapitals};
-ghost use Rattle.crs_text.specs.KeywordTable.{AreSpellings, AreSameWithin, IsSuspect, AreSuspects};
+ghost use Rattle.crs_text.specs.KeywordTable.{as_spelled, spelled, of_length, first_among, is_capital};
+ghost use Rattle.crs_text.specs.KeywordTable.{IsSuspect, AreSuspects};
 ghost use Rattle.std.specs.List.{list_all};
 
 use crate::lexing::front_of;
@@ -123,11 +123,6 @@ pub enum Keyword {
 
 // The bit in which a small letter differs from its capital.
 const SMALL: u8 = 0x20;
-
-// Bytes that are compared at once.
-const BLOCK: usize = 8;
-
-const HALF_BLOCK: usize = 4;
 
 // The keywords with their bytes, in capitals, by how many these are; within a length the frequent ones go first.
 // The bytes are here alone: a macro makes each table from these rows.
@@ -442,7 +437,6 @@ pub(crate) fn front_keyword(left: &[u8], count: usize) -> Option<Keyword>
 }
 
 fn first_among(spellings: &[Spelling], word: &[u8]) -> Option<Keyword>
-    requires { AreSpellings (map as_spelled spellings.now) }
     ensures { result ≡ first_among (map as_spelled spellings.now) word.now }
 {
     for spelling in spellings {
@@ -453,64 +447,8 @@ fn first_among(spellings: &[Spelling], word: &[u8]) -> Option<Keyword>
     None
 }
 
-// Whether a word is this one of capitals, letter case aside.
 fn same_word(letters: &[u8], word: &[u8]) -> bool
-    requires { AreCapitals letters.now }
     ensures { result ≡ str_eq_ignore_ascii_case letters.now word.now }
 {
-    same_letters(letters, word)
-}
-
-fn same_letters(letters: &[u8], word: &[u8]) -> bool
-    requires { AreCapitals letters.now }
-    ensures { IsTrue result ↔ (map to_ascii_lowercase letters.now ≡ map to_ascii_lowercase word.now) }
-{
-    letters.len() == word.len() && same_blocks(letters, word)
-}
-
-// By blocks of bytes, of which the last may overlap the one before.
-fn same_blocks(letters: &[u8], word: &[u8]) -> bool
-    requires long { length letters.now ≡ length word.now }
-    requires letters { AreCapitals letters.now }
-    ensures { IsTrue result ↔ AreSameWithin letters.now word.now 0 (length letters.now) }
-{
-    let length = letters.len();
-    if length < HALF_BLOCK {
-        return same_block(letters, word, 0, length);
-    }
-    if length < BLOCK {
-        return same_block(letters, word, 0, HALF_BLOCK)
-            && same_block(letters, word, length - HALF_BLOCK, HALF_BLOCK);
-    }
-    let last = length - BLOCK;
-    let mut at = 0;
-    while at < last {
-        if !same_block(letters, word, at, BLOCK) {
-            return false;
-        }
-        at += BLOCK;
-    }
-    same_block(letters, word, last, BLOCK)
-}
-
-// The loop has no early exit, so that it is compiled to vector code.
-#[inline(always)]
-fn same_block(letters: &[u8], word: &[u8], at: usize, size: usize) -> bool
-    requires within { (at + size ≤ length letters.now) × (at + size ≤ length word.now) }
-    requires letters { AreCapitals letters.now }
-    ensures { IsTrue result ↔ AreSameWithin letters.now word.now at (at + size) }
-{
-    let mut same = true;
-    for i in 0..size {
-        same &= same_letter(letters[at + i], word[at + i]);
-    }
-    same
-}
-
-#[inline(always)]
-fn same_letter(letter: u8, byte: u8) -> bool
-    requires { IsTrue (is_capital letter) }
-    ensures { IsTrue result ↔ (to_ascii_lowercase letter ≡ to_ascii_lowercase byte) }
-{
-    byte & !SMALL == letter
+    letters.eq_ignore_ascii_case(word)
 }

@@ -8,9 +8,7 @@ ghost use Rattle.crs_text.specs.Lexing.{IsLexed};
 ghost use Rattle.crs_text.specs.Runs.{IsClosing, IsOneDigit, IsSigned, IsFractional};
 
 use crate::refusal::Reason;
-use crate::runs::{
-    digit_length, ends_run, is_digit, letters_length, plain_ascii_length, run_length, word_length,
-};
+use crate::runs::{digit_length, ends_run, is_digit, plain_ascii_length, run_length, word_length};
 use crate::utf8::valid_length;
 use bstr::ByteSlice;
 use crs_decimal::{Decimal, NumberFault};
@@ -228,15 +226,6 @@ pub(crate) fn plain_number_length(left: &[u8]) -> Option<usize>
     } else {
         None
     }
-}
-
-/// The length of the word that begins what is left, if it is of fewer than sixteen letters alone, as most are.
-#[inline(always)]
-pub(crate) fn plain_word_length(left: &[u8]) -> Option<usize>
-    requires { BeginsWith tokens.is_letter left.now }
-    ensures { IfSome result (λ n. IsLexed left.now (Lexed.Word n)) }
-{
-    letters_length(left)
 }
 
 #[inline(always)]

@@ -1,6 +1,6 @@
 //! Why a text is refused: a number, and the place of the fault.
 ghost use Rattle.std.specs.Prelude.{◌≡◌, ◌↔◌, IsSome, IfSome, IsTrue};
-ghost use Rattle.crs_text.specs.Refusal.{is_before, is_refusal, name_of, text_name, shape_name, value_name};
+ghost use Rattle.crs_text.specs.Refusal.{is_before, is_refusal, name_of};
 
 use std::marker::Model;
 
@@ -26,11 +26,11 @@ impl Model for Refusal {
     ghost inverse = { λ r. record { number = r.number; place = r.place } };
 }
 
-/// Why a text is no node.
+/// Why a text is no node, as the number of its refusal.
 #[derive(Clone, Copy)]
 pub(crate) enum Reason {
     /// A byte begins no token.
-    BadCharacter,
+    BadCharacter = 1,
     /// A run isn't of the number form.
     BadNumber,
     /// A number is out of bounds.
@@ -55,18 +55,8 @@ impl Reason {
         ensures number { result.number ≡ reason_number self }
         ensures place { result.place ≡ place }
     {
-        let number: u8 = match self {
-            Reason::BadCharacter => 1,
-            Reason::BadNumber => 2,
-            Reason::NumberRange => 3,
-            Reason::NotUtf8 => 4,
-            Reason::OpenText => 5,
-            Reason::Unexpected => 6,
-            Reason::UnexpectedEnd => 7,
-            Reason::TooDeep => 8,
-        };
         Refusal {
-            number: u64::from(number),
+            number: self as u64,
             place,
         }
     }
@@ -113,51 +103,27 @@ impl Refusal {
     pub fn name(&self) -> &'static str
         ensures { result.now ≡ name_of self.now.number }
     {
-        match self.number() {
-            0..=8 => text_name(self.number()),
-            9..=13 => shape_name(self.number()),
-            _ => value_name(self.number()),
+        match self.number {
+            1 => "BadCharacter",
+            2 => "BadNumber",
+            3 => "NumberRange",
+            4 => "NotUtf8",
+            5 => "OpenText",
+            6 => "Unexpected",
+            7 => "UnexpectedEnd",
+            8 => "TooDeep",
+            11 => "UnknownKeyword",
+            12 => "NotHere",
+            13 => "Missing",
+            21 => "UnknownWord",
+            22 => "RepeatedPart",
+            23 => "BadSystem",
+            24 => "BadComponent",
+            25 => "AxisCount",
+            26 => "BadOrder",
+            27 => "BadUnit",
+            28 => "BadValue",
+            _ => "BadDynamic",
         }
-    }
-}
-
-fn text_name(number: u8) -> &'static str
-    ensures { result.now ≡ text_name number }
-{
-    match number {
-        1 => "BadCharacter",
-        2 => "BadNumber",
-        3 => "NumberRange",
-        4 => "NotUtf8",
-        5 => "OpenText",
-        6 => "Unexpected",
-        7 => "UnexpectedEnd",
-        _ => "TooDeep",
-    }
-}
-
-fn shape_name(number: u8) -> &'static str
-    ensures { result.now ≡ shape_name number }
-{
-    match number {
-        11 => "UnknownKeyword",
-        12 => "NotHere",
-        _ => "Missing",
-    }
-}
-
-fn value_name(number: u8) -> &'static str
-    ensures { result.now ≡ value_name number }
-{
-    match number {
-        21 => "UnknownWord",
-        22 => "RepeatedPart",
-        23 => "BadSystem",
-        24 => "BadComponent",
-        25 => "AxisCount",
-        26 => "BadOrder",
-        27 => "BadUnit",
-        28 => "BadValue",
-        _ => "BadDynamic",
     }
 }

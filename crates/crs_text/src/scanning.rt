@@ -1,22 +1,21 @@
 //! One pass over the text: each token is found, and the table takes it or refuses it.
-ghost use Rattle.std.specs.Prelude.{◌≡◌, ◌+◌, ◌≤◌, ◌<◌, ◌∷◌, length, drop, true, MatchResult, MatchBool, IsTrue};
-ghost use Rattle.crs_text.specs.Tokens.{Forms, comma, opening, closing, is_letter, is_white};
+ghost use Rattle.std.specs.Prelude.{◌≡◌, ◌+◌, ◌≤◌, ◌<◌, List, ◌∷◌, length, drop, true, MatchResult, MatchBool, IsTrue};
+ghost use Rattle.crs_text.specs.Tokens.{Token, Forms, comma, opening, is_letter, is_white};
 ghost use Rattle.crs_text.specs.Quoted.{BeginsWith};
 ghost use Rattle.std.specs.List.{prefix_len};
-ghost use Rattle.crs_text.specs.TextFault.{reason_number, IsFlaw, IsTextFault};
+ghost use Rattle.crs_text.specs.TextFault.{reason_number, IsFlaw, IsTextFault, IsTooDeep};
 ghost use Rattle.crs_text.specs.Scan.{IsReached, IsFurther, IsPassed, IsTaken, IsStoppedBy, IsSingleAt, IsScanned};
 ghost use Rattle.crs_text.specs.Items.{keyword_at};
-ghost use Rattle.crs_text.specs.Table.{Flat};
+ghost use Rattle.crs_text.specs.Rows.{Shows};
+ghost use Rattle.crs_text.specs.Table.{Flat, flat_step, IsStep};
 ghost use Rattle.crs_text.specs.Lexing.{IsLexed};
 
 use crate::fault::Fault;
 use crate::items::ItemKind;
 use crate::keyword::{Keyword, front_keyword};
-use crate::lexing::{
-    Lexed, front_of, plain_number_length, plain_text_length, plain_word_length, rest_of, token_at,
-};
+use crate::lexing::{Lexed, front_of, plain_number_length, plain_text_length, rest_of, token_at};
 use crate::refusal::Reason;
-use crate::runs::{is_digit, is_letter, is_white};
+use crate::runs::{is_digit, is_letter, is_white, letters_length};
 use crate::table::{Opened, Table};
 
 fn unexpected(at: usize) -> Fault
@@ -55,62 +54,20 @@ fn take_single(
     }
 }
 
+// A comma or a delimiter, which has one byte, where this says whether the table took it.
 #[inline(always)]
-fn take_comma(table: &mut Table, text: &[u8], at: usize, taken: &mut usize) -> Result<(), Fault>
-    requires within { at < length text.now }
-    requires forms { Forms (length text.now) comma (drop at text.now) (drop (at + 1) text.now) }
-    ensures { MatchResult result (λ _. IsTaken text.now at table.old table.new taken.new)
-        (IsStoppedBy text.now at table.old) }
+fn take_mark(text: &[u8], at: usize, was_taken: bool, taken: &mut usize) -> Result<(), Fault>
+    requires { at < length text.now }
+    ensures { (before behind : Flat) (token : Token) → IsStep (flat_step before token) was_taken before behind →
+        Forms (length text.now) token (drop at text.now) (drop (at + 1) text.now) →
+        ((tokens : List Token) → Shows tokens before → ¬ (IsTooDeep tokens token)) →
+        MatchResult result (λ _. IsTaken text.now at before behind taken.new) (IsStoppedBy text.now at before) }
 {
-    if table.comma() {
+    if was_taken {
         *taken = 1;
         Ok(())
     } else {
         Err(unexpected(at))
-    }
-}
-
-#[inline(always)]
-fn take_closing(
-    table: &mut Table,
-    text: &[u8],
-    at: usize,
-    square: bool,
-    taken: &mut usize,
-) -> Result<(), Fault>
-    requires within { at < length text.now }
-    requires forms { Forms (length text.now) (closing at square) (drop at text.now) (drop (at + 1) text.now) }
-    ensures { MatchResult result (λ _. IsTaken text.now at table.old table.new taken.new)
-        (IsStoppedBy text.now at table.old) }
-{
-    if table.close(at, square) {
-        *taken = 1;
-        Ok(())
-    } else {
-        Err(unexpected(at))
-    }
-}
-
-#[inline(always)]
-fn take_opening(
-    table: &mut Table,
-    text: &[u8],
-    at: usize,
-    square: bool,
-    taken: &mut usize,
-) -> Result<(), Fault>
-    requires within { at < length text.now }
-    requires forms { Forms (length text.now) (opening square) (drop at text.now) (drop (at + 1) text.now) }
-    ensures { MatchResult result (λ _. IsTaken text.now at table.old table.new taken.new)
-        (IsStoppedBy text.now at table.old) }
-{
-    match table.open(square) {
-        Opened::Taken => {
-            *taken = 1;
-            Ok(())
-        }
-        Opened::TooDeep => Err(Fault::Refused(Reason::TooDeep.at(at))),
-        Opened::Refused => Err(unexpected(at)),
     }
 }
 
@@ -120,59 +77,6 @@ fn flawed(text: &[u8], at: usize, reason: Reason, skip: usize) -> Fault
     ensures { (table : Flat) → IsStoppedBy text.now at table result }
 {
     Fault::Refused(reason.at(at + skip))
-}
-
-#[inline(always)]
-fn take_number(
-    table: &mut Table,
-    text: &[u8],
-    at: usize,
-    count: usize,
-    taken: &mut usize,
-) -> Result<(), Fault>
-    requires more { at < length text.now }
-    requires lexed { IsLexed (drop at text.now) (Lexed.Number count) }
-    ensures { MatchResult result (λ _. IsTaken text.now at table.old table.new taken.new)
-        (IsStoppedBy text.now at table.old) }
-{
-    let raw = front_of(rest_of(text, at), count);
-    take_single(table, text, at, ItemKind::Number, raw, None, count, taken)
-}
-
-#[inline(always)]
-fn take_text(
-    table: &mut Table,
-    text: &[u8],
-    at: usize,
-    count: usize,
-    taken: &mut usize,
-) -> Result<(), Fault>
-    requires more { at < length text.now }
-    requires lexed { IsLexed (drop at text.now) (Lexed.Text count) }
-    ensures { MatchResult result (λ _. IsTaken text.now at table.old table.new taken.new)
-        (IsStoppedBy text.now at table.old) }
-{
-    let raw = front_of(rest_of(rest_of(text, at), 1), count);
-    take_single(table, text, at, ItemKind::Text, raw, None, count + 2, taken)
-}
-
-#[inline(always)]
-fn take_word(
-    table: &mut Table,
-    text: &[u8],
-    at: usize,
-    count: usize,
-    taken: &mut usize,
-) -> Result<(), Fault>
-    requires more { at < length text.now }
-    requires lexed { IsLexed (drop at text.now) (Lexed.Word count) }
-    ensures { MatchResult result (λ _. IsTaken text.now at table.old table.new taken.new)
-        (IsStoppedBy text.now at table.old) }
-{
-    let left = rest_of(text, at);
-    let keyword = front_keyword(left, count);
-    let raw = front_of(left, count);
-    take_single(table, text, at, ItemKind::Word, raw, keyword, count, taken)
 }
 
 /// What begins at this place, if it is a token that the table takes; `taken` is how many bytes it has.
@@ -190,12 +94,39 @@ pub(crate) fn take_lexed(
         (IsStoppedBy text.now at table.old) }
 {
     match lexed {
-        Lexed::Number { length } => take_number(table, text, at, length, taken),
-        Lexed::Text { length } => take_text(table, text, at, length, taken),
-        Lexed::Word { length } => take_word(table, text, at, length, taken),
-        Lexed::Comma => take_comma(table, text, at, taken),
-        Lexed::Opening { square } => take_opening(table, text, at, square, taken),
-        Lexed::Closing { square } => take_closing(table, text, at, square, taken),
+        Lexed::Number { length } => {
+            let raw = front_of(rest_of(text, at), length);
+            take_single(table, text, at, ItemKind::Number, raw, None, length, taken)
+        }
+        Lexed::Text { length } => {
+            let raw = front_of(rest_of(rest_of(text, at), 1), length);
+            take_single(
+                table,
+                text,
+                at,
+                ItemKind::Text,
+                raw,
+                None,
+                length + 2,
+                taken,
+            )
+        }
+        Lexed::Word { length } => {
+            let left = rest_of(text, at);
+            let keyword = front_keyword(left, length);
+            let raw = front_of(left, length);
+            take_single(table, text, at, ItemKind::Word, raw, keyword, length, taken)
+        }
+        Lexed::Comma => take_mark(text, at, table.comma(), taken),
+        Lexed::Closing { square } => take_mark(text, at, table.close(at, square), taken),
+        Lexed::Opening { square } => match table.open(square) {
+            Opened::Taken => {
+                *taken = 1;
+                Ok(())
+            }
+            Opened::TooDeep => Err(Fault::Refused(Reason::TooDeep.at(at))),
+            Opened::Refused => Err(unexpected(at)),
+        },
         Lexed::Flaw { reason, skip } => Err(flawed(text, at, reason, skip)),
     }
 }
@@ -379,7 +310,7 @@ fn pass_letters(table: &mut Table, text: &[u8], at: &mut usize, count: usize) ->
     }
 }
 
-// A word at this place: most begin a node.
+// A word at this place: most are of fewer than sixteen letters alone, and begin a node.
 #[inline(always)]
 fn pass_word(table: &mut Table, text: &[u8], at: &mut usize) -> Result<(), Fault>
     requires more { at.old < length text.now }
@@ -387,7 +318,7 @@ fn pass_word(table: &mut Table, text: &[u8], at: &mut usize) -> Result<(), Fault
     requires letter { BeginsWith is_letter (drop at.old text.now) }
     ensures { MatchResult result (λ _. IsFurther text.now at.old table.new at.new) (IsTextFault text.now) }
 {
-    match plain_word_length(rest_of(text, *at)) {
+    match letters_length(rest_of(text, *at)) {
         Some(length) => pass_letters(table, text, at, length),
         None => pass_else(table, text, at),
     }

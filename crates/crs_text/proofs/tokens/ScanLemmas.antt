@@ -157,6 +157,10 @@ spelled_whole text at table reached le whole =
     let w = whole_from_shows reached.tokens table reached.shows whole in
     (w.0, (reached.tokens, subst (λ z. Fronts (length text) text reached.tokens z) (drop_all at text le) reached.fronts, w.1), w.2)
 
+pub was_taken : (o : Option Flat) (taken : Bool) (before behind : Flat) → IsStep o taken before behind → taken ≡ true → o ≡ Some behind
+was_taken None taken before behind s e = let h : false ≡ true = sym s.0 ∙ e in absurd cc
+was_taken (Some next) taken before behind s e = ap Some (sym s.1)
+
 pub not_taken : (o : Option Flat) (taken : Bool) (before behind : Flat) → IsStep o taken before behind → taken ≡ false → o ≡ None
 not_taken None taken before behind s e = refl
 not_taken (Some next) taken before behind s e = let h : true ≡ false = sym s.0 ∙ e in absurd cc

@@ -1,4 +1,4 @@
--- A word is one of capitals, letter case aside, where it is byte by byte; and the spellings are of capitals.
+-- A word is one of capitals, letter case aside, where it is byte by byte.
 use Rattle.std.proofs.Common.{inl, inr, ◌≡◌, ℕ, zero, suc, ◌+◌, ◌≤◌, ◌%◌, ◌^◌, cond, nat_le, take, replicate, Fits, w8, ap₂, subst, Option, None, Some, ◌<◌, ◌↔◌, ◌==◌, ◌||◌, nat_eq, bit_and, IsTrue, filter, rules, not, Bool, true, false, if◌then◌else◌, List, [], ◌∷◌, length, map, get_or, refl, sym, ◌∙◌, ap, arith}
 use Rattle.std.proofs.Math.ListN.{get_or-map}
 use Rattle.std.proofs.lemmas.List.{length-map, take_all, take-take}
@@ -16,21 +16,8 @@ use Rattle.std.proofs.Math.Numerals.{one-add}
 use Rattle.std.specs.List.{list_all, prefix_len}
 use Rattle.crs_text.specs.declared.keyword.Keyword.{Keyword}
 use Rattle.crs_text.specs.Keywords.{spelling_of, every_keyword, keyword_of}
-use Rattle.crs_text.specs.KeywordTable.{spelled, of_length, first_among, is_capital, AreSpellings, AreSameWithin, IsNamed, IsSuspect, AreSuspects}
+use Rattle.crs_text.specs.KeywordTable.{spelled, of_length, first_among, is_capital, IsNamed, IsSuspect, AreSuspects}
 use Rattle.crs_text.proofs.words.KeywordLemmas.{keyword-spelled, keyword_of-table, same-keyword_of}
-
-pub same-bytes : (letters word : List ℕ) → length letters ≡ length word →
-    AreSameWithin letters word 0 (length letters) ↔ (map to_ascii_lowercase letters ≡ map to_ascii_lowercase word)
-same-bytes letters word e = (
-  λ same. same_number_lists (map to_ascii_lowercase letters) (map to_ascii_lowercase word)
-      (omega (arith, length-map letters to_ascii_lowercase, length-map word to_ascii_lowercase))
-      (λ k less. get_or-map to_ascii_lowercase letters k 0
-      ∙ same k (omega arith) (omega (arith, length-map letters to_ascii_lowercase))
-      ∙ sym (get_or-map to_ascii_lowercase word k 0)),
-  λ same k low high.
-      sym (get_or-map to_ascii_lowercase letters k 0)
-      ∙ ap (λ (l : List ℕ). get_or l k 0) same ∙ get_or-map to_ascii_lowercase word k 0,
-)
 
 -- a byte is a capital, letter case aside, exactly where it is with the bit cleared in which the cases differ
 abbrev folds : ℕ → Bool
@@ -54,27 +41,6 @@ same_letter-byte c x less within is =
 
 pub tested : (a b : ℕ) → IsTrue (nat_eq a b) ↔ (a ≡ b)
 tested a b = (λ e. search rules, λ e. search rules)
-
--- Spellings in capitals
-
-abbrev in_capitals : Keyword → Bool
-in_capitals k = list_all is_capital (spelling_of k)
-
-all_in_capitals : list_all in_capitals every_keyword ≡ true
-all_in_capitals = refl
-
-are_spellings : (test : Keyword → Bool) (ks : List Keyword) → list_all in_capitals ks ≡ true →
-    AreSpellings (map spelled (filter test ks))
-are_spellings test [] e = tt
-are_spellings test (k ∷ ks) e =
-    let later = are_spellings test ks (and_parts (in_capitals k) (list_all in_capitals ks) e).1 in
-    elim (test k) as (λ b. AreSpellings (map spelled (if b then k ∷ filter test ks else filter test ks))) [
-      | true ↦ (λ i less. AllPass-from_list_all is_capital (spelling_of k) (and_parts (in_capitals k) (list_all in_capitals ks) e).0 i 0 less, later)
-      | false ↦ later
-    ]
-
-pub spellings_of_length : (n : ℕ) → AreSpellings (map spelled (of_length n))
-spellings_of_length n = are_spellings (λ k. length (spelling_of k) == n) every_keyword all_in_capitals
 
 -- no keyword has one letter
 pub no_keyword : (word : List ℕ) → length word ≡ 1 → None ≡ keyword_of word
