@@ -1,9 +1,7 @@
 //! How far the front of a text is settled while more of it may come. What is pending at its end is scanned
 //! from where the last piece left it.
 ghost use Rattle.std.specs.Prelude.{◌<◌, length, IfSome, MatchBool, MatchResult};
-ghost use Rattle.crs_text.specs.Quoted.{IsShutAt};
 ghost use Rattle.crs_text.specs.Utf8.{IsUtf8Front, IsValidTo};
-ghost use Rattle.crs_text.specs.Settled.{IsRunSettled};
 ghost use Rattle.crs_text.specs.Lexing.{IsLexed};
 ghost use Rattle.crs_text.specs.Feeding.{IsFlawSettled, IsLexedSettled, IsSettledTo, IsUnsettledAt, IsFedTo};
 ghost use Rattle.crs_text.specs.Feeding.{IsFedBefore, IsStepFrom, IsSettledFault, IsPendingIn, IsPendingBefore};
@@ -36,20 +34,14 @@ pub(crate) struct Held {
     pub(crate) pending: Pending,
 }
 
-// Whether there is a byte that a number wouldn't take.
+// A run is settled where a byte follows that a number wouldn't take.
 #[tactic(auto, using(crate::proofs::settled::FeedingLemmas::run_rules))]
-fn is_settled_run(left: &[u8]) -> bool
-    ensures { MatchBool result (IsRunSettled left.now) (¬ (IsRunSettled left.now)) }
-{
-    run_length(left) < left.len()
-}
-
 fn is_settled_flaw(left: &[u8], reason: Reason) -> bool
     ensures { MatchBool result (IsFlawSettled reason left.now) (¬ (IsFlawSettled reason left.now)) }
 {
     match reason {
         Reason::BadCharacter | Reason::NotUtf8 => true,
-        Reason::BadNumber | Reason::NumberRange => is_settled_run(left),
+        Reason::BadNumber | Reason::NumberRange => run_length(left) < left.len(),
         Reason::OpenText | Reason::Unexpected | Reason::UnexpectedEnd | Reason::TooDeep => false,
     }
 }
@@ -121,20 +113,9 @@ fn open_to(after: &[u8], known: usize) -> Option<usize>
     ensures { IfSome result (IsOpenTo after.now) }
 {
     match closing_quote(rest_of(after, known)) {
-        Some(more) => lone_quote(after, known + more),
+        Some(more) if known + more + 1 == after.len() => Some(known + more),
+        Some(_) => None,
         None => Some(after.len()),
-    }
-}
-
-// A closing quote at this place, if it is the last byte.
-fn lone_quote(after: &[u8], quote: usize) -> Option<usize>
-    requires { IsShutAt after.now quote }
-    ensures { IfSome result (IsOpenTo after.now) }
-{
-    if quote + 1 == after.len() {
-        Some(quote)
-    } else {
-        None
     }
 }
 

@@ -223,6 +223,7 @@ fn of_length(length: usize) -> &'static [Spelling]
 
 impl Keyword {
     /// The keyword that this word is, letter case aside; `None` where it is none.
+    #[inline(never)]
     pub fn of(word: &[u8]) -> Option<Keyword>
         ensures { result ≡ keyword_of word.now }
     {
@@ -413,13 +414,6 @@ fn suspected(left: &[u8], count: usize) -> Option<Option<Keyword>>
     }
 }
 
-#[inline(never)]
-fn any_keyword(word: &[u8]) -> Option<Keyword>
-    ensures { result ≡ keyword_of word.now }
-{
-    Keyword::of(word)
-}
-
 /// The keyword that the first bytes are, as many as `count` says, letter case aside; `None` where they are none.
 #[inline(always)]
 pub(crate) fn front_keyword(left: &[u8], count: usize) -> Option<Keyword>
@@ -432,7 +426,7 @@ pub(crate) fn front_keyword(left: &[u8], count: usize) -> Option<Keyword>
     }
     match suspected(left, count) {
         Some(found) => found,
-        None => any_keyword(front_of(left, count)),
+        None => Keyword::of(front_of(left, count)),
     }
 }
 

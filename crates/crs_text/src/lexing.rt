@@ -127,24 +127,15 @@ fn any_quoted(left: &[u8]) -> Lexed
 {
     let after = rest_of(left, 1);
     match closing_quote(after) {
-        Some(length) => closed(left, length),
+        Some(length) => match valid_length(front_of(after, length + 1)) {
+            // A quote ends every sequence: bytes that end in one are well-formed or ill-formed.
+            Ok(_) => Lexed::Text { length },
+            Err(valid) => flaw(Reason::NotUtf8, valid + 1),
+        },
         None => match valid_length(after) {
             Ok(_) => flaw(Reason::OpenText, 0),
             Err(valid) => flaw(Reason::NotUtf8, 1 + valid),
         },
-    }
-}
-
-// The quoted text whose inside has this length: its closing quote is judged with it.
-fn closed(left: &[u8], length: usize) -> Lexed
-    requires begins { left.now ≡ 34 ∷ drop 1 left.now }
-    requires shut { IsShutAt (drop 1 left.now) length }
-    ensures { IsLexed left.now result }
-{
-    match valid_length(front_of(rest_of(left, 1), length + 1)) {
-        // A quote ends every sequence: bytes that end in one are well-formed or ill-formed.
-        Ok(_) => Lexed::Text { length },
-        Err(valid) => flaw(Reason::NotUtf8, valid + 1),
     }
 }
 

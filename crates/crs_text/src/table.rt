@@ -2,7 +2,7 @@ ghost use Rattle.std.specs.Prelude.{◌≡◌, ◌+◌, ◌-◌, ◌<◌, ◌≤
 ghost use Rattle.std.specs.Prelude.{[], length};
 ghost use Rattle.crs_text.specs.Table.{position_after, may_begin, with_first, with_opened};
 ghost use Rattle.crs_text.specs.Table.{flat_single, may_go_on, flat_comma, with_open, has_square};
-ghost use Rattle.crs_text.specs.Table.{with_close, flat_close, IsStep, IsOpened, IsNodeBegun, is_whole};
+ghost use Rattle.crs_text.specs.Table.{flat_close, IsStep, IsOpened, IsNodeBegun, is_whole};
 ghost use Rattle.crs_text.specs.Items.{keyword_at};
 ghost use Rattle.crs_text.specs.Keywords.{keyword_of};
 ghost use Rattle.crs_text.specs.State.{start};
@@ -295,22 +295,6 @@ impl Table {
         self.may_go_on() && self.opens[self.depth - 1].square == square
     }
 
-    // The last opened node is complete.
-    #[inline(always)]
-    fn close_last(&mut self, place: usize)
-        requires { may_go_on self.old.position self.old.opens ≡ true }
-        ensures { self.new ≡ with_close self.old place }
-    {
-        let top = self.opens[self.depth - 1];
-        let size = self.rows.len() - top.row;
-        let row = &mut self.rows[top.row];
-        row.close = place;
-        row.count = top.count;
-        row.size = size;
-        self.depth -= 1;
-        self.position = Position::AfterItem;
-    }
-
     /// A closing delimiter at this place: whether it is allowed, and then its node's row is complete.
     #[inline(always)]
     pub(crate) fn close(&mut self, place: usize, square: bool) -> bool
@@ -319,7 +303,14 @@ impl Table {
         if !self.may_close(square) {
             return false;
         }
-        self.close_last(place);
+        let top = self.opens[self.depth - 1];
+        let size = self.rows.len() - top.row;
+        let row = &mut self.rows[top.row];
+        row.close = place;
+        row.count = top.count;
+        row.size = size;
+        self.depth -= 1;
+        self.position = Position::AfterItem;
         true
     }
 
