@@ -1,15 +1,17 @@
 //! Whether items have the shape of a class.
 ghost use Rattle.std.specs.Prelude.{◌≡◌, ◌+◌, ◌^◌, ◌<◌, ◌&&◌, not, true, false, Some, IsTrue, IsFalse, MatchResult};
-ghost use Rattle.std.specs.Prelude.{All, option_map};
-ghost use Rattle.crs_text.specs.Items.{first_of, close_of, kind_of_item, raw_of, here, HasId};
+ghost use Rattle.std.specs.Prelude.{All, MatchOption, option_map};
+ghost use Rattle.crs_text.specs.Items.{first_of, kind_of_item, raw_of, here, HasId};
 ghost use Rattle.crs_shape.specs.Keywords.{is_known};
 ghost use Rattle.crs_text.specs.Refusal.{is_refusal};
 ghost use Rattle.crs_shape.specs.ClassSet.{HasSet};
+ghost use Rattle.crs_shape.specs.Expected.{ExpectedIn};
 ghost use Rattle.crs_shape.specs.FirstFault.{step_of, first_inside};
 ghost use Rattle.crs_shape.specs.ShapeFault.{class_in, is_of, misplaced, IsFree, IsOnly, Inside, AtRoot, class_of_root};
 ghost use Rattle.crs_shape.specs.Walk.{after, may_end, left_of};
 
 use crate::class::Class;
+use crate::expectation::Expected;
 use crate::keyword::{has_keyword, known_by, root_by};
 use crate::slot::Slot;
 use crate::table::{class_by, row};
@@ -27,9 +29,12 @@ pub fn fit(items: &Items<'_>, id: ItemId, class: Class) -> Result<(), Refusal>
         (λ _. IsFree (Inside class (first_of (here items.now id))))
         (λ refusal. IsOnly (Inside class (first_of (here items.now id))) refusal) }
 {
-    match first_fault(items, id, class) {
+    if !is_of(items, id, class) {
+        return Err(misplaced(items, id));
+    }
+    match fault_within(items, id, class) {
         None => Ok(()),
-        Some(refusal) => Err(refusal),
+        Some((refusal, _)) => Err(refusal),
     }
 }
 
@@ -45,10 +50,10 @@ pub fn fit_root(items: &Items<'_>) -> Result<Class, Refusal>
     let root = items.root();
     match class_at_root(items, root) {
         None => Err(misplaced(items, root)),
-        Some(class) => match fit(items, root, class) {
-            Ok(()) => Ok(class),
-            Err(refusal) => Err(refusal),
-        },
+        Some(class) => {
+            fit(items, root, class)?;
+            Ok(class)
+        }
     }
 }
 
@@ -65,37 +70,30 @@ pub fn class_at_root(items: &Items<'_>, id: ItemId) -> Option<Class>
     }
 }
 
-// The fault of an item that is asked to be of this class.
-fn first_fault(items: &Items<'_>, id: ItemId, class: Class) -> Option<Refusal>
-    requires { HasId items.now id }
-    ensures { result ≡ first_inside class (first_of (here items.now id)) }
-{
-    if !is_of(items, id, class) {
-        return Some(misplaced(items, id));
-    }
-    let close = items.close(id)?;
-    fault_within(items, id, class, close)
-}
-
-// The fault of the arguments of a node of this class, whose closing delimiter is at `close`.
-fn fault_within(items: &Items<'_>, id: ItemId, class: Class, close: usize) -> Option<Refusal>
+// The fault of the arguments of an item of this class, and what could come there.
+pub(crate) fn fault_within(
+    items: &Items<'_>,
+    id: ItemId,
+    class: Class,
+) -> Option<(Refusal, Expected)>
     requires has { HasId items.now id }
     requires class { IsTrue (is_of class (first_of (here items.now id))) }
-    requires node { close_of (first_of (here items.now id)) ≡ Some close }
-    ensures { result ≡ first_inside class (first_of (here items.now id)) }
+    ensures fault { option_map (λ f. f.0) result ≡ first_inside class (first_of (here items.now id)) }
+    ensures expected { MatchOption result
+        (IsFree (Inside class (first_of (here items.now id))))
+        (λ f. ExpectedIn class (first_of (here items.now id)) f.1) }
 {
+    // A leaf has no argument that could be at fault.
+    let close = items.close(id)?;
     let row = row(class);
     let mut walk = START;
     let mut next = items.arg(id, 0);
     while let Some(argument) = next {
         let Some((named, stepped)) = step(items, argument, class, row, walk) else {
-            return Some(misplaced(items, argument));
+            let expected = Expected::new(Some(class), items.place(id), walk);
+            return Some((misplaced(items, argument), expected));
         };
-        let within = match items.close(argument) {
-            None => None,
-            Some(end) => fault_within(items, argument, named, end),
-        };
-        if let Some(fault) = within {
+        if let Some(fault) = fault_within(items, argument, named) {
             return Some(fault);
         }
         walk = stepped;
@@ -104,12 +102,13 @@ fn fault_within(items: &Items<'_>, id: ItemId, class: Class, close: usize) -> Op
     if walk.may_end(row) {
         None
     } else {
-        Some(refusal(13, close))
+        let expected = Expected::new(Some(class), items.place(id), walk);
+        Some((refusal(13, close), expected))
     }
 }
 
 // The class of an argument in its parent and the walk after it; None where it isn't allowed there.
-pub(crate) fn step(
+fn step(
     items: &Items<'_>,
     argument: ItemId,
     parent: Class,
