@@ -34,29 +34,25 @@ fn write_version(out: &mut Vec<u8>, version: Option<&[u8]>) -> Result<(), AllocE
     }
 }
 
-// The parts of an identifier; the references are its citation and its URI.
-#[derive(Drop)]
-struct IdentFields<'n> {
-    authority: &'n [u8],
-    code: &'n [u8],
-    version: Option<&'n [u8]>,
-    references: (Option<&'n [u8]>, Option<&'n [u8]>),
-}
-
-impl<'n> IdentFields<'n> {
-    #[inline(always)]
-    fn write(self, out: &mut Vec<u8>) -> Result<(), AllocError>
-        ensures { OnOk result ((i : IdentParts) → i.authority ≡ self.entry.authority.now → i.code ≡ self.entry.code.now →
-            i.version ≡ option_copied self.entry.version → i.citation ≡ option_copied self.entry.references.0 →
-            i.uri ≡ option_copied self.entry.references.1 → out.new.items ≡ out.old.items ++ item_text (item_ident i)) }
-    {
-        open_text(out, b"ID[\"", self.authority)?;
-        write_code(out, self.code)?;
-        write_version(out, self.version)?;
-        write_optional_text(out, b",CITATION[\"", self.references.0)?;
-        write_optional_text(out, b",URI[\"", self.references.1)?;
-        append(out, b"]")
-    }
+// The references are the citation and the URI.
+#[inline(always)]
+fn write_ident(
+    out: &mut Vec<u8>,
+    authority: &[u8],
+    code: &[u8],
+    version: Option<&[u8]>,
+    references: (Option<&[u8]>, Option<&[u8]>),
+) -> Result<(), AllocError>
+    ensures { OnOk result ((i : IdentParts) → i.authority ≡ authority.now → i.code ≡ code.now →
+        i.version ≡ option_copied version.entry → i.citation ≡ option_copied references.entry.0 →
+        i.uri ≡ option_copied references.entry.1 → out.new.items ≡ out.old.items ++ item_text (item_ident i)) }
+{
+    open_text(out, b"ID[\"", authority)?;
+    write_code(out, code)?;
+    write_version(out, version)?;
+    write_optional_text(out, b",CITATION[\"", references.0)?;
+    write_optional_text(out, b",URI[\"", references.1)?;
+    append(out, b"]")
 }
 
 impl Spell for Ident<'_> {
@@ -64,13 +60,7 @@ impl Spell for Ident<'_> {
 
     fn spell(&self, out: &mut Vec<u8>, _level: Level) -> Result<(), AllocError> {
         let references = (self.citation, self.uri);
-        IdentFields {
-            authority: self.authority,
-            code: self.code,
-            version: self.version,
-            references,
-        }
-        .write(out)
+        write_ident(out, self.authority, self.code, self.version, references)
     }
 }
 
@@ -81,13 +71,8 @@ impl<'a> ReadAs<'a> for Ident<'a> {
         if let Some(bytes) = copied::ident(node) {
             return append(out, bytes);
         }
-        IdentFields {
-            authority: node.text(),
-            code: node.code(),
-            version: node.version(),
-            references: node.references(),
-        }
-        .write(out)
+        let references = node.references();
+        write_ident(out, node.text(), node.code(), node.version(), references)
     }
 }
 
@@ -124,26 +109,17 @@ fn write_chain<'i, 'a>(node: &Node<'i, 'a>, out: &mut Vec<u8>) -> Result<(), All
     write_set::<Ident<'a>, Chain<'i, 'a>>(out, &identifiers, Level::Full)
 }
 
-// The identifiers of a node.
-#[inline(always)]
-fn write_all_idents(node: &Node<'_, '_>, out: &mut Vec<u8>) -> Result<(), AllocError>
-    ensures { OnOk result (Writes (ReadsIds node.now.class (item node.now))
-        (λ ids. set_text (map (λ i. item_text (item_ident i)) ids)) out.old.items out.new.items) }
-{
-    if node.is_flat() {
-        Ok(())
-    } else {
-        write_chain(node, out)
-    }
-}
-
 impl<'c, 'i, 'a> IdentsPart for &'c Node<'i, 'a> {
     ghost Says = { λ n ids. ReadsIds n.now.class (item n.now) ids };
 
     #[inline(always)]
     fn put(&self, out: &mut Vec<u8>, level: Level) -> Result<(), AllocError> {
         if keeps(level) {
-            write_all_idents(*self, out)
+            if self.is_flat() {
+                Ok(())
+            } else {
+                write_chain(*self, out)
+            }
         } else {
             Ok(())
         }
