@@ -2,18 +2,13 @@
 //! are read from an item. Out of memory, nothing is promised of `out`; the public calls cut it back.
 
 pub(crate) mod axis;
-pub(crate) mod compound;
 pub(crate) mod conversion;
 pub(crate) mod crs;
-pub(crate) mod dynamic;
-pub(crate) mod ellipsoid;
 pub(crate) mod frame;
-pub(crate) mod geodetic;
+pub(crate) mod frame_parts;
+pub(crate) mod horizontal;
 pub(crate) mod ident;
-pub(crate) mod meridian;
-pub(crate) mod projected;
 pub(crate) mod system;
 pub(crate) mod tail;
 pub(crate) mod unit;
 pub(crate) mod usage;
-pub(crate) mod vertical;
