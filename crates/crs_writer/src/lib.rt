@@ -2,7 +2,6 @@
 #![tactic(auto)]
 
 mod canon_text;
-mod chain;
 pub mod laws;
 mod members;
 mod parts;

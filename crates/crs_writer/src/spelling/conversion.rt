@@ -12,8 +12,7 @@ ghost use Rattle.crs_nodes.specs.Cursor.{item};
 ghost use Rattle.crs_nodes.specs.Found.{SaysIfAny};
 ghost use Rattle.crs_leaves.specs.Openings.{named_node};
 
-use crate::chain::ReadAs;
-use crate::members::MembersPart;
+use crate::members::{MembersPart, ReadAs};
 use crate::parts::{IdentsPart, NumberPart, Part, UnitPart};
 use crate::set::write_set;
 use crate::spell::Spell;

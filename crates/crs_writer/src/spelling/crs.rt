@@ -9,8 +9,7 @@ ghost use Rattle.crs_nodes.specs.Found.{SaysIfAny};
 ghost use Rattle.crs_leaves.specs.Direct.{IsRead, Writes};
 ghost use Rattle.crs_writer.specs.CrsText.{crs_text};
 
-use crate::chain::ReadAs;
-use crate::members::MembersPart;
+use crate::members::{MembersPart, ReadAs};
 use crate::parts::{Part, write_optional};
 use crate::set::write_set;
 use crate::spell::Spell;

@@ -19,8 +19,7 @@ ghost use Rattle.crs_nodes.specs.Found.{SaysIfAny};
 ghost use Rattle.crs_leaves.specs.Direct.{Writes};
 ghost use Rattle.crs_leaves.specs.Openings.{named_node};
 
-use crate::chain::ReadAs;
-use crate::members::MembersPart;
+use crate::members::{MembersPart, ReadAs};
 use crate::parts::{
     IdentsPart, NumberPart, Part, write_number_node, write_optional, write_optional_number,
 };

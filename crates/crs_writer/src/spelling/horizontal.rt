@@ -21,7 +21,7 @@ ghost use Rattle.crs_nodes.specs.Cursor.{item};
 ghost use Rattle.crs_nodes.specs.Found.{SaysIfAny};
 ghost use Rattle.crs_leaves.specs.Openings.{named_node};
 
-use crate::chain::ReadAs;
+use crate::members::ReadAs;
 use crate::parts::{IdentsPart, Part, UnitPart, write_optional};
 use crate::spell::Spell;
 use crate::spelling::frame::FramePart;

@@ -13,7 +13,7 @@ ghost use Rattle.crs_leaves.specs.Direct.{Writes};
 ghost use Rattle.crs_leaves.specs.Openings.{named_node};
 ghost use Rattle.crs_writer.specs.Members.{set_text};
 
-use crate::chain::ReadAs;
+use crate::members::ReadAs;
 use crate::parts::IdentsPart;
 use crate::set::write_set;
 use crate::spell::Spell;

@@ -15,7 +15,7 @@ ghost use Rattle.crs_nodes.specs.Cursor.{item};
 ghost use Rattle.crs_nodes.specs.Found.{SaysIfAny};
 ghost use Rattle.crs_leaves.specs.Openings.{enclosed, numbered_node};
 
-use crate::chain::ReadAs;
+use crate::members::ReadAs;
 use crate::parts::{NumberPart, Part, UnitPart, write_optional};
 use crate::spell::Spell;
 use crate::spelling::unit::write_length;

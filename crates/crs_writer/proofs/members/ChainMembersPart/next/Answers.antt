@@ -1,5 +1,5 @@
 use Rattle.crs_writer.proofs.ChainLemmas.{fewer-left, first-said, none-left}
-use Rattle.crs_writer.proofs.chain.ChainMembersPart.next.Goals as goal
+use Rattle.crs_writer.proofs.members.ChainMembersPart.next.Goals as goal
 
 pub returns-in-None : goal.returns-in-None
 returns-in-None g c = none-left _ _ _ _ _ c.in-None.is
