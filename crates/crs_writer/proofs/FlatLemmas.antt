@@ -1,16 +1,19 @@
 -- The rules by which a writer of a node's parts is proved without an answer.
-use Rattle.std.proofs.Common.{◌≡◌, ℕ, List, [], ◌∷◌, ◌++◌, OnOk, Option, Some, None, Result, refl, sym, ap, subst, ◌∙◌, append_assoc}
+use Rattle.std.proofs.Common.{◌≡◌, ℕ, List, [], ◌∷◌, ◌++◌, Bool, true, false, OnOk, Option, Some, None, Result, if◌then◌else◌, refl, sym, ap, subst, ◌∙◌, append_assoc}
 use Rattle.std.proofs.lemmas.List.{append-nil}
 use Rattle.std.proofs.lemmas.Result.{on_ok_weaker}
 use Rattle.std.specs.Option.{option_copied, option_map}
 use denote.Bor.{Bor}
-use Rattle.crs_text.specs.Prelude.{Item, Siblings, End, item_text, others_text}
+use Rattle.crs_text.specs.Prelude.{Item, Siblings, End, More, item_text, others_text}
 use Rattle.crs_shape.specs.declared.unit_kind.UnitKind.{UnitKind}
+use Rattle.crs_shape.specs.declared.unit_kind.UnitKind.TheVariants as kinds
 use Rattle.crs_decimal.specs.Prelude.{plain, Value}
 use Rattle.crs_value.specs.Prelude.{AxisMeridianParts, UnitParts}
+use Rattle.crs_value.specs.Values.{IdentParts}
 use Rattle.crs_value.specs.declared.values.level.Level.{Level}
-use Rattle.crs_normal.specs.Prelude.{axis_meridian_text, each, number_node, opt, item_axis_meridian, norm_axis_meridians, item_unit, norm_unit, norm_units}
+use Rattle.crs_normal.specs.Prelude.{axis_meridian_text, each, number_node, opt, item_axis_meridian, norm_axis_meridians, is_zero, item_ident, item_unit, norm_unit, norm_units, number_item, set_idents}
 use Rattle.crs_leaves.specs.Direct.{Writes}
+use Rattle.crs_leaves.specs.Openings.{named_node}
 use Rattle.crs_nodes.specs.Found.{SaysIfAny}
 use Rattle.crs_writer.specs.Parts.{number_behind, opt_text}
 use Rattle.crs_writer.proofs.DirectLemmas.{closed, keyworded, last-more, then-text}
@@ -40,6 +43,21 @@ pub last-unit : (level : Level) (asked : UnitKind) (value : Option UnitParts) (o
     s1 ≡ old ++ opt_text (λ v. item_text (item_unit (norm_unit level asked v))) value →
     s1 ≡ old ++ others_text (opt item_unit (norm_units level asked value) End)
 last-unit level asked value old s1 e = then-unit level asked value End old s1 s1 e (sym (append-nil s1))
+
+unit-unless : (level : Level) (kind : UnitKind) (zero : Bool) (unit : Option UnitParts) →
+    norm_units level kind (if zero then None else unit) ≡ (if zero then None else norm_units level kind unit)
+unit-unless level kind true unit = refl
+unit-unless level kind false unit = refl
+
+-- a prime meridian whose unit is left out at longitude 0
+pub unless-zero : (level : Level) (opening name : List ℕ) (l : Value) (u : Option UnitParts) (is : List IdentParts) (old new : List ℕ) →
+    new ≡ old ++ named_node opening name (More (number_item l)
+    (opt item_unit (norm_units level kinds.Angle (if is_zero l then None else u)) (each item_ident (set_idents level is) End))) →
+    new ≡ old ++ named_node opening name (More (number_item l)
+    (opt item_unit (if is_zero l then None else norm_units level kinds.Angle u) (each item_ident (set_idents level is) End)))
+unless-zero level opening name l u is old new e =
+    e ∙ ap (λ k. old ++ named_node opening name (More (number_item l) (opt item_unit k (each item_ident (set_idents level is) End))))
+    (unit-unless level kinds.Angle (is_zero l) u)
 
 pub then-along : (level : Level) (value : Option AxisMeridianParts) (rest : Siblings) (old s1 s2 : List ℕ) →
     s1 ≡ old ++ opt_text (axis_meridian_text level) value → s2 ≡ s1 ++ others_text rest →
@@ -111,8 +129,6 @@ pub numbered : (opening : List ℕ) (value : Value) (others : Siblings) (old s1 
 numbered opening value others old s1 s2 s3 e f g = three old (opening ++ plain value) (others_text others) (93 ∷ []) s1 s2 s3 e f g
 
 pub ruleset value_rules = (copied)
-
-pub ruleset unit_rules = (last-unit)
 
 pub ruleset flat_rules = (closed, then-opt, then-each, then-more, then-text, then-part, then-number, then-unit)
 

@@ -122,7 +122,7 @@ impl<'b, T: Spell> MembersPart<T> for &'b [T] {
     }
 }
 
-/// A value that may be a member of a set, and that is read from a node.
+/// A value that is read from a node and written by itself, as a member of a set or as a CRS.
 pub(crate) trait ReadAs<'a>: Spell {
     ghost Reads: { Class → Item → Self → Type 0 };
 

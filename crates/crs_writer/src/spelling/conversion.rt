@@ -1,23 +1,21 @@
 //! Conversions and geoid models.
 ghost use Rattle.std.specs.Prelude.{◌≡◌, ◌++◌, OnOk};
 ghost use Rattle.crs_text.specs.Items.{End, More};
-ghost use Rattle.crs_shape.specs.declared.unit_kind.UnitKind.TheVariants as kinds;
-ghost use Rattle.crs_value.specs.ConversionValues.{ConversionParts, ParameterParts};
+ghost use Rattle.crs_value.specs.ConversionValues.{ConversionParts};
 ghost use Rattle.crs_value.specs.ReadsConversion.{ReadsConversion, ReadsGeoidModel, ReadsMethod, ReadsParameter};
 ghost use Rattle.crs_normal.specs.PartTexts.{conversion_text, geoid_model_text, method_text, parameter_text};
 ghost use Rattle.crs_normal.specs.SpelledConversions.{item_method, item_parameter, norm_method, set_parameters};
-ghost use Rattle.crs_normal.specs.SpelledItems.{each, number_item, opt};
-ghost use Rattle.crs_normal.specs.SpelledUnits.{item_ident, item_unit, norm_units, set_idents};
+ghost use Rattle.crs_normal.specs.SpelledItems.{each};
+ghost use Rattle.crs_normal.specs.SpelledUnits.{item_ident, set_idents};
 ghost use Rattle.crs_nodes.specs.Cursor.{item};
-ghost use Rattle.crs_nodes.specs.Found.{SaysIfAny};
 ghost use Rattle.crs_leaves.specs.Openings.{named_node};
 
 use crate::members::{MembersPart, ReadAs};
-use crate::parts::{IdentsPart, NumberPart, Part, UnitPart};
+use crate::parts::{IdentsPart, Part};
 use crate::set::write_set;
 use crate::spell::Spell;
 use crate::spelling::ident::write_named;
-use crate::spelling::unit::write_optional_unit;
+use crate::spelling::unit::NumberFields;
 use crs_leaves::{append, append_item, open_text};
 use crs_nodes::{Node, copied};
 use crs_shape::Class;
@@ -43,39 +41,14 @@ impl<'c, 'i, 'a> Part<Method<'a>> for &'c Node<'i, 'a> {
     }
 }
 
-// The parts of a parameter.
-#[derive(Drop)]
-struct ParameterFields<'n, N, U, I> {
-    name: &'n [u8],
-    value: N,
-    unit: Option<U>,
-    ids: I,
-}
-
-impl<'n, N: NumberPart, U: UnitPart, I: IdentsPart> ParameterFields<'n, N, U, I> {
-    // After an opening.
-    #[tactic(auto, using(crate::proofs::FlatLemmas::flat_rules))]
-    fn write(self, out: &mut Vec<u8>, opening: &[u8], level: Level) -> Result<(), AllocError>
-        ensures { OnOk result ((p : ParameterParts) → p.name ≡ self.entry.name.now → N.Says self.entry.value p.value →
-            SaysIfAny U.Says self.entry.unit p.unit → I.Says self.entry.ids p.identifiers →
-            out.new.items ≡ out.old.items ++ named_node opening.now p.name (More (number_item p.value)
-            (opt item_unit (norm_units level kinds.Plain p.unit) (each item_ident (set_idents level p.identifiers) End)))) }
-    {
-        open_text(out, opening, self.name)?;
-        self.value.open(out, b",")?;
-        write_optional_unit(out, UnitKind::Plain, self.unit, level)?;
-        self.ids.put(out, level)?;
-        append(out, b"]")
-    }
-}
-
 impl Spell for Parameter<'_> {
     ghost spelling = { parameter_text };
 
     fn spell(&self, out: &mut Vec<u8>, level: Level) -> Result<(), AllocError> {
-        ParameterFields {
+        NumberFields {
             name: self.name,
-            value: &self.value,
+            number: &self.value,
+            asked: UnitKind::Plain,
             unit: self.unit.as_ref(),
             ids: &self.identifiers,
         }
@@ -91,9 +64,10 @@ impl<'a> ReadAs<'a> for Parameter<'a> {
             return append(out, bytes);
         }
         let unit = node.parameter_unit();
-        ParameterFields {
+        NumberFields {
             name: node.text(),
-            value: node.number(),
+            number: node.number(),
+            asked: UnitKind::Plain,
             unit: unit.as_ref(),
             ids: node,
         }

@@ -1,20 +1,19 @@
 //! Ellipsoids, prime meridians and dynamic parts.
-ghost use Rattle.std.specs.Prelude.{◌≡◌, ◌++◌, ◌∷◌, [], ℕ, List, None, OnOk, Option, Some, if◌then◌else◌};
+ghost use Rattle.std.specs.Prelude.{◌≡◌, ◌++◌, ◌∷◌, [], None, OnOk, Option, Some, if◌then◌else◌};
 ghost use Rattle.std.specs.Option.{option_map};
 ghost use Rattle.crs_decimal.specs.Plain.{plain};
 ghost use Rattle.crs_decimal.specs.Value.{Value};
 ghost use Rattle.crs_text.specs.Items.{End, More};
 ghost use Rattle.crs_text.specs.Written.{item_text, others_text};
-ghost use Rattle.crs_shape.specs.declared.unit_kind.UnitKind.TheVariants as kinds;
 ghost use Rattle.crs_value.specs.DynamicValues.{DeformationModelParts};
 ghost use Rattle.crs_value.specs.Reads.{ReadsEllipsoid, ReadsMeridian};
 ghost use Rattle.crs_value.specs.ReadsDynamic.{ReadsDeformationModel, ReadsDynamic};
-ghost use Rattle.crs_value.specs.Values.{EllipsoidParts, IdentParts, UnitParts};
+ghost use Rattle.crs_value.specs.Values.{EllipsoidParts, UnitParts};
 ghost use Rattle.crs_normal.specs.PartTexts.{deformation_model_text, dynamic_text, ellipsoid_text, meridian_text};
 ghost use Rattle.crs_normal.specs.SpelledDynamic.{item_deformation_model, norm_deformation_model};
 ghost use Rattle.crs_normal.specs.SpelledFrames.{greenwich, is_zero, item_meridian, norm_meridian};
 ghost use Rattle.crs_normal.specs.SpelledItems.{each, number_item, opt};
-ghost use Rattle.crs_normal.specs.SpelledUnits.{item_ident, item_unit, norm_length, norm_units, set_idents};
+ghost use Rattle.crs_normal.specs.SpelledUnits.{item_ident, item_unit, norm_length, set_idents};
 ghost use Rattle.crs_nodes.specs.Cursor.{item};
 ghost use Rattle.crs_nodes.specs.Found.{SaysIfAny};
 ghost use Rattle.crs_leaves.specs.Direct.{Writes};
@@ -23,7 +22,7 @@ ghost use Rattle.crs_leaves.specs.Openings.{named_node};
 use crate::parts::{IdentsPart, NumberPart, Part, UnitPart, write_number_node, write_optional};
 use crate::spell::Spell;
 use crate::spelling::ident::write_named;
-use crate::spelling::unit::{write_length, write_optional_unit};
+use crate::spelling::unit::{NumberFields, write_length};
 use crs_leaves::{append, open_text};
 use crs_nodes::Node;
 use crs_shape::Class;
@@ -92,59 +91,22 @@ impl<'c, 'i, 'a> Part<Ellipsoid<'a>> for &'c Node<'i, 'a> {
 }
 
 // At longitude 0 a unit says nothing.
-#[tactic(auto, using(crate::proofs::FlatLemmas::unit_rules))]
-fn write_unit_of<N: NumberPart, U: UnitPart>(
-    out: &mut Vec<u8>,
-    longitude: N,
-    unit: Option<U>,
-    level: Level,
-) -> Result<(), AllocError>
-    ensures { OnOk result ((l : Value) (u : Option UnitParts) → N.Says longitude l → SaysIfAny U.Says unit u →
-        out.new.items ≡ out.old.items ++ others_text (opt item_unit
-        (if is_zero l then None else norm_units level kinds.Angle u) End)) }
+fn unit_said<N: NumberPart, U: UnitPart>(longitude: N, unit: Option<U>) -> Option<U>
+    ensures { (l : Value) (u : Option UnitParts) → N.Says longitude l → SaysIfAny U.Says unit u →
+        SaysIfAny U.Says result (if is_zero l then None else u) }
 {
-    if longitude.is_zero() {
-        Ok(())
-    } else {
-        write_optional_unit(out, UnitKind::Angle, unit, level)
-    }
-}
-
-// The parts of a prime meridian.
-#[derive(Drop)]
-struct MeridianFields<'n, N, U, I> {
-    name: &'n [u8],
-    longitude: N,
-    unit: Option<U>,
-    ids: I,
-}
-
-impl<'n, N: NumberPart, U: UnitPart, I: IdentsPart> MeridianFields<'n, N, U, I> {
-    // After an opening.
-    fn write(self, out: &mut Vec<u8>, opening: &[u8], level: Level) -> Result<(), AllocError>
-        ensures { OnOk result ((n : List ℕ) (l : Value) (u : Option UnitParts) (is : List IdentParts) →
-            n ≡ self.entry.name.now → N.Says self.entry.longitude l → SaysIfAny U.Says self.entry.unit u →
-            I.Says self.entry.ids is →
-            out.new.items ≡ out.old.items ++ named_node opening.now n (More (number_item l) (opt item_unit
-            (if is_zero l then None else norm_units level kinds.Angle u) (each item_ident (set_idents level is) End)))) }
-    {
-        open_text(out, opening, self.name)?;
-        self.longitude.open(out, b",")?;
-        write_unit_of(out, self.longitude, self.unit, level)?;
-        self.ids.put(out, level)?;
-        append(out, b"]")
-    }
+    if longitude.is_zero() { None } else { unit }
 }
 
 impl Spell for Meridian<'_> {
     ghost spelling = { meridian_text };
 
-    #[tactic(auto, using(crate::proofs::FlatLemmas::value_rules))]
     fn spell(&self, out: &mut Vec<u8>, level: Level) -> Result<(), AllocError> {
-        MeridianFields {
+        NumberFields {
             name: self.name,
-            longitude: &self.longitude,
-            unit: self.unit.as_ref(),
+            number: &self.longitude,
+            asked: UnitKind::Angle,
+            unit: unit_said(&self.longitude, self.unit.as_ref()),
             ids: &self.identifiers,
         }
         .write(out, b"PRIMEM[\"", level)
@@ -156,10 +118,12 @@ impl<'c, 'i, 'a> Part<Meridian<'a>> for &'c Node<'i, 'a> {
 
     fn put(&self, out: &mut Vec<u8>, level: Level) -> Result<(), AllocError> {
         let unit = self.first(Class::AngleUnit);
-        MeridianFields {
+        let longitude = self.number();
+        NumberFields {
             name: self.text(),
-            longitude: self.number(),
-            unit: unit.as_ref(),
+            number: longitude,
+            asked: UnitKind::Angle,
+            unit: unit_said(longitude, unit.as_ref()),
             ids: *self,
         }
         .write(out, b",PRIMEM[\"", level)

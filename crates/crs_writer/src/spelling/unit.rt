@@ -1,15 +1,19 @@
-//! Units, and the unit where none is written.
-ghost use Rattle.std.specs.Prelude.{◌≡◌, ◌∷◌, ◌++◌, [], OnOk, Option, Some};
-ghost use Rattle.crs_text.specs.Items.{End};
+//! Units, the unit where none is written, and nodes of a number in a unit.
+ghost use Rattle.std.specs.Prelude.{◌≡◌, ◌∷◌, ◌++◌, [], ℕ, List, OnOk, Option, Some};
+ghost use Rattle.crs_decimal.specs.Value.{Value};
+ghost use Rattle.crs_text.specs.Items.{End, More};
 ghost use Rattle.crs_text.specs.Written.{item_text, others_text};
 ghost use Rattle.crs_shape.specs.Words.{unit_word};
 ghost use Rattle.crs_value.specs.Reads.{ReadsUnit};
+ghost use Rattle.crs_value.specs.Values.{IdentParts, UnitParts};
 ghost use Rattle.crs_normal.specs.PartTexts.{unit_text};
-ghost use Rattle.crs_normal.specs.SpelledItems.{opt};
-ghost use Rattle.crs_normal.specs.SpelledUnits.{item_unit, metre, norm_length, norm_unit};
+ghost use Rattle.crs_normal.specs.SpelledItems.{each, number_item, opt};
+ghost use Rattle.crs_normal.specs.SpelledUnits.{item_ident, item_unit, metre, norm_length, norm_unit};
+ghost use Rattle.crs_normal.specs.SpelledUnits.{norm_units, set_idents};
 ghost use Rattle.crs_nodes.specs.Cursor.{item};
 ghost use Rattle.crs_nodes.specs.Found.{SaysIfAny};
 ghost use Rattle.crs_leaves.specs.Direct.{Writes};
+ghost use Rattle.crs_leaves.specs.Openings.{named_node};
 ghost use Rattle.crs_writer.specs.Parts.{opt_text};
 
 use crate::parts::{IdentsPart, NumberPart, UnitPart};
@@ -122,5 +126,37 @@ pub(crate) fn write_length<U: UnitPart>(
     match unit {
         None => write_metre(out),
         Some(unit) => unit.put(out, UnitKind::Length, level),
+    }
+}
+
+// The parts of a node of a name, a number and its unit, which is of the kind that is asked.
+#[derive(Drop)]
+pub(crate) struct NumberFields<'n, N, U, I> {
+    pub(crate) name: &'n [u8],
+    pub(crate) number: N,
+    pub(crate) asked: UnitKind,
+    pub(crate) unit: Option<U>,
+    pub(crate) ids: I,
+}
+
+impl<'n, N: NumberPart, U: UnitPart, I: IdentsPart> NumberFields<'n, N, U, I> {
+    // After an opening.
+    #[tactic(auto, using(crate::proofs::FlatLemmas::flat_rules))]
+    pub(crate) fn write(
+        self,
+        out: &mut Vec<u8>,
+        opening: &[u8],
+        level: Level,
+    ) -> Result<(), AllocError>
+        ensures { OnOk result ((n : List ℕ) (v : Value) (u : Option UnitParts) (is : List IdentParts) →
+            n ≡ self.entry.name.now → N.Says self.entry.number v → SaysIfAny U.Says self.entry.unit u →
+            I.Says self.entry.ids is → out.new.items ≡ out.old.items ++ named_node opening.now n (More (number_item v)
+            (opt item_unit (norm_units level self.entry.asked u) (each item_ident (set_idents level is) End)))) }
+    {
+        open_text(out, opening, self.name)?;
+        self.number.open(out, b",")?;
+        write_optional_unit(out, self.asked, self.unit, level)?;
+        self.ids.put(out, level)?;
+        append(out, b"]")
     }
 }
