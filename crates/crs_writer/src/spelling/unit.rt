@@ -141,7 +141,6 @@ pub(crate) struct NumberFields<'n, N, U, I> {
 
 impl<'n, N: NumberPart, U: UnitPart, I: IdentsPart> NumberFields<'n, N, U, I> {
     // After an opening.
-    #[tactic(auto, using(crate::proofs::FlatLemmas::flat_rules))]
     pub(crate) fn write(
         self,
         out: &mut Vec<u8>,
