@@ -1,4 +1,3 @@
-mod NamedLemmas
 mod OnceLemmas
 mod SearchLemmas
 mod SetLemmas

@@ -4,7 +4,7 @@ ghost use Rattle.crs_matching.specs.SameIdents.{SameIdent, SameIdents};
 ghost use Rattle.crs_matching.specs.Sets.{SameSet};
 
 use crate::laws;
-use crate::sets::{Member, same_set};
+use crate::sets::{SetMember, same_set};
 use crate::texts::{same_optional_text, same_text};
 use crs_value::{Guesses, Ident, Level, List};
 
@@ -20,9 +20,7 @@ pub fn same_ident<'a>(a: &Ident<'a>, b: &Ident<'a>, _level: Level) -> bool
         && same_optional_text(a.uri, b.uri)
 }
 
-impl Member for Ident<'_> {
-    ghost use Rattle.crs_matching.specs.SameIdents.{SameIdent};
-
+impl SetMember for Ident<'_> {
     ghost Same = { λ level a b. SameIdent a b };
 
     fn is_same(&self, other: &Self, level: Level) -> bool {

@@ -56,64 +56,19 @@ pub fn same_parameter_is_equivalence()
     same_idents_is_equivalence();
 }
 
-/// Sameness of geoid models is an equivalence.
-pub fn same_geoid_model_is_equivalence()
-    ensures { (level : Level) → IsSameness (SameGeoidModel level) }
-{
-    same_idents_is_equivalence();
-}
-
-/// Sameness of bounding boxes is an equivalence.
-pub fn same_box_is_equivalence()
-    ensures { IsSameness SameBox }
-{
-    same_value_is_equivalence();
-}
-
-/// Sameness of vertical extents is an equivalence.
-pub fn same_extent_is_equivalence()
-    ensures { (level : Level) → IsSameness (SameExtent level) }
+/// Sameness of each other kind of part is an equivalence.
+pub fn same_part_is_equivalence()
+    ensures geoid_model { (level : Level) → IsSameness (SameGeoidModel level) }
+    ensures deformation_model { (level : Level) → IsSameness (SameDeformationModel level) }
+    ensures member { (level : Level) → IsSameness (SameMember level) }
+    ensures bounding_box { IsSameness SameBox }
+    ensures extent { (level : Level) → IsSameness (SameExtent level) }
+    ensures usage { IsSameness SameUsage }
+    ensures axis_meridian { (level : Level) → IsSameness (SameAxisMeridian level) }
+    ensures axis { (level : Level) → IsSameness (SameAxisAlone level) }
 {
     same_value_is_equivalence();
     same_length_is_equivalence();
-}
-
-/// Sameness of usages is an equivalence.
-pub fn same_usage_is_equivalence()
-    ensures { IsSameness SameUsage }
-{
-    same_box_is_equivalence();
-    same_extent_is_equivalence();
-}
-
-/// Sameness of members of ensembles is an equivalence.
-pub fn same_member_is_equivalence()
-    ensures { (level : Level) → IsSameness (SameMember level) }
-{
-    same_idents_is_equivalence();
-}
-
-/// Sameness of deformation models is an equivalence.
-pub fn same_deformation_model_is_equivalence()
-    ensures { (level : Level) → IsSameness (SameDeformationModel level) }
-{
-    same_idents_is_equivalence();
-}
-
-/// Sameness of the meridians of axes is an equivalence.
-pub fn same_axis_meridian_is_equivalence()
-    ensures { (level : Level) → IsSameness (SameAxisMeridian level) }
-{
-    same_value_is_equivalence();
-    same_unit_is_equivalence();
-}
-
-/// Sameness of axes by themselves is an equivalence.
-pub fn same_axis_is_equivalence()
-    ensures { (level : Level) → IsSameness (SameAxisAlone level) }
-{
-    same_value_is_equivalence();
-    same_axis_meridian_is_equivalence();
     same_unit_is_equivalence();
     same_idents_is_equivalence();
 }

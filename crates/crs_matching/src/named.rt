@@ -1,20 +1,18 @@
 //! What has a name and identifiers alone: members of ensembles, geoid models and deformation models.
 ghost use Rattle.std.specs.Prelude.{◌↔◌, IsTrue, None};
 ghost use Rattle.std.specs.Option.{option_copied};
-ghost use Rattle.crs_matching.specs.Sets.{BothOrNeither, SameSet};
+ghost use Rattle.crs_matching.specs.Sets.{BothOrNeither};
 ghost use Rattle.crs_matching.specs.SameConversions.{SameGeoidModel};
 ghost use Rattle.crs_matching.specs.SameDynamic.{SameDeformationModel};
 ghost use Rattle.crs_matching.specs.SameFrames.{SameMember};
 
 use crate::idents::same_idents;
 use crate::laws;
-use crate::sets::{Member as SetMember, same_set};
+use crate::sets::SetMember;
 use crate::texts::same_text;
-use crs_value::{DeformationModel, GeoidModel, Guesses, Level, Member};
+use crs_value::{DeformationModel, GeoidModel, Level, Member};
 
 impl SetMember for Member<'_> {
-    ghost use Rattle.crs_matching.specs.SameFrames.{SameMember};
-
     ghost Same = { λ level a b. SameMember level a b };
 
     fn is_same(&self, other: &Self, level: Level) -> bool {
@@ -22,7 +20,7 @@ impl SetMember for Member<'_> {
     }
 
     fn same_is_equivalence(&self) {
-        laws::same_member_is_equivalence();
+        laws::same_part_is_equivalence();
     }
 }
 
@@ -33,21 +31,7 @@ pub fn same_member<'a>(a: &Member<'a>, b: &Member<'a>, level: Level) -> bool
     same_text(a.name, b.name) && same_idents(&a.identifiers, &b.identifiers, level)
 }
 
-/// Whether two lists of members are the same set. Profile.
-pub fn same_members<'a>(
-    a: &[Member<'a>],
-    b: &[Member<'a>],
-    guesses: Guesses<'_>,
-    level: Level,
-) -> bool
-    ensures { IsTrue result ↔ SameSet (SameMember level) a.now b.now }
-{
-    same_set(a, b, guesses, level)
-}
-
 impl SetMember for GeoidModel<'_> {
-    ghost use Rattle.crs_matching.specs.SameConversions.{SameGeoidModel};
-
     ghost Same = { λ level a b. SameGeoidModel level a b };
 
     fn is_same(&self, other: &Self, level: Level) -> bool {
@@ -55,7 +39,7 @@ impl SetMember for GeoidModel<'_> {
     }
 
     fn same_is_equivalence(&self) {
-        laws::same_geoid_model_is_equivalence();
+        laws::same_part_is_equivalence();
     }
 }
 
@@ -64,18 +48,6 @@ pub fn same_geoid_model<'a>(a: &GeoidModel<'a>, b: &GeoidModel<'a>, level: Level
     ensures { IsTrue result ↔ SameGeoidModel level a.now b.now }
 {
     same_text(a.name, b.name) && same_idents(&a.identifiers, &b.identifiers, level)
-}
-
-/// Whether two lists of geoid models are the same set. Profile.
-pub fn same_geoid_models<'a>(
-    a: &[GeoidModel<'a>],
-    b: &[GeoidModel<'a>],
-    guesses: Guesses<'_>,
-    level: Level,
-) -> bool
-    ensures { IsTrue result ↔ SameSet (SameGeoidModel level) a.now b.now }
-{
-    same_set(a, b, guesses, level)
 }
 
 /// Whether two deformation models are the same: name and identifiers. ISO 19162:2019, "Deformation model".

@@ -1,19 +1,16 @@
 //! Parameters of conversions.
 ghost use Rattle.std.specs.Prelude.{◌↔◌, IsTrue};
-ghost use Rattle.crs_matching.specs.Sets.{SameSet};
 ghost use Rattle.crs_matching.specs.SameConversions.{SameParameter};
 
 use crate::idents::same_idents;
 use crate::laws;
 use crate::numbers::same_value;
-use crate::sets::{Member, same_set};
+use crate::sets::SetMember;
 use crate::texts::same_text;
 use crate::units::same_units_as;
-use crs_value::{Guesses, Level, Parameter, UnitKind};
+use crs_value::{Level, Parameter, UnitKind};
 
-impl Member for Parameter<'_> {
-    ghost use Rattle.crs_matching.specs.SameConversions.{SameParameter};
-
+impl SetMember for Parameter<'_> {
     ghost Same = { λ level a b. SameParameter level a b };
 
     fn is_same(&self, other: &Self, level: Level) -> bool {
@@ -34,16 +31,4 @@ pub fn same_parameter<'a>(a: &Parameter<'a>, b: &Parameter<'a>, level: Level) ->
         && same_value(&a.value, &b.value)
         && same_units_as(UnitKind::Plain, a.unit.as_ref(), b.unit.as_ref(), level)
         && same_idents(&a.identifiers, &b.identifiers, level)
-}
-
-/// Whether two lists of parameters are the same set. Profile.
-pub fn same_parameters<'a>(
-    a: &[Parameter<'a>],
-    b: &[Parameter<'a>],
-    guesses: Guesses<'_>,
-    level: Level,
-) -> bool
-    ensures { IsTrue result ↔ SameSet (SameParameter level) a.now b.now }
-{
-    same_set(a, b, guesses, level)
 }

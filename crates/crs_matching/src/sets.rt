@@ -6,19 +6,20 @@ ghost use Rattle.crs_matching.specs.Sets.{HasSame, AllHaveSame, SameSet};
 
 use crs_value::{Guesses, Level};
 
-// A value that may be a member of a set.
-pub(crate) trait Member: Sized {
+/// A value that may be a member of a set. Profile.
+pub trait SetMember: Sized {
     ghost Same: { Level → Self → Self → Type 0 };
 
+    /// Whether two members are the same.
     fn is_same(&self, other: &Self, level: Level) -> bool
         ensures { IsTrue result ↔ Same level self.now other.now };
 
-    // Sameness of members is an equivalence. The call does nothing.
+    /// Sameness of members is an equivalence. The call does nothing.
     fn same_is_equivalence(&self)
         ensures { (level : Level) → IsSameness (Same level) };
 }
 
-pub(crate) fn has_same<T: Member>(member: &T, others: &[T], level: Level) -> bool
+pub(crate) fn has_same<T: SetMember>(member: &T, others: &[T], level: Level) -> bool
     ensures { IsTrue result ↔ HasSame (T.Same level) member.now others.now }
 {
     for other in others {
@@ -29,7 +30,7 @@ pub(crate) fn has_same<T: Member>(member: &T, others: &[T], level: Level) -> boo
     false
 }
 
-fn all_have_same<T: Member>(members: &[T], others: &[T], level: Level) -> bool
+fn all_have_same<T: SetMember>(members: &[T], others: &[T], level: Level) -> bool
     ensures { IsTrue result ↔ AllHaveSame (T.Same level) members.now others.now }
 {
     for member in members {
@@ -43,7 +44,7 @@ fn all_have_same<T: Member>(members: &[T], others: &[T], level: Level) -> bool
 // Whether each of many members has a same one among many others. Each is compared with the one at its place first, and
 // then with those of its key: a member before it, which has a same one already, and one of the others. So a repeated
 // member is looked for among the others only once.
-fn all_of_many_have_same<T: Member>(
+fn all_of_many_have_same<T: SetMember>(
     members: &[T],
     others: &[T],
     guesses: Guesses<'_>,
@@ -62,7 +63,7 @@ fn all_of_many_have_same<T: Member>(
 }
 
 // Whether a member has a same one, as all before it have: at its own place, or as one before it, or anywhere.
-fn is_met<T: Member>(
+fn is_met<T: SetMember>(
     member: &T,
     at: usize,
     members: &[T],
@@ -84,13 +85,13 @@ fn is_met<T: Member>(
 }
 
 // Whether a member has a same one: at this place, or anywhere.
-pub(crate) fn is_found<T: Member>(member: &T, others: &[T], place: usize, level: Level) -> bool
+pub(crate) fn is_found<T: SetMember>(member: &T, others: &[T], place: usize, level: Level) -> bool
     ensures { IsTrue result ↔ HasSame (T.Same level) member.now others.now }
 {
     is_same_at(member, others, place, level) || has_same(member, others, level)
 }
 
-pub(crate) fn is_same_at<T: Member>(member: &T, others: &[T], place: usize, level: Level) -> bool
+pub(crate) fn is_same_at<T: SetMember>(member: &T, others: &[T], place: usize, level: Level) -> bool
     ensures { IsTrue result → HasSame (T.Same level) member.now others.now }
 {
     match others.get(place) {
@@ -99,7 +100,12 @@ pub(crate) fn is_same_at<T: Member>(member: &T, others: &[T], place: usize, leve
     }
 }
 
-fn each_has_same<T: Member>(members: &[T], others: &[T], guesses: Guesses<'_>, level: Level) -> bool
+fn each_has_same<T: SetMember>(
+    members: &[T],
+    others: &[T],
+    guesses: Guesses<'_>,
+    level: Level,
+) -> bool
     ensures { IsTrue result ↔ AllHaveSame (T.Same level) members.now others.now }
 {
     if guesses.are_known() {
@@ -108,9 +114,9 @@ fn each_has_same<T: Member>(members: &[T], others: &[T], guesses: Guesses<'_>, l
     all_have_same(members, others, level)
 }
 
-// Whether each member of either list has a same member in the other. The longer list goes first: if its members differ,
-// one that the shorter list lacks comes soon.
-pub(crate) fn same_set<T: Member>(
+/// Whether two lists are the same set: each member of either list has a same member in the other. Profile.
+// The longer list goes first: if its members differ, one that the shorter list lacks comes soon.
+pub fn same_set<T: SetMember>(
     members: &[T],
     others: &[T],
     guesses: Guesses<'_>,

@@ -6,7 +6,7 @@ ghost use Rattle.crs_matching.specs.SameUsages.{SameBox, SameExtent, SameUsage, 
 
 use crate::laws;
 use crate::numbers::same_value;
-use crate::sets::{Member, has_same, is_found, is_same_at};
+use crate::sets::{SetMember, has_same, is_found, is_same_at};
 use crate::texts::same_optional_text;
 use crate::units::same_length;
 use crs_value::{BoundingBox, Extent, Guesses, Level, Usage};
@@ -55,9 +55,7 @@ pub fn same_usage<'a>(a: &Usage<'a>, b: &Usage<'a>, _level: Level) -> bool
         && same_extents(&a.extent, &b.extent, Level::Full)
 }
 
-impl Member for Usage<'_> {
-    ghost use Rattle.crs_matching.specs.SameUsages.{SameUsage};
-
+impl SetMember for Usage<'_> {
     ghost Same = { λ level a b. SameUsage a b };
 
     fn is_same(&self, other: &Self, level: Level) -> bool {
@@ -65,7 +63,7 @@ impl Member for Usage<'_> {
     }
 
     fn same_is_equivalence(&self) {
-        laws::same_usage_is_equivalence();
+        laws::same_part_is_equivalence();
     }
 }
 
@@ -133,7 +131,7 @@ fn is_met_in<'a>(
     if is_same_at(usage, others, at, Level::Full) {
         return true;
     }
-    laws::same_usage_is_equivalence();
+    laws::same_part_is_equivalence();
     let guess = guesses.of(at);
     is_same_at(usage, &usages[..at], guess.before, Level::Full)
         || is_found_in(usage, bare, others, guess.other)

@@ -5,14 +5,15 @@ ghost use Rattle.crs_same.specs.PartsOfCrs.{parts_of_method, parts_of_conversion
 ghost use Rattle.crs_same.specs.SingleParts.{sets};
 ghost use Rattle.crs_same.specs.Walked.{Walked};
 ghost use Rattle.crs_same.specs.Parts.{AreSame};
+ghost use Rattle.crs_matching.specs.Sets.{SameSet};
 ghost use Rattle.crs_matching.specs.SameConversions.{SameParameter, SameGeoidModel};
 
 use crate::content::{Content, Members};
 use crate::found::Found;
 use crate::path::Path;
 use crate::step::Step;
-use crs_matching::{same_geoid_models, same_parameters};
-use crs_value::{Conversion, GeoidModel, Level, List, Method, Parameter};
+use crs_matching::same_set;
+use crs_value::{Conversion, GeoidModel, Guesses, Level, List, Method, Parameter};
 
 #[tactic(auto, unfolding(crate::specs::PartsOfCrs::parts_of_method))]
 fn walk_method<'b, 'a>(
@@ -36,6 +37,17 @@ pub fn same_method<'a>(a: &Method<'a>, b: &Method<'a>, level: Level) -> bool
     walk_method(Found::first(), Path::start(), a, b, level).is_same()
 }
 
+fn same_parameters<'a>(
+    a: &[Parameter<'a>],
+    b: &[Parameter<'a>],
+    guesses: Guesses<'_>,
+    level: Level,
+) -> bool
+    ensures { IsTrue result ↔ SameSet (SameParameter level) a.now b.now }
+{
+    same_set(a, b, guesses, level)
+}
+
 #[tactic(auto, using(crate::proofs::WalkedLemmas::part_rules))]
 fn walk_parameters<'b, 'a>(
     found: Found<'b, 'a>,
@@ -47,6 +59,17 @@ fn walk_parameters<'b, 'a>(
     ensures { Walked (sets at (SameParameter level) content.Parameters a.now b.now) found.entry result }
 {
     walk_sets!(found, at, a, b, level, same_parameters, Parameters)
+}
+
+fn same_geoid_models<'a>(
+    a: &[GeoidModel<'a>],
+    b: &[GeoidModel<'a>],
+    guesses: Guesses<'_>,
+    level: Level,
+) -> bool
+    ensures { IsTrue result ↔ SameSet (SameGeoidModel level) a.now b.now }
+{
+    same_set(a, b, guesses, level)
 }
 
 #[tactic(auto, using(crate::proofs::WalkedLemmas::part_rules))]

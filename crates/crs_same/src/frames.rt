@@ -9,6 +9,7 @@ ghost use Rattle.crs_same.specs.PartsOfFrames.{parts_of_datum, parts_of_ensemble
 ghost use Rattle.crs_same.specs.SingleParts.{sets};
 ghost use Rattle.crs_same.specs.Walked.{Walked};
 ghost use Rattle.crs_same.specs.Parts.{AreSame};
+ghost use Rattle.crs_matching.specs.Sets.{SameSet};
 ghost use Rattle.crs_matching.specs.SameFrames.{SameMember};
 
 use crate::content::{Content, Members};
@@ -16,9 +17,10 @@ use crate::found::Found;
 use crate::path::Path;
 use crate::step::Step;
 use crs_decimal::Decimal;
-use crs_matching::same_members;
+use crs_matching::same_set;
 use crs_value::{
-    Datum, Ellipsoid, Ensemble, Frame, Ident, Level, List, Member, Meridian, Unit, UnitKind,
+    Datum, Ellipsoid, Ensemble, Frame, Guesses, Ident, Level, List, Member, Meridian, Unit,
+    UnitKind,
 };
 
 fn walk_ellipsoid<'b, 'a>(
@@ -167,6 +169,12 @@ pub fn same_meridian<'a>(a: &Meridian<'a>, b: &Meridian<'a>, level: Level) -> bo
     ensures { IsTrue result ↔ AreSame parts_of_given level a.now b.now }
 {
     walk_given(Found::first(), Path::start(), a, b, level).is_same()
+}
+
+fn same_members<'a>(a: &[Member<'a>], b: &[Member<'a>], guesses: Guesses<'_>, level: Level) -> bool
+    ensures { IsTrue result ↔ SameSet (SameMember level) a.now b.now }
+{
+    same_set(a, b, guesses, level)
 }
 
 #[tactic(auto, using(crate::proofs::WalkedLemmas::part_rules))]

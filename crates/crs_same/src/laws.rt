@@ -29,11 +29,9 @@ ghost use Rattle.crs_matching.specs.SameUnits.{SameValue};
 
 use crs_decimal::laws;
 pub use crs_matching::laws::{
-    same_axis_is_equivalence, same_axis_meridian_is_equivalence, same_box_is_equivalence,
-    same_deformation_model_is_equivalence, same_extent_is_equivalence,
-    same_geoid_model_is_equivalence, same_ident_is_equivalence, same_idents_is_equivalence,
-    same_length_is_equivalence, same_member_is_equivalence, same_parameter_is_equivalence,
-    same_unit_is_equivalence, same_usage_is_equivalence, same_value_is_equivalence,
+    same_ident_is_equivalence, same_idents_is_equivalence, same_length_is_equivalence,
+    same_parameter_is_equivalence, same_part_is_equivalence, same_unit_is_equivalence,
+    same_value_is_equivalence,
 };
 
 /// Each position of a coordinate system, from 1 to the number of its axes, has one axis.
@@ -67,164 +65,36 @@ pub fn parts_agree_where_same()
 
 // ---- sameness is an equivalence
 
-/// Sameness of methods is an equivalence.
-pub fn same_method_is_equivalence()
-    ensures { (level : Level) → IsSameness (AreSame parts_of_method level) }
-{
-    same_idents_is_equivalence();
-}
-
-/// Sameness of conversions is an equivalence.
-pub fn same_conversion_is_equivalence()
-    ensures { (level : Level) → IsSameness (AreSame parts_of_conversion level) }
-{
-    same_method_is_equivalence();
-    same_parameter_is_equivalence();
-    same_idents_is_equivalence();
-}
-
-/// Sameness of the ends of CRSs is an equivalence.
-pub fn same_tail_is_equivalence()
-    ensures { (level : Level) → IsSameness (AreSame parts_of_tail level) }
-{
-    same_usage_is_equivalence();
-    same_idents_is_equivalence();
-}
-
-/// Sameness of ellipsoids is an equivalence.
-pub fn same_ellipsoid_is_equivalence()
-    ensures { (level : Level) → IsSameness (AreSame parts_of_ellipsoid level) }
-{
-    same_value_is_equivalence();
-    same_length_is_equivalence();
-    same_idents_is_equivalence();
-}
-
-/// Sameness of prime meridians is an equivalence, also where a missing one is Greenwich.
-pub fn same_meridian_is_equivalence()
+/// Sameness of each kind of node is an equivalence. A prime meridian is taken by itself, and where a missing one is
+/// Greenwich.
+pub fn same_node_is_equivalence()
+    ensures method { (level : Level) → IsSameness (AreSame parts_of_method level) }
+    ensures conversion { (level : Level) → IsSameness (AreSame parts_of_conversion level) }
+    ensures tail { (level : Level) → IsSameness (AreSame parts_of_tail level) }
+    ensures ellipsoid { (level : Level) → IsSameness (AreSame parts_of_ellipsoid level) }
     ensures given { (level : Level) → IsSameness (AreSame parts_of_given level) }
-    ensures optional { (level : Level) → IsSameness (AreSame parts_of_meridian level) }
-{
-    same_value_is_equivalence();
-    same_unit_is_equivalence();
-    same_idents_is_equivalence();
-}
-
-/// Sameness of reference frames is an equivalence.
-pub fn same_datum_is_equivalence()
-    ensures { (level : Level) → IsSameness (AreSame parts_of_datum level) }
-{
-    parts_agree_where_same();
-    same_value_is_equivalence();
-    same_ellipsoid_is_equivalence();
-    same_idents_is_equivalence();
-}
-
-/// Sameness of ensembles is an equivalence.
-pub fn same_ensemble_is_equivalence()
-    ensures { (level : Level) → IsSameness (AreSame parts_of_ensemble level) }
+    ensures meridian { (level : Level) → IsSameness (AreSame parts_of_meridian level) }
+    ensures datum { (level : Level) → IsSameness (AreSame parts_of_datum level) }
+    ensures ensemble { (level : Level) → IsSameness (AreSame parts_of_ensemble level) }
+    ensures frame { (level : Level) → IsSameness (AreSame parts_of_frame level) }
+    ensures dynamic { (level : Level) → IsSameness (SameDynamic level) }
+    ensures system { (level : Level) → IsSamenessOf IsSystem (AreSame parts_of_system level) }
+    ensures base { (level : Level) → IsSameness (AreSame parts_of_base level) }
+    ensures geodetic { (level : Level) → IsSamenessOf IsGeodetic (AreSame parts_of_geodetic level) }
+    ensures projected { (level : Level) → IsSamenessOf IsProjected (AreSame parts_of_projected level) }
+    ensures vertical { (level : Level) → IsSamenessOf IsVertical (AreSame parts_of_vertical level) }
+    ensures horizontal { (level : Level) → IsSamenessOf IsHorizontalPart (AreSame parts_of_horizontal level) }
+    ensures compound { (level : Level) → IsSamenessOf IsCompound (AreSame parts_of_compound level) }
 {
     parts_agree_where_same();
-    same_value_is_equivalence();
-    same_member_is_equivalence();
-    same_ellipsoid_is_equivalence();
-    same_idents_is_equivalence();
-}
-
-/// Sameness of frames, be they reference frames or ensembles, is an equivalence.
-pub fn same_frame_is_equivalence()
-    ensures { (level : Level) → IsSameness (AreSame parts_of_frame level) }
-{
-    parts_agree_where_same();
-    same_datum_is_equivalence();
-    same_ensemble_is_equivalence();
-}
-
-/// Sameness of dynamic parts is an equivalence.
-pub fn same_dynamic_is_equivalence()
-    ensures { (level : Level) → IsSameness (SameDynamic level) }
-{
-    same_value_is_equivalence();
-    same_deformation_model_is_equivalence();
-}
-
-/// Sameness of coordinate systems is an equivalence.
-pub fn same_system_is_equivalence()
-    ensures { (level : Level) → IsSamenessOf IsSystem (AreSame parts_of_system level) }
-{
-    parts_agree_where_same();
-    same_value_is_equivalence();
-    same_axis_meridian_is_equivalence();
-    same_unit_is_equivalence();
-    same_idents_is_equivalence();
     one_axis_each();
     as_many_axes();
-}
-
-/// Sameness of base CRSs is an equivalence.
-pub fn same_base_is_equivalence()
-    ensures { (level : Level) → IsSameness (AreSame parts_of_base level) }
-{
-    parts_agree_where_same();
-    same_dynamic_is_equivalence();
-    same_frame_is_equivalence();
-    same_meridian_is_equivalence();
+    same_value_is_equivalence();
     same_unit_is_equivalence();
+    same_length_is_equivalence();
     same_idents_is_equivalence();
-}
-
-/// Sameness of geodetic and geographic CRSs is an equivalence.
-pub fn same_geodetic_is_equivalence()
-    ensures { (level : Level) → IsSamenessOf IsGeodetic (AreSame parts_of_geodetic level) }
-{
-    parts_agree_where_same();
-    same_dynamic_is_equivalence();
-    same_frame_is_equivalence();
-    same_meridian_is_equivalence();
-    same_system_is_equivalence();
-    same_tail_is_equivalence();
-}
-
-/// Sameness of projected CRSs is an equivalence.
-pub fn same_projected_is_equivalence()
-    ensures { (level : Level) → IsSamenessOf IsProjected (AreSame parts_of_projected level) }
-{
-    parts_agree_where_same();
-    same_base_is_equivalence();
-    same_conversion_is_equivalence();
-    same_system_is_equivalence();
-    same_tail_is_equivalence();
-}
-
-/// Sameness of vertical CRSs is an equivalence.
-pub fn same_vertical_is_equivalence()
-    ensures { (level : Level) → IsSamenessOf IsVertical (AreSame parts_of_vertical level) }
-{
-    parts_agree_where_same();
-    same_dynamic_is_equivalence();
-    same_frame_is_equivalence();
-    same_system_is_equivalence();
-    same_geoid_model_is_equivalence();
-    same_tail_is_equivalence();
-}
-
-/// Sameness of the horizontal parts of compound CRSs, by themselves, is an equivalence.
-pub fn same_horizontal_is_equivalence()
-    ensures { (level : Level) → IsSamenessOf IsHorizontalPart (AreSame parts_of_horizontal level) }
-{
-    parts_agree_where_same();
-    same_geodetic_is_equivalence();
-    same_projected_is_equivalence();
-}
-
-/// Sameness of compound CRSs is an equivalence.
-pub fn same_compound_is_equivalence()
-    ensures { (level : Level) → IsSamenessOf IsCompound (AreSame parts_of_compound level) }
-{
-    parts_agree_where_same();
-    same_horizontal_is_equivalence();
-    same_vertical_is_equivalence();
-    same_tail_is_equivalence();
+    same_parameter_is_equivalence();
+    same_part_is_equivalence();
 }
 
 /// Sameness of CRSs is an equivalence.
@@ -232,10 +102,7 @@ pub fn same_crs_is_equivalence()
     ensures { (level : Level) → IsSamenessOf IsCrs (SameCrs level) }
 {
     parts_agree_where_same();
-    same_geodetic_is_equivalence();
-    same_projected_is_equivalence();
-    same_vertical_is_equivalence();
-    same_compound_is_equivalence();
+    same_node_is_equivalence();
 }
 
 // ---- the first part that differs

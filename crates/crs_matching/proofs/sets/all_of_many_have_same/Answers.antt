@@ -6,7 +6,7 @@ pub loop-member-preserved : goal.loop-member-preserved
 loop-member-preserved g c =
     record {
       at = search rules;
-      before = all_more (g.T.Member.Same c.args.level) c.args.members.now c.args.others.now c.loop-member.member-index
+      before = all_more (g.T.SetMember.Same c.args.level) c.args.members.now c.args.others.now c.loop-member.member-index
           c.member-item.result c.member-item.is c.loop-member-test.true c.loop-member.invariant.before (search rules);
     }
 
@@ -14,7 +14,7 @@ pub returns-then-not-is_met : goal.returns-then-not-is_met
 returns-then-not-is_met g c = (
   λ bad. search rules,
   λ all.
-      let has = all_at (g.T.Member.Same c.args.level) c.args.members.now c.args.others.now c.loop-member.member-index
+      let has = all_at (g.T.SetMember.Same c.args.level) c.args.members.now c.args.others.now c.loop-member.member-index
       c.member-item.result c.member-item.is c.loop-member-test.true all in
       let met : IsTrue c.is_met.result = search (rules, has) in
       search rules,

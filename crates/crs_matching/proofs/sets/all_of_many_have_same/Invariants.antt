@@ -6,5 +6,5 @@ abbrev pub invariant-loop-member : goal.invariant-loop-member
 invariant-loop-member g l =
     record {
       at : l.at ≡ l.member-index;
-      before : AllHaveSame (g.T.Member.Same l.level) (take l.member-index l.members) l.others;
+      before : AllHaveSame (g.T.SetMember.Same l.level) (take l.member-index l.members) l.others;
     }

@@ -12,5 +12,5 @@ returns-in-Some g c =
     let within : c.args.place < length others = ltb-true c.args.place (length others) (sym looked.0) in
     let there : slice_get others c.args.place ≡ Some c.in-Some.other.now
     = slice_get_read others (length others) c.args.place c.in-Some.other.now refl within looked.1 in
-    λ same. has_at (g.T.Member.Same c.args.level) c.args.member.now others c.args.place c.in-Some.other.now
+    λ same. has_at (g.T.SetMember.Same c.args.level) c.args.member.now others c.args.place c.in-Some.other.now
     there (c.is_same.ensures.0 same)

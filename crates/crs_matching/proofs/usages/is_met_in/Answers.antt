@@ -17,6 +17,6 @@ returns-then-is_same_at c =
 
 pub returns-then-is_same_at-2 : goal.returns-then-is_same_at-2
 returns-then-is_same_at-2 c =
-    let found = has_over SameUsage c.same_usage_is_equivalence.ensures c.args.usage.now
+    let found = has_over SameUsage c.same_part_is_equivalence.ensures.usage c.args.usage.now
     (take c.args.at c.args.usages.now) (with_bare (option_copied c.args.bare) c.args.others.now) (c.is_same_at-2.ensures c.if-is_same_at-2.true) c.requires.before in
     (λ _. found, λ _. c.if-is_same_at-2.true)

@@ -6,5 +6,5 @@ pub returns : goal.returns
 returns c level =
     let is = c.parts_agree_where_same.ensures level in
     same-as-of is.crs
-    (crs-of level (agree-as-of is.geodetic (c.same_geodetic_is_equivalence.ensures level)) (agree-as-of is.projected (c.same_projected_is_equivalence.ensures level))
-    (agree-as-of is.vertical (c.same_vertical_is_equivalence.ensures level)) (agree-as-of is.compound (c.same_compound_is_equivalence.ensures level)))
+    (crs-of level (agree-as-of is.geodetic (c.same_node_is_equivalence.ensures.geodetic level)) (agree-as-of is.projected (c.same_node_is_equivalence.ensures.projected level))
+    (agree-as-of is.vertical (c.same_node_is_equivalence.ensures.vertical level)) (agree-as-of is.compound (c.same_node_is_equivalence.ensures.compound level)))
