@@ -92,13 +92,8 @@ walks-both these others (found.Refused error) between new first second = subst (
 
 -- ---- for what a function walks over in turn
 
-infixr 10 ◌⟫◌
-pub ◌⟫◌ : {these others : Parts} {old between new : Found} → Walked these old between → Walked others between new → Walked (these ⨾ others) old new
-◌⟫◌ {these} {others} {old} {between} {new} first second = record { walks = walks-both these others old between new first.walks second.walks }
-
--- the same, where what is found between has to be named
 pub via : {these others : Parts} {old new : Found} (between : Found) → Walked these old between → Walked others between new → Walked (these ⨾ others) old new
-via between first second = first ⟫ second
+via {these} {others} {old} {new} between first second = record { walks = walks-both these others old between new first.walks second.walks }
 
 -- over the parts that are within the one
 walks-within : {X : Type 0} (Is : X → Type 0) (parts : X → Parts) (x : X) (old new : Found) → Is x → Walks (parts x) old new →
@@ -128,7 +123,7 @@ pub more-axes : (at : List Step) (level : Level) (a b : SystemParts) (count : �
     Walked (parts_of_axes at level a b (count + 1)) old new
 more-axes at level a b count {old} {between} {new} first second =
     subst (λ n. Walked (parts_of_axes at level a b n) old new) is
-    (first ⟫ subst (λ n. Walked (parts_at (at ▸ step.Axis n) level a b n) between new) (sym is) second)
+    (via between first (subst (λ n. Walked (parts_at (at ▸ step.Axis n) level a b n) between new) (sym is) second))
   where
     is : suc count ≡ count + 1
     is = omega arith

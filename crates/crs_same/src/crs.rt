@@ -10,7 +10,6 @@ ghost use Rattle.crs_same.specs.SingleParts.{words, unlike};
 ghost use Rattle.crs_same.specs.Walked.{Walked};
 ghost use Rattle.crs_same.specs.SameCrs.{SameCrs};
 
-use crate::content::Content;
 use crate::conversions::{walk_conversion, walk_geoid_models};
 use crate::dynamic::walk_dynamic;
 use crate::found::{Differences, Found};
@@ -26,13 +25,6 @@ use crs_value::{
     Vertical,
 };
 use std::alloc::{AllocError, Global};
-
-// Whether both are geographic, or neither is.
-fn same_geodetic_kind(a: SystemType, b: SystemType) -> bool
-    ensures { IsTrue result ↔ (kind_by a ≡ kind_by b) }
-{
-    geodetic_kind(a) == geodetic_kind(b)
-}
 
 // The keyword of a CRS of this kind.
 fn kind_word(kind: Kind) -> &'static str
@@ -62,15 +54,11 @@ fn walk_kind<'b, 'a>(found: Found<'b, 'a>, at: &Path, a: SystemType, b: SystemTy
     requires { length at.now < 5 }
     ensures { Walked (words (at.now ▸ step.Kind) kind_word (kind_by a) (kind_by b)) found.entry result }
 {
-    if same_geodetic_kind(a, b) {
+    let (a, b) = (geodetic_kind(a), geodetic_kind(b));
+    if a == b {
         return found;
     }
-    found.alone(
-        at,
-        Step::Kind,
-        Content::word(kind_word(geodetic_kind(a))),
-        Content::word(kind_word(geodetic_kind(b))),
-    )
+    found.unlike(at, Step::Kind, kind_word(a), kind_word(b))
 }
 
 #[tactic(auto, unfolding(crate::specs::PartsOfCrs::parts_of_geodetic))]

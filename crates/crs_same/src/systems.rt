@@ -1,5 +1,5 @@
 //! Axes and coordinate systems.
-ghost use Rattle.std.specs.Prelude.{◌≡◌, ◌↔◌, ◌<◌, ◌≤◌, length, max, IsTrue};
+ghost use Rattle.std.specs.Prelude.{◌≡◌, ◌<◌, ◌≤◌, length, max};
 ghost use Rattle.std.specs.Option.{option_copied};
 ghost use Rattle.crs_shape.specs.Words.{direction_word, system_word};
 ghost use Rattle.crs_same.specs.declared.content.Content.TheVariants as content;
@@ -16,12 +16,6 @@ use crate::path::Path;
 use crate::step::Step;
 use crs_matching::{axis_at, same_axis_meridians, same_direction};
 use crs_value::{Axis, AxisMeridian, Direction, Level, System, SystemType};
-
-fn same_type(a: SystemType, b: SystemType) -> bool
-    ensures { IsTrue result ↔ (a ≡ b) }
-{
-    a == b
-}
 
 #[tactic(auto, using(crate::proofs::WalkedLemmas::part_rules))]
 fn walk_direction<'b, 'a>(
@@ -44,7 +38,7 @@ fn walk_type<'b, 'a>(found: Found<'b, 'a>, at: &Path, a: SystemType, b: SystemTy
     requires { length at.now < 5 }
     ensures { Walked (words (at.now ▸ step.SystemType) system_word a b) found.entry result }
 {
-    if same_type(a, b) {
+    if a == b {
         return found;
     }
     found.unlike(at, Step::SystemType, a.word(), b.word())
