@@ -3,7 +3,6 @@ ghost use Rattle.std.specs.Prelude.{◌≡◌, ◌++◌, OnOk};
 ghost use Rattle.std.specs.List.{flat_map};
 ghost use Rattle.std.specs.Str.{is_utf8};
 ghost use Rattle.bstr.specs.Utf8.{lossy_chars};
-ghost use Rattle.crs_streams.specs.Escaped.{hex_byte};
 ghost use Rattle.crs_streams.specs.Json.{json_bytes, json_char, json_string, json_text, json_value, key};
 ghost use Rattle.crs_streams.specs.Json.{number_member, text_member, value_member};
 
@@ -120,15 +119,8 @@ fn append_bytes(bytes: &[u8], out: &mut Vec<u8>) -> Result<(), AllocError>
     ensures { OnOk result (out.new.items ≡ out.old.items ++ json_bytes bytes.now) }
 {
     out.extend_from_slice(b"{\"bytes\":\"")?;
-    append_digits(bytes, out)?;
-    out.extend_from_slice(b"\"}")
-}
-
-fn append_digits(bytes: &[u8], out: &mut Vec<u8>) -> Result<(), AllocError>
-    ensures { OnOk result (out.new.items ≡ out.old.items ++ flat_map hex_byte bytes.now) }
-{
     for byte in bytes {
         append_hex(*byte, out)?;
     }
-    Ok(())
+    out.extend_from_slice(b"\"}")
 }

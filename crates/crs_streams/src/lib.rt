@@ -11,7 +11,6 @@ mod line;
 mod number;
 mod refusal;
 mod sink;
-mod source;
 mod stream;
 
 pub use escape::{append_code, append_escaped, append_hex, steers};
@@ -21,5 +20,4 @@ pub use line::{MAX_LINE, append_bytes, split_line, text_of};
 pub use number::append_number;
 pub use refusal::append_refusal;
 pub use sink::Sink;
-pub use source::{MAX_READS, Source, make_room};
-pub use stream::{MAX_STREAM_READS, Stream};
+pub use stream::{MAX_READS, MAX_STREAM_READS, Source, Stream, make_room};

@@ -1,9 +1,10 @@
-ghost use Rattle.std.specs.Prelude.{◌≡◌, ◌*◌, ◌≤◌, ◌<◌, ◌^◌, [], IfErr, IfOk, length, take};
+ghost use Rattle.std.specs.Prelude.{◌≡◌, ◌*◌, ◌≤◌, ◌<◌, ◌^◌, [], IfErr, IfOk, length, take, vec_len};
 ghost use Rattle.std.specs.Io.{ReadsAtMost};
 ghost use Rattle.std.specs.Io.KnownBytes.{ReadConsumes};
 ghost use Rattle.crs_streams.specs.Given.{GivesMore};
 ghost use Rattle.crs_streams.specs.Streams.{CountsRead, fresh_source};
 
+use std::alloc::{AllocError, Global};
 use std::io;
 use std::io::Read;
 use std::marker::Model;
@@ -98,4 +99,76 @@ impl<R: Read> Stream<R> {
     {
         self.failed
     }
+}
+
+/// The most reads of a source. Profile.
+pub const MAX_READS: u32 = 1_048_576;
+
+// The most bytes of a read.
+const ROOM: usize = 65_536;
+
+/// A reader that counts its reads and remembers a failure, for input of a bounded number of reads.
+#[derive(Drop)]
+pub struct Source<R: Read> {
+    stream: Stream<R>,
+}
+
+impl<R: Read> Model for Source<R> {
+    ghost use Rattle.std.specs.Prelude.{◌≤◌};
+    ghost use Rattle.crs_streams.specs.Streams.{SourceState};
+
+    ghost Value = { SourceState };
+
+    ghost view = { λ source. source.stream };
+
+    ghost invariant = { λ source. source.stream.reads ≤ 1048576 };
+}
+
+impl<R: Read> Source<R> {
+    /// A source from which nothing has been read.
+    pub fn new(reader: R) -> Source<R>
+        ensures { result ≡ fresh_source (R.remaining reader) }
+    {
+        Source {
+            stream: Stream::new(reader),
+        }
+    }
+
+    /// One read of at most as many bytes as there is room for. An error is the reader's own, an interruption
+    /// included; the source has `failed` from then on.
+    pub fn read(&mut self, room: &mut [u8]) -> io::Result<usize>
+        requires some { 1 ≤ length room.old }
+        requires few { length room.old ≤ 65536 }
+        requires reads { self.old.reads < 1048576 }
+        ensures bound { ReadsAtMost result room.new }
+        ensures bytes { ReadConsumes self.old.remaining self.new.remaining result room.new }
+        ensures counted { CountsRead self.old self.new result }
+        ensures few { self.new.taken ≤ 65536 * self.new.reads }
+        ensures given { IfOk result (λ count. GivesMore self.old self.new (take count room.new)) }
+        ensures kept { IfErr result (λ _. GivesMore self.old self.new []) }
+    {
+        self.stream.read(room)
+    }
+
+    /// How many reads were made.
+    pub fn reads(&self) -> u32
+        ensures count { result ≡ self.now.reads }
+        ensures bound { result ≤ 1048576 }
+    {
+        self.stream.reads() as u32
+    }
+
+    /// Whether a read answered a failure.
+    pub fn failed(&self) -> bool
+        ensures { result ≡ self.now.failed }
+    {
+        self.stream.failed()
+    }
+}
+
+/// Room for a read of a run, 65,536 bytes. `AllocError` where there is no memory for it. Profile.
+pub fn make_room(alloc: Global) -> Result<Vec<u8>, AllocError>
+    ensures { IfOk result (λ room. vec_len room ≡ 65536) }
+{
+    vec![in alloc; 0u8; ROOM]
 }
