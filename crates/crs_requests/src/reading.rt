@@ -2,7 +2,7 @@
 ghost use Rattle.std.specs.Prelude.{◌≡◌, IfOk, Some};
 ghost use Rattle.clap.specs.Words.{found_of, rows_of};
 ghost use Rattle.crs_requests.specs.Requests.{canon_of, check_of, explain_of};
-ghost use Rattle.crs_requests.specs.Requests.{explained_operands, group_flags, group_of, has_flag, is_flagged};
+ghost use Rattle.crs_requests.specs.Requests.{explained_operands, group_flags, group_of, has_flag};
 ghost use Rattle.crs_requests.specs.Requests.{level_of, options_of, under, words_of};
 
 use crate::{ExplainOptions, GroupFlags, LineWord, LineWords, Request, Task};
@@ -56,7 +56,8 @@ pub fn group_request(alloc: Global, options: &ArgMatches) -> Result<Request, All
     let level = level_word(alloc, options)?;
     let files = words_named(alloc, options, "file")?;
     let flags = group_flags(options);
-    match (is_flagged(flags), files.is_empty()) {
+    let is_flagged = flags.repeated || flags.names || flags.json;
+    match (is_flagged, files.is_empty()) {
         (false, true) => Ok(Request::Group(level)),
         (true, true) => Ok(Request::GroupListed(level, flags)),
         (false, false) => Ok(Request::Files(Task::Group(level), files)),
@@ -72,12 +73,6 @@ fn group_flags(options: &ArgMatches) -> GroupFlags
         names: flag_asked(options, "names"),
         json: flag_asked(options, "json"),
     }
-}
-
-fn is_flagged(flags: GroupFlags) -> bool
-    ensures { result ≡ is_flagged flags }
-{
-    flags.repeated || flags.names || flags.json
 }
 
 /// What `explain` asks for. `AllocError`: memory ran out. Profile.
@@ -153,7 +148,7 @@ pub fn words_named(alloc: Global, matches: &ArgMatches, name: &str) -> Result<Li
 {
     match matches.get_strs(name) {
         Some(words) => LineWords::of(alloc, words),
-        None => Ok(LineWords::new(alloc)),
+        None => LineWords::of(alloc, &[]),
     }
 }
 

@@ -111,7 +111,8 @@ impl Request {
             Request::CanonLines(level) => over_standard(alloc, Task::CanonLines(level), rules),
             Request::Explain(options) => over_standard(alloc, Task::Explain(options), rules),
             Request::ExplainText(text, options) => {
-                let texts = LineWords::one(alloc, text)?;
+                let words = vec![in alloc; text]?;
+                let texts = LineWords { words };
                 Ok(Request::TextsUnder(Task::Explain(options), texts, rules))
             }
             Request::ExplainPair(first, second, options) => {
@@ -187,7 +188,8 @@ fn over_two(
 ) -> Result<Request, AllocError>
     ensures { IfOk result (λ found. found ≡ Request.TextsUnder task (first ∷ second ∷ []) rules) }
 {
-    let texts = LineWords::two(alloc, first, second)?;
+    let words = vec![in alloc; first, second]?;
+    let texts = LineWords { words };
     Ok(Request::TextsUnder(task, texts, rules))
 }
 

@@ -1,5 +1,5 @@
 //! Words of the command line, of which a request keeps copies.
-ghost use Rattle.std.specs.Prelude.{◌≡◌, ◌==◌, ◌++◌, ◌∷◌, [], IfOk, length, map};
+ghost use Rattle.std.specs.Prelude.{◌≡◌, ◌==◌, IfOk, length, map};
 
 use std::alloc::{AllocError, Global};
 use std::marker::Model;
@@ -45,7 +45,7 @@ impl LineWord {
 /// Words of the command line, in their order.
 #[derive(Debug)]
 pub struct LineWords {
-    words: Vec<LineWord>,
+    pub(crate) words: Vec<LineWord>,
 }
 
 impl Drop for LineWords {
@@ -63,52 +63,14 @@ impl Model for LineWords {
 }
 
 impl LineWords {
-    pub(crate) fn new(alloc: Global) -> LineWords
-        ensures { result ≡ [] }
-    {
-        LineWords {
-            words: Vec::new(alloc),
-        }
-    }
-
-    pub(crate) fn push(&mut self, alloc: Global, text: &str) -> Result<(), AllocError>
-        ensures { IfOk result (λ _. self.new ≡ self.old ++ text.now ∷ []) }
-    {
-        self.words.push(LineWord::new(alloc, text)?)?;
-        Ok(())
-    }
-
     /// These texts, each a word. `AllocError`: memory ran out. Profile.
     pub fn of(alloc: Global, texts: &[&str]) -> Result<LineWords, AllocError>
         ensures { IfOk result (λ words. words ≡ map (λ text. text.now) texts.now) }
     {
-        let mut words = LineWords::new(alloc);
+        let mut words = Vec::new(alloc);
         for text in texts {
-            words.push(alloc, text)?;
+            words.push(LineWord::new(alloc, text)?)?;
         }
-        Ok(words)
-    }
-
-    // This word alone.
-    pub(crate) fn one(alloc: Global, word: LineWord) -> Result<LineWords, AllocError>
-        ensures { IfOk result (λ words. words ≡ word ∷ []) }
-    {
-        let mut words = Vec::new(alloc);
-        words.push(word)?;
-        Ok(LineWords { words })
-    }
-
-    // These two words.
-    pub(crate) fn two(
-        alloc: Global,
-        first: LineWord,
-        second: LineWord,
-    ) -> Result<LineWords, AllocError>
-        ensures { IfOk result (λ words. words ≡ first ∷ second ∷ []) }
-    {
-        let mut words = Vec::new(alloc);
-        words.push(first)?;
-        words.push(second)?;
         Ok(LineWords { words })
     }
 

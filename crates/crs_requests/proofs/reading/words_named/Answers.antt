@@ -1,4 +1,4 @@
-use Rattle.std.proofs.Common.{◌≡◌, ◌∙◌, IfOk, List, rules, subst}
+use Rattle.std.proofs.Common.{◌≡◌, IfOk, List, rules, subst}
 use Rattle.clap.specs.Words.{Text, found_of}
 use Rattle.crs_requests.proofs.ReadingLemmas.{no_words, some_words}
 use Rattle.crs_requests.proofs.reading.words_named.Goals as goal
@@ -11,4 +11,6 @@ returns-in-Some c =
 
 pub returns-in-None : goal.returns-in-None
 returns-in-None c =
-    c.new.ensures ∙ no_words (found_of c.args.matches.now) c.args.name.now c.get_strs.result c.get_strs.ensures (search rules)
+    subst (λ (texts : List Text). IfOk c.of-in-None.result (λ words. words ≡ texts))
+    (no_words (found_of c.args.matches.now) c.args.name.now c.get_strs.result c.get_strs.ensures (search rules))
+    c.of-in-None.ensures
