@@ -81,33 +81,26 @@ canon_shape = record (new_shape (codes "canon")) {
 abbrev pub check_shape : Shape
 check_shape = record (new_shape (codes "check")) { rules = lines_flag ∷ file_operands ∷ [] }
 
--- with what says how groups are written, the flags `--repeated` and `--names`, and with files
-abbrev pub with_listing : Shape → Shape
-with_listing s = record s { rules = s.rules ++ repeated_flag ∷ names_flag ∷ file_operands ∷ [] }
-
 -- `group`, which takes a level, rules, the flags `--json`, `--repeated` and `--names`, and files
 abbrev pub group_shape : Shape
-group_shape = with_listing (record (new_shape (codes "group")) {
-  rules = level_option ∷ rules_option ∷ json_flag ∷ [];
-})
+group_shape = record (new_shape (codes "group")) {
+  rules = level_option ∷ rules_option ∷ json_flag ∷ repeated_flag ∷ names_flag ∷ file_operands ∷ [];
+}
 
--- with the options of the commands that compare two texts: a level, rules and the flag `--files`
-abbrev pub with_options : Shape → Shape
-with_options s = record s { rules = s.rules ++ level_option ∷ rules_option ∷ files_flag ∷ [] }
-
--- `same`, which needs a first operand and a second, and takes those options
+-- `same`, which needs a first operand and a second, and takes a level, rules and the flag `--files`
 abbrev pub same_shape : Shape
-same_shape = with_options (record (new_shape (codes "same")) {
-  rules = operand (codes "first") ∷ operand (codes "second") ∷ [];
-})
+same_shape = record (new_shape (codes "same")) {
+  rules = operand (codes "first") ∷ operand (codes "second") ∷ level_option ∷ rules_option
+      ∷ files_flag ∷ [];
+}
 
 -- `explain`, which may have a first operand and a second, and takes the flag `--json`, the option
--- `--first` and those options
+-- `--first`, and what `same` takes
 abbrev pub explain_shape : Shape
-explain_shape = with_options (record (new_shape (codes "explain")) {
+explain_shape = record (new_shape (codes "explain")) {
   rules = spare_operand (codes "first") ∷ spare_operand (codes "second") ∷ json_flag
-      ∷ first_option ∷ [];
-})
+      ∷ first_option ∷ level_option ∷ rules_option ∷ files_flag ∷ [];
+}
 
 -- `crsdesk` alone; it has a version, and needs one of its commands
 abbrev pub lone_desk : App

@@ -15,17 +15,15 @@ pub fn taken_line_asks()
     ensures { (words : List Text) → takes desk words ≡ true → IsSome (asked words) }
 {}
 
-/// The two words after `same` are the texts where neither is a flag, and any two after `same --`.
-/// The level is `full` there.
-pub fn two_words_are_the_texts()
+/// The two words after `same` are the texts where neither is a flag, and any two after `same --`. The level is `full`
+/// there. The word after `--level` is the level of `same`, before the two texts and after them, where no word is a
+/// flag. `same` is taken neither alone nor with one word. A first word that begins as a flag, a hyphen (45) and an
+/// ASCII character, but for `--`, is no text of `same`.
+pub fn same_takes_two_texts()
     ensures plain { (program first second : Text) → is_plain_word first ≡ true → is_plain_word second ≡ true →
         asked (program ∷ codes "same" ∷ first ∷ second ∷ []) ≡ Some (Same first second (codes "full")) }
     ensures dashes { (program first second : Text) →
         asked (program ∷ codes "same" ∷ codes "--" ∷ first ∷ second ∷ []) ≡ Some (Same first second (codes "full")) }
-{}
-
-/// The word after `--level` is the level of `same`, before the two texts and after them, where no word is a flag.
-pub fn same_has_a_level()
     ensures before { (program level first second : Text) → is_plain_word level ≡ true →
         is_plain_word first ≡ true → is_plain_word second ≡ true →
         asked (program ∷ codes "same" ∷ codes "--level" ∷ level ∷ first ∷ second ∷ [])
@@ -34,14 +32,26 @@ pub fn same_has_a_level()
         is_plain_word first ≡ true → is_plain_word second ≡ true →
         asked (program ∷ codes "same" ∷ first ∷ second ∷ codes "--level" ∷ level ∷ [])
         ≡ Some (Same first second level) }
+    ensures none { (program : Text) → takes desk (program ∷ codes "same" ∷ []) ≡ false }
+    ensures one { (program word : Text) → takes desk (program ∷ codes "same" ∷ word ∷ []) ≡ false }
+    ensures flag { (program rest second : Text) (byte : ℕ) → byte < 128 → 45 ∷ byte ∷ rest ≢ codes "--" →
+        takes desk (program ∷ codes "same" ∷ (45 ∷ byte ∷ rest) ∷ second ∷ []) ≡ false }
 {}
 
-/// The word after `--level` is the level of `canon` and of `group`, where it is no flag.
-pub fn canon_and_group_have_a_level()
+/// The word after `--level` is the level of `canon` and of `group`, where it is no flag. `canon` and `group` alone are
+/// at the level `full`. `check` has no level. `--level` is neither given twice nor without a level.
+pub fn the_level_is_a_word()
     ensures canon { (program level : Text) → is_plain_word level ≡ true →
         asked (program ∷ codes "canon" ∷ codes "--level" ∷ level ∷ []) ≡ Some (Canon level) }
     ensures group { (program level : Text) → is_plain_word level ≡ true →
         asked (program ∷ codes "group" ∷ codes "--level" ∷ level ∷ []) ≡ Some (Group level) }
+    ensures usual_canon { (program : Text) → asked (program ∷ codes "canon" ∷ []) ≡ Some (Canon (codes "full")) }
+    ensures usual_group { (program : Text) → asked (program ∷ codes "group" ∷ []) ≡ Some (Group (codes "full")) }
+    ensures check { (program level : Text) →
+        takes desk (program ∷ codes "check" ∷ codes "--level" ∷ level ∷ []) ≡ false }
+    ensures once { (program one other : Text) →
+        takes desk (program ∷ codes "canon" ∷ (codes "--level=" ++ one) ∷ (codes "--level=" ++ other) ∷ []) ≡ false }
+    ensures whole { (program : Text) → takes desk (program ∷ codes "canon" ∷ codes "--level" ∷ []) ≡ false }
 {}
 
 /// With `--repeated`, before the level or after it, `group` writes the groups of two lines or more; with `--names` it
@@ -63,41 +73,31 @@ pub fn group_has_flags()
         ≡ Some (GroupListed level (record { repeated = true; names = false; json = false })) }
 {}
 
-/// `canon` and `group` alone are at the level `full`.
-pub fn the_usual_level_is_full()
-    ensures canon { (program : Text) → asked (program ∷ codes "canon" ∷ []) ≡ Some (Canon (codes "full")) }
-    ensures group { (program : Text) → asked (program ∷ codes "group" ∷ []) ≡ Some (Group (codes "full")) }
-{}
-
-/// With `--lines`, before the level or after it, `canon` takes each line as a text.
-pub fn canon_has_lines()
-    ensures alone { (program : Text) →
+/// With `--lines`, before the level or after it, `canon` takes each line as a text. `check` takes each line as a text
+/// where `--lines` is there, and one text else. `--lines` is neither given twice nor with a value, and `group`, which
+/// reads lines anyway, has no such flag.
+pub fn canon_and_check_have_lines()
+    ensures canon { (program : Text) →
         asked (program ∷ codes "canon" ∷ codes "--lines" ∷ []) ≡ Some (CanonLines (codes "full")) }
     ensures before { (program level : Text) → is_plain_word level ≡ true →
         asked (program ∷ codes "canon" ∷ codes "--lines" ∷ codes "--level" ∷ level ∷ []) ≡ Some (CanonLines level) }
     ensures after { (program level : Text) → is_plain_word level ≡ true →
         asked (program ∷ codes "canon" ∷ codes "--level" ∷ level ∷ codes "--lines" ∷ []) ≡ Some (CanonLines level) }
-{}
-
-/// `check` takes each line as a text where `--lines` is there, and one text else.
-pub fn check_has_lines()
-    ensures lines { (program : Text) → asked (program ∷ codes "check" ∷ codes "--lines" ∷ []) ≡ Some CheckLines }
-    ensures alone { (program : Text) → asked (program ∷ codes "check" ∷ []) ≡ Some Check }
-{}
-
-/// `--lines` is neither given twice nor with a value, and `group`, which reads lines anyway, has no such flag.
-pub fn lines_is_one_flag()
-    ensures canon { (program : Text) →
+    ensures check { (program : Text) → asked (program ∷ codes "check" ∷ codes "--lines" ∷ []) ≡ Some CheckLines }
+    ensures check_alone { (program : Text) → asked (program ∷ codes "check" ∷ []) ≡ Some Check }
+    ensures canon_twice { (program : Text) →
         takes desk (program ∷ codes "canon" ∷ codes "--lines" ∷ codes "--lines" ∷ []) ≡ false }
-    ensures check { (program : Text) →
+    ensures check_twice { (program : Text) →
         takes desk (program ∷ codes "check" ∷ codes "--lines" ∷ codes "--lines" ∷ []) ≡ false }
     ensures bare { (program value : Text) →
         takes desk (program ∷ codes "canon" ∷ (codes "--lines=" ++ value) ∷ []) ≡ false }
     ensures group { (program : Text) → takes desk (program ∷ codes "group" ∷ codes "--lines" ∷ []) ≡ false }
 {}
 
-/// A line asks for `explain` of standard input, of one text or of two, where no word is a flag, and of any two
-/// after `--`. The level is `full` there.
+/// A line asks for `explain` of standard input, of one text or of two, where no word is a flag, and of any two after
+/// `--`. The level is `full` there. The word after `--level` is the level of `explain`, alone, before two texts and
+/// after them, where no word is a flag. With `--json` `explain` is asked for JSON. The words after each `--first=` say
+/// which parts `explain` is to tell first.
 pub fn explain_takes_two_texts_at_most()
     ensures alone { (program : Text) →
         asked (program ∷ codes "explain" ∷ []) ≡ Some (Explain (plainly (codes "full"))) }
@@ -109,11 +109,7 @@ pub fn explain_takes_two_texts_at_most()
     ensures dashes { (program first second : Text) →
         asked (program ∷ codes "explain" ∷ codes "--" ∷ first ∷ second ∷ [])
         ≡ Some (ExplainPair first second (plainly (codes "full"))) }
-{}
-
-/// The word after `--level` is the level of `explain`, alone, before two texts and after them, where no word is a flag.
-pub fn explain_has_a_level()
-    ensures alone { (program level : Text) → is_plain_word level ≡ true →
+    ensures level { (program level : Text) → is_plain_word level ≡ true →
         asked (program ∷ codes "explain" ∷ codes "--level" ∷ level ∷ []) ≡ Some (Explain (plainly level)) }
     ensures before { (program level first second : Text) → is_plain_word level ≡ true →
         is_plain_word first ≡ true → is_plain_word second ≡ true →
@@ -123,16 +119,8 @@ pub fn explain_has_a_level()
         is_plain_word first ≡ true → is_plain_word second ≡ true →
         asked (program ∷ codes "explain" ∷ first ∷ second ∷ codes "--level" ∷ level ∷ [])
         ≡ Some (ExplainPair first second (plainly level)) }
-{}
-
-/// With `--json` `explain` is asked for JSON.
-pub fn explain_has_json()
-    ensures { (program : Text) → asked (program ∷ codes "explain" ∷ codes "--json" ∷ [])
+    ensures json { (program : Text) → asked (program ∷ codes "explain" ∷ codes "--json" ∷ [])
         ≡ Some (Explain (record { level = codes "full"; json = true; first = [] })) }
-{}
-
-/// The words after each `--first=` say which parts `explain` is to tell first.
-pub fn explain_has_an_order()
     ensures once { (program word : Text) → asked (program ∷ codes "explain" ∷ (codes "--first=" ++ word) ∷ [])
         ≡ Some (Explain (record { level = codes "full"; json = false; first = word ∷ [] })) }
     ensures twice { (program one other : Text) →
@@ -141,7 +129,8 @@ pub fn explain_has_an_order()
 {}
 
 /// The words after `canon`, `check` and `group` are files, however many they are, where no word is a flag. The level is
-/// `full` there.
+/// `full` there. The two words after `same --files` are files, and so are one or two after `explain --files`, where no
+/// word is a flag.
 pub fn words_are_files()
     ensures canon { (program name : Text) (names : List Text) → list_all is_plain_word (name ∷ names) ≡ true →
         asked (program ∷ codes "canon" ∷ name ∷ names) ≡ Some (Files (task.Canon (codes "full")) (name ∷ names)) }
@@ -149,11 +138,6 @@ pub fn words_are_files()
         asked (program ∷ codes "check" ∷ name ∷ names) ≡ Some (Files task.Check (name ∷ names)) }
     ensures group { (program name : Text) (names : List Text) → list_all is_plain_word (name ∷ names) ≡ true →
         asked (program ∷ codes "group" ∷ name ∷ names) ≡ Some (Files (task.Group (codes "full")) (name ∷ names)) }
-{}
-
-/// The two words after `same --files` are files, and so are one or two after `explain --files`, where no word is a
-/// flag.
-pub fn operands_are_files()
     ensures same { (program first second : Text) → is_plain_word first ≡ true → is_plain_word second ≡ true →
         asked (program ∷ codes "same" ∷ codes "--files" ∷ first ∷ second ∷ [])
         ≡ Some (Files (task.Same (codes "full")) (first ∷ second ∷ [])) }
@@ -179,29 +163,4 @@ pub fn rules_are_named()
         asked (program ∷ codes "same" ∷ codes "--rules" ∷ file ∷ first ∷ second ∷ [])
         ≡ Some (TextsUnder (task.Same (codes "full")) (first ∷ second ∷ []) (file ∷ [])) }
     ensures check { (program file : Text) → takes desk (program ∷ codes "check" ∷ codes "--rules" ∷ file ∷ []) ≡ false }
-{}
-
-/// `check` has no level.
-pub fn check_has_no_level()
-    ensures { (program level : Text) →
-        takes desk (program ∷ codes "check" ∷ codes "--level" ∷ level ∷ []) ≡ false }
-{}
-
-/// `--level` is neither given twice nor without a level.
-pub fn one_level_at_most()
-    ensures once { (program one other : Text) →
-        takes desk (program ∷ codes "canon" ∷ (codes "--level=" ++ one) ∷ (codes "--level=" ++ other) ∷ []) ≡ false }
-    ensures whole { (program : Text) → takes desk (program ∷ codes "canon" ∷ codes "--level" ∷ []) ≡ false }
-{}
-
-/// `same` is taken neither alone nor with one word.
-pub fn same_wants_two_texts()
-    ensures none { (program : Text) → takes desk (program ∷ codes "same" ∷ []) ≡ false }
-    ensures one { (program word : Text) → takes desk (program ∷ codes "same" ∷ word ∷ []) ≡ false }
-{}
-
-/// A first word that begins as a flag, a hyphen (45) and an ASCII character, but for `--`, is no text of `same`.
-pub fn same_has_no_flags()
-    ensures { (program rest second : Text) (byte : ℕ) → byte < 128 → 45 ∷ byte ∷ rest ≢ codes "--" →
-        takes desk (program ∷ codes "same" ∷ (45 ∷ byte ∷ rest) ∷ second ∷ []) ≡ false }
 {}

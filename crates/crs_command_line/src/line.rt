@@ -5,8 +5,7 @@ ghost use Rattle.clap.specs.Simple.{new_shape};
 ghost use Rattle.clap.specs.declared.builder.command.Command.TheViews.{out-Command as fields_of};
 ghost use Rattle.crs_command_line.specs.CommandLine.{HandsOn, IsRefusal, asked, desk, lone_desk, operand, canon_shape};
 ghost use Rattle.crs_command_line.specs.CommandLine.{check_shape, explain_shape, file_operands, first_option, flag};
-ghost use Rattle.crs_command_line.specs.CommandLine.{group_shape, level_option, rules_option, same_shape};
-ghost use Rattle.crs_command_line.specs.CommandLine.{spare_operand, with_listing, with_options};
+ghost use Rattle.crs_command_line.specs.CommandLine.{group_shape, level_option, rules_option, same_shape, spare_operand};
 ghost use Rattle.crs_requests.specs.Requests.{request_of};
 
 use clap::error::ErrorKind;
@@ -165,18 +164,6 @@ fn group_command<'a>(alloc: Global) -> Result<Command<'a>, AllocError>
     let command = alone.arg(level_argument(alloc));
     let command = with_argument(command, rules_argument(alloc));
     let command = with_argument(command, flag_argument(alloc, "json", JSON_HELP));
-    with_listing(alloc, command)
-}
-
-// What `group` takes beside a level and rules: what says how groups are written, and files.
-fn with_listing<'a>(
-    alloc: Global,
-    command: Result<Command<'a>, AllocError>,
-) -> Result<Command<'a>, AllocError>
-    requires { IfOk command (λ old. (fields_of old).has_globals ≡ false) }
-    ensures shape { IfOk result (λ whole. IsOkAnd command.entry (λ old. shape_of whole ≡ with_listing (shape_of old))) }
-    ensures globals { IfOk result (λ whole. (fields_of whole).has_globals ≡ false) }
-{
     let command = with_argument(command, flag_argument(alloc, "repeated", REPEATED_HELP));
     let command = with_argument(command, flag_argument(alloc, "names", NAMES_HELP));
     with_argument(command, file_argument(alloc))
@@ -207,7 +194,9 @@ fn same_command<'a>(alloc: Global) -> Result<Command<'a>, AllocError>
     let alone = lone_command(alloc, "same", SAME_ABOUT, SAME_STATUS);
     let command = alone.arg(needed_word(alloc, "first", "A", FIRST_HELP));
     let command = with_argument(command, needed_word(alloc, "second", "B", SECOND_HELP));
-    with_options(alloc, command)
+    let command = with_argument(command, level_argument(alloc));
+    let command = with_argument(command, rules_argument(alloc));
+    with_argument(command, flag_argument(alloc, "files", FILES_HELP))
 }
 
 fn explain_command<'a>(alloc: Global) -> Result<Command<'a>, AllocError>
@@ -219,18 +208,6 @@ fn explain_command<'a>(alloc: Global) -> Result<Command<'a>, AllocError>
     let command = with_argument(command, spare_word(alloc, "second", "B", SECOND_HELP));
     let command = with_argument(command, flag_argument(alloc, "json", JSON_HELP));
     let command = with_argument(command, first_argument(alloc));
-    with_options(alloc, command)
-}
-
-// What `same` and `explain` take beside their operands: a level, rules and the flag `--files`.
-fn with_options<'a>(
-    alloc: Global,
-    command: Result<Command<'a>, AllocError>,
-) -> Result<Command<'a>, AllocError>
-    requires { IfOk command (λ old. (fields_of old).has_globals ≡ false) }
-    ensures shape { IfOk result (λ whole. IsOkAnd command.entry (λ old. shape_of whole ≡ with_options (shape_of old))) }
-    ensures globals { IfOk result (λ whole. (fields_of whole).has_globals ≡ false) }
-{
     let command = with_argument(command, level_argument(alloc));
     let command = with_argument(command, rules_argument(alloc));
     with_argument(command, flag_argument(alloc, "files", FILES_HELP))

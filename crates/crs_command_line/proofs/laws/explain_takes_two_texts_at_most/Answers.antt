@@ -1,6 +1,6 @@
-use Rattle.std.proofs.Common.{[], ◌∷◌, refl}
+use Rattle.std.proofs.Common.{[], codes, refl, ◌∷◌}
 use Rattle.clap.proofs.OnLiterals.{clap_on_literals}
-use Rattle.crs_command_line.proofs.LineLemmas.{explain, plainly_given, words_asked}
+use Rattle.crs_command_line.proofs.LineLemmas.{explain, literal, plainly_given, words_asked}
 use Rattle.crs_command_line.proofs.laws.explain_takes_two_texts_at_most.Goals as goal
 
 pub returns : goal.returns
@@ -10,4 +10,12 @@ returns c = record {
   one = λ program first one. words_asked explain program (plainly_given first one ∷ []) refl;
   two = λ program first second one other. words_asked explain program (plainly_given first one ∷ plainly_given second other ∷ []) refl;
   dashes = λ program first second. refl;
+  level = λ program level usual. words_asked explain program (literal (codes "--level") ∷ plainly_given level usual ∷ []) refl;
+  before = λ program level first second usual one other.
+      words_asked explain program (literal (codes "--level") ∷ plainly_given level usual ∷ plainly_given first one ∷ plainly_given second other ∷ []) refl;
+  after = λ program level first second usual one other.
+      words_asked explain program (plainly_given first one ∷ plainly_given second other ∷ literal (codes "--level") ∷ plainly_given level usual ∷ []) refl;
+  json = λ program. refl;
+  once = λ program word. refl;
+  twice = λ program one other. refl;
 }

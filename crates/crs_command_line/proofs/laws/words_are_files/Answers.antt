@@ -1,10 +1,10 @@
-use Rattle.std.proofs.Common.{[], ◌∷◌, codes, refl}
-use Rattle.clap.specs.Walk.{idle, nothing_held, positional}
+use Rattle.std.proofs.Common.{[], codes, refl, ◌∷◌}
 use Rattle.clap.proofs.OnLiterals.{clap_on_literals}
+use Rattle.clap.specs.Walk.{idle, nothing_held, positional}
+use Rattle.crs_command_line.proofs.LineLemmas.{ReadsFiles, built_at, canon, check, explain, files_asked, group, literal, plain_turn, plainly_given, same, with_files, words_asked}
 use Rattle.crs_requests.specs.declared.requests.Request.TheVariants.{Canon, Check, Group}
-use Rattle.crs_requests.specs.declared.requests.Task.TheVariants as task
-use Rattle.crs_command_line.proofs.LineLemmas.{ReadsFiles, built_at, canon, check, files_asked, group, plain_turn, with_files}
 use Rattle.crs_command_line.proofs.laws.words_are_files.Goals as goal
+use Rattle.crs_requests.specs.declared.requests.Task.TheVariants as task
 
 canon_reads : ReadsFiles canon (Canon (codes "full")) (task.Canon (codes "full"))
 canon_reads [] last word = (plain_turn (built_at canon) nothing_held idle 1 word, plain_turn (built_at canon) (with_files [] last) positional 1 word, refl, refl)
@@ -27,4 +27,7 @@ returns c = record {
   canon = files_asked canon (Canon (codes "full")) (task.Canon (codes "full")) canon_reads;
   check = files_asked check Check task.Check check_reads;
   group = files_asked group (Group (codes "full")) (task.Group (codes "full")) group_reads;
+  same = λ program first second one other. words_asked same program (literal (codes "--files") ∷ plainly_given first one ∷ plainly_given second other ∷ []) refl;
+  one = λ program first one. words_asked explain program (literal (codes "--files") ∷ plainly_given first one ∷ []) refl;
+  two = λ program first second one other. words_asked explain program (literal (codes "--files") ∷ plainly_given first one ∷ plainly_given second other ∷ []) refl;
 }
