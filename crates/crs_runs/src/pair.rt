@@ -7,7 +7,7 @@ ghost use Rattle.crs_runs.specs.PairOutput.{IsPairOutput, IsSecondOutput};
 
 use crate::Level;
 use crate::answer::Answer;
-use crate::judging::refusal_in;
+use crate::text_run::refusal_in;
 use crs_text::{Fault, Refusal};
 use crs_value::{Crs, read};
 use std::alloc::{AllocError, Global};

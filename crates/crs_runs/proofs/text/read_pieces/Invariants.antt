@@ -1,7 +1,7 @@
 use Rattle.std.proofs.Common.{◌≡◌, ◌≤◌, ℕ, List, length, false}
 use Rattle.crs_streams.specs.Prelude.{HasGiven}
 use Rattle.crs_runs.specs.Pieces.{IsHeld}
-use Rattle.crs_runs.proofs.pieces.feed_all.Given as goal
+use Rattle.crs_runs.proofs.text.read_pieces.Given as goal
 
 abbrev pub invariant-loop-turn : goal.invariant-loop-turn
 invariant-loop-turn g l =

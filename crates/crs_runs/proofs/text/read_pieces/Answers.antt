@@ -1,7 +1,7 @@
 use Rattle.std.proofs.Common.{◌++◌, arith, rules, take}
 use Rattle.crs_runs.proofs.KnownText.{read_whole}
 use Rattle.crs_runs.proofs.PieceLemmas.{whole-held}
-use Rattle.crs_runs.proofs.pieces.feed_all.Goals as goal
+use Rattle.crs_runs.proofs.text.read_pieces.Goals as goal
 
 pub returns-then-count-eq0-clause-ok : goal.returns-then-count-eq0-clause-ok
 returns-then-count-eq0-clause-ok g c =

@@ -1,7 +1,7 @@
 use Rattle.std.proofs.Common.{◌≡◌, rules, Ok}
 use Rattle.std.proofs.lemmas.Result.{IfOk-weaker}
 use Rattle.crs_runs.proofs.CheckLemmas.{check-answered}
-use Rattle.crs_runs.proofs.check_run.run_check.Goals as goal
+use Rattle.crs_runs.proofs.text_run.run_check.Goals as goal
 
 pub returns-clause-answered : goal.returns-clause-answered
 returns-clause-answered g c =

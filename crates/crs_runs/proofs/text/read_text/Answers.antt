@@ -1,6 +1,6 @@
 use Rattle.std.proofs.Common.{arith}
 use Rattle.crs_runs.proofs.KnownText.{read_whole}
-use Rattle.crs_runs.proofs.text.read_into.Goals as goal
+use Rattle.crs_runs.proofs.text.read_text.Goals as goal
 
 pub returns-then-count-eq0-clause-ok : goal.returns-then-count-eq0-clause-ok
 returns-then-count-eq0-clause-ok g c =

@@ -1,6 +1,6 @@
 use Rattle.std.proofs.Common.{inl, inr, refl}
 use Rattle.crs_runs.specs.Output.{IsCanonOutput}
-use Rattle.crs_runs.proofs.canon_run.CanonTextTextCommand.output.Goals as goal
+use Rattle.crs_runs.proofs.text_run.CanonTextTextCommand.output.Goals as goal
 
 pub returns-in_ok-line_of-in-Ok : goal.returns-in_ok-line_of-in-Ok
 unfolding IsCanonOutput

@@ -1,6 +1,6 @@
 use Rattle.std.proofs.Common.{◌≡◌, ◌≤◌, length, vec_len, false}
 use Rattle.std.specs.Io.KnownBytes.{Consumes}
-use Rattle.crs_runs.proofs.text.read_into.Given as goal
+use Rattle.crs_runs.proofs.text.read_text.Given as goal
 
 abbrev pub invariant-loop-turn : goal.invariant-loop-turn
 invariant-loop-turn g l =

@@ -1,6 +1,6 @@
 use Rattle.std.proofs.lemmas.Result.{IfOk-weaker}
 use Rattle.crs_runs.proofs.CheckLemmas.{found-written}
-use Rattle.crs_runs.proofs.check_run.CheckTextTextCommand.output.Goals as goal
+use Rattle.crs_runs.proofs.text_run.CheckTextTextCommand.output.Goals as goal
 
 pub returns : goal.returns
 returns c =

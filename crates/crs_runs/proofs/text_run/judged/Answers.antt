@@ -1,5 +1,5 @@
 use Rattle.crs_runs.proofs.PieceLemmas.{found-items, found-refusal}
-use Rattle.crs_runs.proofs.judging.judged.Goals as goal
+use Rattle.crs_runs.proofs.text_run.judged.Goals as goal
 
 pub returns-in-Ok : goal.returns-in-Ok
 returns-in-Ok c text whole =
