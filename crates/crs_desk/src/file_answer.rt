@@ -10,10 +10,10 @@ ghost use Rattle.crs_desk.specs.Prefixed.{prefixed};
 
 use crate::explain_run::ExplainText;
 use crate::file_task::FileTask;
-use crate::forms::Under;
 use crate::line_output::{OfLine, Prefixed};
 use crate::lines_run::run_lines;
 use crate::prefixed::{Prefix, prefixed};
+use crate::under_run::Under;
 use crate::{Filling, Level, Listing, RunFault, Sink, Source, Stream, Summary};
 use crs_catalogue::pieces::{Adding, ByCanon, ByForm, run_adding};
 use crs_runs::{CanonText, CheckText, TextCommand, read_text};

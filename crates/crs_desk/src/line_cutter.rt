@@ -4,10 +4,9 @@ ghost use Rattle.std.specs.Prelude.{◌≡◌, ◌+◌, ◌^◌, ◌<◌, ◌≤
 ghost use Rattle.std.specs.Prelude.{IfErr, IfOk, IsFalse, IsTrue, OnOk, false, true};
 ghost use Rattle.crs_streams.specs.Lines.{HasNoFeed};
 ghost use Rattle.crs_streams.specs.Streams.{SinkState};
-ghost use Rattle.crs_desk.specs.LineCutting.{IsKept, IsLinesCut, IsNotKept, IsOver, IsPutOut, IsStopped};
-ghost use Rattle.crs_desk.specs.LineCutting.{IsWrittenOut, PutsLine};
+ghost use Rattle.crs_desk.specs.LineCutting.{IsCut, IsEmptied, IsFlushed, IsKept, IsLinesCut, IsNotKept, IsOver, IsPut};
+ghost use Rattle.crs_desk.specs.LineCutting.{IsPutOut, IsStopped, IsWrittenOut, PutsLine};
 
-use crate::line_writer::LineWriter;
 use crate::{RunFault, Sink};
 use crs_runs::TextCommand;
 use crs_streams::laws::lines_are_cut;
@@ -15,6 +14,80 @@ use crs_streams::{MAX_LINE, append_bytes, split_line, text_of};
 use std::alloc::Global;
 use std::io::Write;
 use std::marker::Model;
+
+// The least number of bytes that are sent in one write, but for the last.
+const BLOCK: usize = 65_536;
+
+// The output of lines, kept until it fills a block.
+#[derive(Drop)]
+struct LineWriter {
+    out: Vec<u8>,
+    status: u8,
+}
+
+impl Model for LineWriter {
+    ghost use Rattle.crs_desk.specs.LineCutting.{WriterParts};
+
+    ghost Value = { WriterParts };
+
+    ghost view = { λ writer. record { out = writer.out.items; status = writer.status } };
+}
+
+impl LineWriter {
+    fn new(alloc: Global) -> LineWriter
+        ensures { result ≡ record { out = []; status = 0 } }
+    {
+        LineWriter {
+            out: Vec::new(alloc),
+            status: 0,
+        }
+    }
+
+    // The greatest status so far.
+    fn status(&self) -> u8
+        ensures { result ≡ self.now.status }
+    {
+        self.status
+    }
+
+    // One more line.
+    fn put<C: TextCommand>(
+        &mut self,
+        alloc: Global,
+        command: &C,
+        text: &[u8],
+    ) -> Result<(), RunFault>
+        ensures put { OnOk result (IsPut (C.Output command.now) text.now self.old self.new) }
+        ensures fault { IfErr result (λ fault. fault ≡ RunFault.Memory) }
+    {
+        let (line, status) = command.output(alloc, text).map_err(|_| RunFault::Memory)?;
+        append_bytes(&mut self.out, &line)?;
+        self.status = self.status.max(status);
+        Ok(())
+    }
+
+    // Sends what is kept where it fills a block.
+    fn send_block<W: Write>(&mut self, sink: &mut Sink<W>) -> Result<(), RunFault>
+        ensures sent { OnOk result (IsFlushed self.old self.new sink.old sink.new) }
+        ensures cut { IfErr result (IsCut self.old sink.old sink.new) }
+    {
+        if self.out.len() < BLOCK {
+            return Ok(());
+        }
+        self.send(sink)
+    }
+
+    // Sends what is kept.
+    fn send<W: Write>(&mut self, sink: &mut Sink<W>) -> Result<(), RunFault>
+        ensures sent { OnOk result (IsEmptied self.old self.new sink.old sink.new) }
+        ensures cut { IfErr result (IsCut self.old sink.old sink.new) }
+    {
+        sink.write_all(&self.out)
+            .map_err(|_| RunFault::WriteFailed)?;
+        self.out.clear();
+        Ok(())
+    }
+}
 
 #[derive(Drop)]
 pub(crate) struct LineCutter {

@@ -1,25 +1,9 @@
-//! What commands write for a text, and for the text of a line.
+//! What commands write for the text of a line.
 
-use crate::forms::Under;
 use crate::prefixed::{Prefix, prefixed};
 use crs_group::is_blank;
-use crs_rules::canon_under;
-use crs_runs::{TextCommand, line_of, refusal_in, refused_line};
+use crs_runs::TextCommand;
 use std::alloc::{AllocError, Global};
-
-// `canon` under rules.
-impl TextCommand for Under<'_> {
-    ghost use Rattle.crs_desk.specs.RulesOutput.{IsFormOutput};
-
-    ghost Output = { λ s text written status. IsFormOutput s.rules.now s.level text written status };
-
-    fn output(&self, alloc: Global, text: &[u8]) -> Result<(Vec<u8>, u8), AllocError> {
-        match canon_under(alloc, text, self.level, self.rules) {
-            Ok(form) => Ok((line_of(alloc, form.bytes())?, 0)),
-            Err(fault) => Ok((refused_line(alloc, b"", refusal_in(fault)?)?, 1)),
-        }
-    }
-}
 
 // A command over the text of a line, of which a blank one is answered by an empty line.
 #[derive(Drop)]

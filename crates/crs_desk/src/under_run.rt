@@ -1,16 +1,20 @@
-//! Two texts under rules: they are compared, and their difference is explained, by their forms.
-ghost use Rattle.std.specs.Prelude.{◌≡◌, ◌↔◌, IfOk, IfErr, IsErrOf, false, true};
+//! Texts under rules: what `canon` writes of one; two are compared, and their difference is explained, by their forms.
+ghost use Rattle.std.specs.Prelude.{◌≡◌, ◌↔◌, IfOk, IfErr, IsErrOf, MatchResult, codes, false, true};
 ghost use Rattle.crs_runs.specs.Ending.{IsWritten, IsWriteFault};
-ghost use Rattle.crs_desk.specs.RulesOutput.{IsExplainUnderOutput, IsExplainedUnder, IsSameUnderOutput};
+ghost use Rattle.crs_rules.specs.Under.{IsForm};
+ghost use Rattle.crs_desk.specs.RulesOutput.{IsExplainUnderOutput, IsExplainedUnder, IsRefusedUnder, IsSameUnderOutput};
 ghost use Rattle.crs_streams.specs.Streams.{fresh_sink};
 
 use crate::explain_run::Told;
-use crate::forms::{Under, forms_of};
 use crate::marking::append_marked;
 use crate::{Level, Manner, RunFault, Sink};
+use crs_canon::Canon;
 use crs_explain::StepWord;
-use crs_rules::Rules;
-use crs_runs::{Answer, pair_output, write_answer};
+use crs_rules::{Rules, canon_under};
+use crs_runs::{
+    Answer, Telling, TextCommand, line_of, pair_output, refusal_in, refused_line, refused_output,
+    write_answer,
+};
 use crs_same_run::InALine;
 use std::alloc::{AllocError, Global};
 use std::io::Write;
@@ -59,6 +63,68 @@ pub fn run_explain_pair_under<W: Write>(
     let told = Told { how, words };
     let under = Under { level, rules };
     write_answer(alloc, &ExplainedForms { told, under, a, b }, w)
+}
+
+// Rules, and the level at which texts have forms under them.
+#[derive(Clone, Copy)]
+pub(crate) struct Under<'r> {
+    pub(crate) level: Level,
+    pub(crate) rules: &'r Rules,
+}
+
+// `canon` under rules.
+impl TextCommand for Under<'_> {
+    ghost use Rattle.crs_desk.specs.RulesOutput.{IsFormOutput};
+
+    ghost Output = { λ s text written status. IsFormOutput s.rules.now s.level text written status };
+
+    fn output(&self, alloc: Global, text: &[u8]) -> Result<(Vec<u8>, u8), AllocError> {
+        match canon_under(alloc, text, self.level, self.rules) {
+            Ok(form) => Ok((line_of(alloc, form.bytes())?, 0)),
+            Err(fault) => Ok((refused_line(alloc, b"", refusal_in(fault)?)?, 1)),
+        }
+    }
+}
+
+// The forms; or the bytes and the status of a refusal.
+type Forms = Result<(Canon, Canon), (Vec<u8>, u8)>;
+
+// The forms of two texts under rules.
+fn forms_of<T: Telling>(
+    alloc: Global,
+    told: T,
+    under: Under<'_>,
+    first: &[u8],
+    second: &[u8],
+) -> Result<Forms, AllocError>
+    ensures { IfOk result (λ found. MatchResult found
+        (λ forms. IsForm under.entry.rules.now under.entry.level first.now forms.0.bytes
+        × IsForm under.entry.rules.now under.entry.level second.now forms.1.bytes)
+        (λ output. IsRefusedUnder under.entry.rules.now under.entry.level (T.Refused told) first.now second.now
+        output.0.items output.1)) }
+{
+    match canon_under(alloc, first, under.level, under.rules) {
+        Ok(form) => second_form(alloc, told, under, form, second),
+        Err(fault) => Ok(Err(refused_output(alloc, told, b"first ", first, fault)?)),
+    }
+}
+
+// Both forms, where this is the form of the first text.
+fn second_form<T: Telling>(
+    alloc: Global,
+    told: T,
+    under: Under<'_>,
+    first: Canon,
+    second: &[u8],
+) -> Result<Forms, AllocError>
+    ensures { IfOk result (λ found. MatchResult found
+        (λ forms. (forms.0 ≡ first) × IsForm under.entry.rules.now under.entry.level second.now forms.1.bytes)
+        (λ output. T.Refused told (codes "second ") second.now output.0.items output.1)) }
+{
+    match canon_under(alloc, second, under.level, under.rules) {
+        Ok(form) => Ok(Ok((first, form))),
+        Err(fault) => Ok(Err(refused_output(alloc, told, b"second ", second, fault)?)),
+    }
 }
 
 // Whether two texts are the same under rules, at this level.

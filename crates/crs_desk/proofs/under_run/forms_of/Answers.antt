@@ -1,7 +1,7 @@
 use Rattle.std.proofs.Common.{codes}
 use Rattle.std.proofs.lemmas.Result.{IfOk-weaker}
 use Rattle.crs_desk.proofs.FormsLemmas.{second-formed}
-use Rattle.crs_desk.proofs.forms.forms_of.Goals as goal
+use Rattle.crs_desk.proofs.under_run.forms_of.Goals as goal
 
 pub returns-in-Ok : goal.returns-in-Ok
 returns-in-Ok g c =

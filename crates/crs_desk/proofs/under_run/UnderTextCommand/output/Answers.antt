@@ -1,6 +1,6 @@
 use Rattle.std.proofs.Common.{◌∙◌, ◌++◌, ◌∷◌, [], ap, inl, inr, refl}
 use Rattle.crs_desk.specs.RulesOutput.{IsFormOutput}
-use Rattle.crs_desk.proofs.line_output.UnderTextCommand.output.Goals as goal
+use Rattle.crs_desk.proofs.under_run.UnderTextCommand.output.Goals as goal
 
 pub returns-in_ok-line_of-in-Ok : goal.returns-in_ok-line_of-in-Ok
 unfolding IsFormOutput
