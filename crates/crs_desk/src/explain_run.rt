@@ -111,23 +111,19 @@ impl TextCommand for ExplainText {
     }
 }
 
+// `accepted KIND` or `{"accepted":"KIND"}`, and a line end.
 fn kind_line(alloc: Global, how: Manner, kind: Kind) -> Result<Vec<u8>, AllocError>
     ensures { IfOk result (λ line. line.items ≡ kind_told how kind ++ 10 ∷ []) }
 {
     match how {
         Manner::Lines => accepted_line(alloc, kind),
-        Manner::Objects => accepted_object(alloc, kind),
+        Manner::Objects => {
+            let mut line = Vec::from_slice(alloc, b"{\"accepted\":\"")?;
+            line.extend_from_slice(kind_word(kind).as_bytes())?;
+            line.extend_from_slice(b"\"}\n")?;
+            Ok(line)
+        }
     }
-}
-
-// `{"accepted":"geographic"}` and a line end.
-fn accepted_object(alloc: Global, kind: Kind) -> Result<Vec<u8>, AllocError>
-    ensures { IfOk result (λ line. line.items ≡ kind_told manner.Objects kind ++ 10 ∷ []) }
-{
-    let mut line = Vec::from_slice(alloc, b"{\"accepted\":\"")?;
-    line.extend_from_slice(kind_word(kind).as_bytes())?;
-    line.extend_from_slice(b"\"}\n")?;
-    Ok(line)
 }
 
 fn refusal_lines(

@@ -1,15 +1,24 @@
 //! A run over files: what a command writes for each of them, in their order.
-ghost use Rattle.std.specs.Prelude.{◌≡◌, [], ℕ, List, Option, IfErr, IfOk, IfSome, false};
+ghost use Rattle.std.specs.Prelude.{◌≡◌, [], ℕ, List, Option, IfErr, IfOk, IfSome, false, ◌==◌, OnOk, if◌then◌else◌};
 ghost use Rattle.crs_streams.specs.Streams.{fresh_sink};
-ghost use Rattle.crs_desk.specs.FileAnswers.{IsFileSent, is_of_file};
-ghost use Rattle.crs_desk.specs.FilesRun.{AreFilesAnswered, IsFilesFault, are_objects, is_json, line_prefix, name_prefix};
-ghost use Rattle.crs_desk.specs.FilesRun.{object_prefix};
+ghost use Rattle.crs_desk.specs.FileAnswers.{IsFileSent, is_of_file, Ends, IsAnswerSent, IsFileFault, IsNoWriteFault};
+ghost use Rattle.crs_desk.specs.FileAnswers.{IsSendFault, NoFront};
+ghost use Rattle.crs_desk.specs.FilesRun.{AreFilesAnswered, IsFilesFault, is_json};
+ghost use Rattle.crs_desk.specs.FilesRun.{name_prefix, IsGroupedOutput, IsTaskFront, IsTaskOutput};
 ghost use Rattle.crs_desk.specs.LineCutting.{IsHealthy};
+ghost use Rattle.std.specs.Io.KnownBytes.{Appends};
+ghost use Rattle.crs_catalogue.specs.GroupOutput.{IsGroupOutputBy};
+ghost use Rattle.crs_desk.specs.LinesRun.{IsFrontOutput, IsLineOutput, IsLinesOutput};
+ghost use Rattle.crs_desk.specs.Prefixed.{prefixed};
 
-use crate::file_answer::answer_input;
-use crate::file_task::FileTask;
-use crate::prefixed::Prefix;
-use crate::{LineWord, Manner, RunFault, Sink};
+use crate::explain_run::ExplainText;
+use crate::line_output::{OfLine, Prefix, Prefixed, prefix_lines};
+use crate::lines_run::run_lines;
+use crate::under_run::Under;
+use crate::{Filling, Level, LineWord, Listing, Manner, RunFault, Sink, Source, Stream, Summary};
+use crs_catalogue::pieces::{Adding, ByCanon, ByForm, run_adding};
+use crs_rules::Rules;
+use crs_runs::{CanonText, CheckText, TextCommand, read_text};
 use crs_streams::append_escaped;
 use crs_streams::json::append_text;
 use std::alloc::{AllocError, Global};
@@ -61,7 +70,8 @@ pub fn run_files<I: Inputs, W: Write>(
     Ok(status)
 }
 
-// What stands before each line of a file's answer.
+// What stands before each line of a file's answer: nothing where there is one file, else its name, before a line with a
+// colon, and in an object as the first member.
 fn prefix_of(
     alloc: Global,
     task: FileTask<'_>,
@@ -70,13 +80,23 @@ fn prefix_of(
 ) -> Result<Prefix, AllocError>
     ensures { IfOk result (λ prefix. prefix ≡ name_prefix task.entry names.now name.now) }
 {
+    let mut bytes = Vec::new(alloc);
     if names.len() == 1 {
-        Ok(no_prefix(alloc))
-    } else if is_json(task) {
-        object_prefix(alloc, name)
-    } else {
-        line_prefix(alloc, name)
+        return Ok(Prefix {
+            bytes,
+            in_object: false,
+        });
     }
+    let in_object = is_json(task);
+    if in_object {
+        bytes.extend_from_slice(b"{\"file\":")?;
+        append_text(name.as_str().as_bytes(), &mut bytes)?;
+        bytes.extend_from_slice(b",")?;
+        return Ok(Prefix { bytes, in_object });
+    }
+    append_escaped(name.as_str().as_bytes(), &mut bytes)?;
+    bytes.extend_from_slice(b":")?;
+    Ok(Prefix { bytes, in_object })
 }
 
 // Whether each line of a file's answer is an object of JSON.
@@ -84,52 +104,11 @@ fn is_json(task: FileTask<'_>) -> bool
     ensures { result ≡ is_json task.entry }
 {
     match task {
-        FileTask::Explain(how) => are_objects(how),
+        FileTask::Explain(how) => matches!(how, Manner::Objects),
         FileTask::Group(_, listing) => listing.json,
         FileTask::FormGroup(_, listing, _) => listing.json,
         _ => false,
     }
-}
-
-fn are_objects(how: Manner) -> bool
-    ensures { result ≡ are_objects how }
-{
-    matches!(how, Manner::Objects)
-}
-
-fn no_prefix(alloc: Global) -> Prefix
-    ensures { result ≡ record { bytes = []; in_object = false } }
-{
-    Prefix {
-        bytes: Vec::new(alloc),
-        in_object: false,
-    }
-}
-
-// The name before a line, and a colon.
-fn line_prefix(alloc: Global, name: &LineWord) -> Result<Prefix, AllocError>
-    ensures { IfOk result (λ prefix. prefix ≡ line_prefix name.now) }
-{
-    let mut bytes = Vec::new(alloc);
-    append_escaped(name.as_str().as_bytes(), &mut bytes)?;
-    bytes.extend_from_slice(b":")?;
-    Ok(Prefix {
-        bytes,
-        in_object: false,
-    })
-}
-
-// The name as the first member of an object.
-fn object_prefix(alloc: Global, name: &LineWord) -> Result<Prefix, AllocError>
-    ensures { IfOk result (λ prefix. prefix ≡ object_prefix name.now) }
-{
-    let mut bytes = Vec::from_slice(alloc, b"{\"file\":")?;
-    append_text(name.as_str().as_bytes(), &mut bytes)?;
-    bytes.extend_from_slice(b",")?;
-    Ok(Prefix {
-        bytes,
-        in_object: true,
-    })
 }
 
 // Writes the answer of a file.
@@ -165,4 +144,159 @@ fn is_of_file(fault: &RunFault) -> bool
     ensures { result ≡ is_of_file fault.now }
 {
     !matches!(fault, RunFault::WriteFailed | RunFault::Memory)
+}
+
+// Writes the answer for all that a reader gives, each line after a prefix.
+fn answer_input<R: Read + Drop, W: Write>(
+    task: FileTask<'_>,
+    prefix: &Prefix,
+    reader: R,
+    sink: &mut Sink<W>,
+) -> Result<u8, RunFault>
+    requires { IsHealthy sink.old }
+    ensures answered { IfOk result (IsAnswerSent (IsTaskOutput task.entry) prefix.now (R.remaining reader) sink.old sink.new) }
+    ensures fault { IfErr result (IsFileFault (IsTaskFront task.entry) prefix.now (R.remaining reader) sink.old sink.new) }
+{
+    match task {
+        FileTask::Canon(level) => answer_text(&CanonText { level }, prefix, reader, sink),
+        FileTask::Check => answer_text(&CheckText, prefix, reader, sink),
+        FileTask::Explain(how) => answer_text(&ExplainText { how }, prefix, reader, sink),
+        FileTask::Group(level, listing) => {
+            answer_group(level, ByCanon, listing, prefix, reader, sink)
+        }
+        FileTask::CanonLines(level) => answer_lines(CanonText { level }, prefix, reader, sink),
+        FileTask::CheckLines => answer_lines(CheckText, prefix, reader, sink),
+        FileTask::Form(level, rules) => {
+            answer_text(&Under { level, rules }, prefix, reader, sink)
+        }
+        FileTask::FormGroup(level, listing, rules) => {
+            answer_group(level, ByForm { rules }, listing, prefix, reader, sink)
+        }
+        FileTask::FormLines(level, rules) => {
+            answer_lines(Under { level, rules }, prefix, reader, sink)
+        }
+    }
+}
+
+// The answer of a command for the whole text.
+fn answer_text<C: TextCommand, R: Read + Drop, W: Write>(
+    command: &C,
+    prefix: &Prefix,
+    reader: R,
+    sink: &mut Sink<W>,
+) -> Result<u8, RunFault>
+    requires { IsHealthy sink.old }
+    ensures answered { IfOk result (IsAnswerSent (C.Output command.now) prefix.now (R.remaining reader) sink.old sink.new) }
+    ensures fault { IfErr result (IsFileFault NoFront prefix.now (R.remaining reader) sink.old sink.new) }
+{
+    let alloc = prefix.alloc();
+    let text = read_text(alloc, &mut Source::new(Filling::new(reader)))?;
+    let (plain, status) = command.output(alloc, &text).map_err(|_| RunFault::Memory)?;
+    send(prefix, &plain, sink)?;
+    Ok(status)
+}
+
+// The groups of the lines, which are added in this way.
+fn answer_group<A: Adding + Drop, R: Read + Drop, W: Write>(
+    level: Level,
+    adding: A,
+    listing: Listing,
+    prefix: &Prefix,
+    reader: R,
+    sink: &mut Sink<W>,
+) -> Result<u8, RunFault>
+    requires { IsHealthy sink.old }
+    ensures answered { IfOk result (IsAnswerSent (IsGroupedOutput (IsGroupOutputBy (A.Form adding) (A.Share adding) listing level))
+        prefix.now (R.remaining reader) sink.old sink.new) }
+    ensures fault { IfErr result (IsFileFault NoFront prefix.now (R.remaining reader) sink.old sink.new) }
+{
+    let (plain, status) = grouped(prefix.alloc(), level, adding, listing, reader)?;
+    send(prefix, &plain, sink)?;
+    Ok(status)
+}
+
+// What is written for the groups of all that a reader gives, and the status.
+fn grouped<A: Adding + Drop, R: Read + Drop>(
+    alloc: Global,
+    level: Level,
+    adding: A,
+    listing: Listing,
+    reader: R,
+) -> Result<(Vec<u8>, u8), RunFault>
+    ensures grouped { IfOk result (λ output. (bytes : List ℕ) × IfSome (R.remaining reader) (λ all. bytes ≡ all)
+        × IsGroupedOutput (IsGroupOutputBy (A.Form adding) (A.Share adding) listing level) bytes
+        output.0.items output.1) }
+    ensures fault { IfErr result IsNoWriteFault }
+{
+    let mut source = Source::new(Filling::new(reader));
+    let mut sink = Sink::new(Vec::new(alloc));
+    match run_adding(alloc, level, adding, listing, &mut source, &mut sink) {
+        Ok(summary) => Ok((sink.into_inner(), status_of(&summary))),
+        Err(RunFault::WriteFailed) => Err(RunFault::Memory),
+        Err(fault) => Err(fault),
+    }
+}
+
+// The status of a catalogue: 1 where a line was refused.
+fn status_of(summary: &Summary) -> u8
+    ensures { result ≡ (if summary.now.refused == 0 then 0 else 1) }
+{
+    if summary.refused == 0 {
+        return 0;
+    }
+    1
+}
+
+// The answer of a command for each line.
+fn answer_lines<C: TextCommand + Drop, R: Read + Drop, W: Write>(
+    command: C,
+    prefix: &Prefix,
+    reader: R,
+    sink: &mut Sink<W>,
+) -> Result<u8, RunFault>
+    requires healthy { IsHealthy sink.old }
+    requires ends { Ends (C.Output command) }
+    ensures answered { IfOk result (IsAnswerSent (IsLinesOutput (IsLineOutput (C.Output command))) prefix.now
+        (R.remaining reader) sink.old sink.new) }
+    ensures fault { IfErr result (IsFileFault
+        (λ bytes written. IsFrontOutput (IsLineOutput (C.Output command)) bytes false written)
+        prefix.now (R.remaining reader) sink.old sink.new) }
+{
+    let command = OfLine { command };
+    let command = Prefixed { prefix, command };
+    run_lines(prefix.alloc(), &command, &mut Stream::new(reader), sink)
+}
+
+// Writes these bytes, each line after a prefix.
+fn send<W: Write>(prefix: &Prefix, plain: &[u8], sink: &mut Sink<W>) -> Result<(), RunFault>
+    requires { IsHealthy sink.old }
+    ensures sent { OnOk result (Appends sink.old.contents sink.new.contents (prefixed prefix.now plain.now)) }
+    ensures healthy { OnOk result (IsHealthy sink.new) }
+    ensures fault { IfErr result (IsSendFault sink.new) }
+{
+    let lines = prefix_lines(prefix, plain).map_err(|_| RunFault::Memory)?;
+    sink.write_all(&lines).map_err(|_| RunFault::WriteFailed)
+}
+
+/// What is asked of each of some files.
+#[derive(Clone, Copy)]
+pub enum FileTask<'r> {
+    /// What `run_canon` writes, at a level.
+    Canon(Level),
+    /// What `run_check` writes.
+    Check,
+    /// What `run_explain` writes.
+    Explain(Manner),
+    /// What `run_group_listing` writes, at a level, with status 1 where a line was refused.
+    Group(Level, Listing),
+    /// What `run_canon_lines` writes, at a level.
+    CanonLines(Level),
+    /// What `run_check_lines` writes.
+    CheckLines,
+    /// What `run_canon` writes, but the form under rules for the canonical text, at a level.
+    Form(Level, &'r Rules),
+    /// What `run_group_under` writes, at a level, with status 1 where a line was refused.
+    FormGroup(Level, Listing, &'r Rules),
+    /// What `run_canon_lines` writes, but forms under rules for canonical texts, at a level.
+    FormLines(Level, &'r Rules),
 }

@@ -1,9 +1,11 @@
-//! What commands write for the text of a line.
+//! What commands write for the text of a line, and lines after a prefix.
+ghost use Rattle.std.specs.Prelude.{◌≡◌, ◌++◌, ◌∷◌, [], IfOk, OnOk, if◌then◌else◌};
+ghost use Rattle.crs_desk.specs.Prefixed.{begun, prefixed};
 
-use crate::prefixed::{Prefix, prefixed};
 use crs_group::is_blank;
 use crs_runs::TextCommand;
 use std::alloc::{AllocError, Global};
+use std::marker::Model;
 
 // A command over the text of a line, of which a blank one is answered by an empty line.
 #[derive(Drop)]
@@ -38,6 +40,54 @@ impl<C: TextCommand> TextCommand for Prefixed<'_, C> {
 
     fn output(&self, alloc: Global, text: &[u8]) -> Result<(Vec<u8>, u8), AllocError> {
         let (plain, status) = self.command.output(alloc, text)?;
-        Ok((prefixed(self.prefix, &plain)?, status))
+        Ok((prefix_lines(self.prefix, &plain)?, status))
     }
+}
+
+// What stands before each line: some bytes, which take the place of the opening brace where lines are objects.
+#[derive(Drop)]
+pub(crate) struct Prefix {
+    pub(crate) bytes: Vec<u8>,
+    pub(crate) in_object: bool,
+}
+
+impl Model for Prefix {
+    ghost use Rattle.crs_desk.specs.Prefixed.{PrefixParts};
+
+    ghost Value = { PrefixParts };
+
+    ghost view = { λ p. record { bytes = p.bytes.items; in_object = p.in_object } };
+}
+
+impl Prefix {
+    // The allocator of its bytes.
+    pub(crate) fn alloc(&self) -> Global {
+        *self.bytes.allocator()
+    }
+}
+
+// These bytes, each of their lines after a prefix.
+pub(crate) fn prefix_lines(prefix: &Prefix, bytes: &[u8]) -> Result<Vec<u8>, AllocError>
+    ensures { IfOk result (λ lines. lines.items ≡ prefixed prefix.now bytes.now) }
+{
+    let mut lines = Vec::new(prefix.alloc());
+    let mut begins = true;
+    for byte in bytes {
+        append_byte(&mut lines, begins, prefix, *byte)?;
+        begins = *byte == b'\n';
+    }
+    Ok(lines)
+}
+
+// Appends a byte of a line, after the prefix where it is the first.
+fn append_byte(out: &mut Vec<u8>, begins: bool, prefix: &Prefix, byte: u8) -> Result<(), AllocError>
+    ensures { OnOk result (out.new.items ≡ out.old.items ++ (if begins then begun prefix.now byte else byte ∷ [])) }
+{
+    if begins {
+        out.extend_from_slice(&prefix.bytes)?;
+        if prefix.in_object {
+            return Ok(());
+        }
+    }
+    out.extend_from_slice(&[byte])
 }

@@ -1,12 +1,16 @@
-//! Texts under rules: what `canon` writes of one; two are compared, and their difference is explained, by their forms.
-ghost use Rattle.std.specs.Prelude.{◌≡◌, ◌↔◌, IfOk, IfErr, IsErrOf, MatchResult, codes, false, true};
+//! Texts under rules: what `canon` writes of one; two are compared, and their difference is explained, by their forms,
+//! and by the lines of an explanation that the one of their forms lacks.
+ghost use Rattle.std.specs.Prelude.{◌≡◌, ◌↔◌, IfOk, IfErr, IsErrOf, MatchResult, codes, false, true, ◌≤◌, ◌++◌};
+ghost use Rattle.std.specs.Prelude.{OnOk, length};
+ghost use Rattle.std.specs.List.{prefix_len};
 ghost use Rattle.crs_runs.specs.Ending.{IsWritten, IsWriteFault};
 ghost use Rattle.crs_rules.specs.Under.{IsForm};
 ghost use Rattle.crs_desk.specs.RulesOutput.{IsExplainUnderOutput, IsExplainedUnder, IsRefusedUnder, IsSameUnderOutput};
+ghost use Rattle.crs_desk.specs.RulesOutput.{from_path, has_path, is_of_path, lines_in, marked, marked_line, path_in};
+ghost use Rattle.crs_desk.specs.RulesOutput.{with_mark};
 ghost use Rattle.crs_streams.specs.Streams.{fresh_sink};
 
 use crate::explain_run::Told;
-use crate::marking::append_marked;
 use crate::{Level, Manner, RunFault, Sink};
 use crs_canon::Canon;
 use crs_explain::StepWord;
@@ -16,6 +20,7 @@ use crs_runs::{
     write_answer,
 };
 use crs_same_run::InALine;
+use crs_streams::split_line;
 use std::alloc::{AllocError, Global};
 use std::io::Write;
 
@@ -184,4 +189,110 @@ impl ExplainedForms<'_> {
         append_marked(&mut lines, self.told.how, &under, &plain)?;
         Ok((lines, status))
     }
+}
+
+// What stands before a line whose difference rules took away.
+const MARK: &[u8] = b"the same by the rules: ";
+
+// What stands for the first byte of such an object.
+const OBJECT_MARK: &[u8] = b"{\"same_by_rules\":true,";
+
+// The length of what stands before the path in an object, `{"path":"`.
+const KEY_LENGTH: usize = 9;
+
+// Appends the lines of an explanation, each with the mark, but for those whose path a line of another has.
+#[tactic(auto, using(crate::proofs::MarkLemmas::marked_on, crate::proofs::MarkLemmas::marked_all))]
+fn append_marked(
+    out: &mut Vec<u8>,
+    how: Manner,
+    others: &[u8],
+    plain: &[u8],
+) -> Result<(), AllocError>
+    ensures { OnOk result (out.new.items ≡ out.old.items ++ marked how (lines_in others.now) (lines_in plain.now)) }
+{
+    let mut left = plain;
+    while let Some((line, rest)) = split_line(left) {
+        append_marked_line(out, how, others, line)?;
+        left = rest;
+    }
+    Ok(())
+}
+
+fn append_marked_line(
+    out: &mut Vec<u8>,
+    how: Manner,
+    others: &[u8],
+    line: &[u8],
+) -> Result<(), AllocError>
+    ensures { OnOk result (out.new.items ≡ out.old.items ++ marked_line how (lines_in others.now) line.now) }
+{
+    if has_path(how, others, path_in(how, line)) {
+        return Ok(());
+    }
+    append_line(out, how, line)
+}
+
+// Appends a line with the mark, behind which stand the line, or an object but for its brace.
+fn append_line(out: &mut Vec<u8>, how: Manner, line: &[u8]) -> Result<(), AllocError>
+    ensures { OnOk result (out.new.items ≡ out.old.items ++ with_mark how line.now) }
+{
+    let (mark, behind) = match how {
+        Manner::Lines => (MARK, line),
+        Manner::Objects => (OBJECT_MARK, line.get(1..).unwrap_or(b"")),
+    };
+    out.extend_from_slice(mark)?;
+    out.extend_from_slice(behind)?;
+    out.extend_from_slice(b"\n")
+}
+
+// Whether a line of some bytes has this path.
+#[tactic(auto, using(crate::proofs::MarkLemmas::path_here, crate::proofs::MarkLemmas::path_further, crate::proofs::MarkLemmas::path_nowhere))]
+fn has_path(how: Manner, bytes: &[u8], path: &[u8]) -> bool
+    ensures { result ≡ has_path how (lines_in bytes.now) path.now }
+{
+    let mut left = bytes;
+    while let Some((line, rest)) = split_line(left) {
+        if path_in(how, line) == path {
+            return true;
+        }
+        left = rest;
+    }
+    false
+}
+
+// The path to the part that a line tells: up to a colon, in an object up to a quote, or to the bracket before the name of
+// a member.
+fn path_in(how: Manner, line: &[u8]) -> &[u8]
+    ensures { result.now ≡ path_in how line.now }
+{
+    let line = from_path(how, line);
+    &line[..path_length(how, line)]
+}
+
+fn from_path(how: Manner, line: &[u8]) -> &[u8]
+    ensures { result.now ≡ from_path how line.now }
+{
+    match how {
+        Manner::Lines => line,
+        Manner::Objects => line.get(KEY_LENGTH..).unwrap_or(b""),
+    }
+}
+
+fn path_length(how: Manner, line: &[u8]) -> usize
+    ensures value { result ≡ prefix_len (is_of_path how) line.now }
+    ensures within { result ≤ length line.now }
+{
+    line.iter()
+        .take_while(|byte| is_of_path(how, **byte))
+        .count()
+}
+
+fn is_of_path(how: Manner, byte: u8) -> bool
+    ensures { result ≡ is_of_path how byte }
+{
+    let end = match how {
+        Manner::Lines => b':',
+        Manner::Objects => b'"',
+    };
+    byte != end && byte != b'['
 }
