@@ -1,12 +1,15 @@
-//! How a catalogue is written.
+//! How a catalogue is written: groups and refused lines, each in a line, or as an object of JSON in one.
 ghost use Rattle.std.specs.Prelude.{◌≡◌, ◌++◌, OnOk, Some};
 ghost use Rattle.std.specs.List.{flat_map};
 ghost use Rattle.crs_placed.specs.Catalogue.{GroupParts, nth};
-ghost use Rattle.crs_catalogue.specs.GroupOutput.{catalogue_text, group_line, group_lines, is_listed};
-ghost use Rattle.crs_catalogue.specs.GroupOutput.{label, labelled, labels_text, listed_line, refused_written};
+ghost use Rattle.crs_catalogue.specs.GroupOutput.{catalogue_text, group_line, group_lines, is_listed, label, labelled};
+ghost use Rattle.crs_catalogue.specs.GroupOutput.{labels_text, listed_line, refused_written};
+ghost use Rattle.crs_catalogue.specs.GroupObjects.{group_object, json_line, name_member, names_member, refused_object};
+ghost use Rattle.crs_streams.specs.Json.{json_array, json_more};
 
 use crate::Listing;
 use crate::ledger::Ledger;
+use crs_streams::json::{append_key, append_number_member, append_text, append_text_member};
 use crs_streams::{append_escaped, append_number, append_refusal};
 use crs_text::Refusal;
 use std::alloc::AllocError;
@@ -139,6 +142,104 @@ impl Listed<'_> {
         out.extend_from_slice(b": ")?;
         append_refusal(out, refusal)?;
         out.push(b'\n').map_err(AllocError::from)
+    }
+
+    // The group of this number, which has these lines and this text.
+    fn write_group_object(
+        self,
+        out: &mut Vec<u8>,
+        number: usize,
+        lines: &[u64],
+        text: &[u8],
+    ) -> Result<(), AllocError>
+        ensures { OnOk result (out.new.items ≡ out.old.items
+            ++ group_object self.entry.listing self.entry.ledger.now.names number lines.now text.now) }
+    {
+        out.extend_from_slice(b"{\"group\":")?;
+        append_number(number, out)?;
+        append_key(b"lines", out)?;
+        self.write_array(out, false, lines)?;
+        self.write_names(out, lines)?;
+        append_text_member(b"canonical", text, out)?;
+        out.extend_from_slice(b"}\n")
+    }
+
+    fn write_names(self, out: &mut Vec<u8>, numbers: &[u64]) -> Result<(), AllocError>
+        ensures { OnOk result (out.new.items ≡ out.old.items
+            ++ names_member self.entry.listing self.entry.ledger.now.names numbers.now) }
+    {
+        if self.listing.names {
+            append_key(b"line_names", out)?;
+            return self.write_array(out, true, numbers);
+        }
+        Ok(())
+    }
+
+    // An array of the numbers of lines, or of their names.
+    fn write_array(self, out: &mut Vec<u8>, named: bool, numbers: &[u64]) -> Result<(), AllocError>
+        ensures { OnOk result (out.new.items ≡ out.old.items
+            ++ json_array (json_line named self.entry.ledger.now.names) numbers.now) }
+    {
+        match numbers {
+            [] => out.extend_from_slice(b"[]"),
+            [first, others @ ..] => {
+                out.extend_from_slice(b"[")?;
+                self.write_member(out, named, *first)?;
+                self.write_more(out, named, others)?;
+                out.extend_from_slice(b"]")
+            }
+        }
+    }
+
+    // Numbers or names, each after a comma.
+    fn write_more(self, out: &mut Vec<u8>, named: bool, numbers: &[u64]) -> Result<(), AllocError>
+        ensures { OnOk result (out.new.items ≡ out.old.items
+            ++ json_more (json_line named self.entry.ledger.now.names) numbers.now) }
+    {
+        for number in numbers {
+            out.extend_from_slice(b",")?;
+            self.write_member(out, named, *number)?;
+        }
+        Ok(())
+    }
+
+    fn write_member(self, out: &mut Vec<u8>, named: bool, number: u64) -> Result<(), AllocError>
+        ensures { OnOk result (out.new.items ≡ out.old.items
+            ++ json_line named self.entry.ledger.now.names number) }
+    {
+        if named {
+            return append_text(self.ledger.names().at(number), out);
+        }
+        append_number(number as usize, out)
+    }
+
+    // A refused line.
+    fn write_refused_object(
+        self,
+        out: &mut Vec<u8>,
+        line: u64,
+        refusal: Refusal,
+    ) -> Result<(), AllocError>
+        ensures { OnOk result (out.new.items ≡ out.old.items
+            ++ refused_object self.entry.listing self.entry.ledger.now.names (line, refusal)) }
+    {
+        out.extend_from_slice(b"{\"line\":")?;
+        append_number(line as usize, out)?;
+        self.write_name(out, line)?;
+        append_number_member(b"refused", usize::from(refusal.number()), out)?;
+        append_text_member(b"name", refusal.name().as_bytes(), out)?;
+        append_number_member(b"place", refusal.place(), out)?;
+        out.extend_from_slice(b"}\n")
+    }
+
+    fn write_name(self, out: &mut Vec<u8>, number: u64) -> Result<(), AllocError>
+        ensures { OnOk result (out.new.items ≡ out.old.items
+            ++ name_member self.entry.listing self.entry.ledger.now.names number) }
+    {
+        if self.listing.names {
+            return append_text_member(b"line_name", self.ledger.names().at(number), out);
+        }
+        Ok(())
     }
 }
 

@@ -2,10 +2,7 @@
 //! ledgers, catalogues of numbered lines that were read.
 #![tactic(auto)]
 
-mod adding;
 mod catalogue;
-mod group_cutter;
-mod group_objects;
 mod group_text;
 pub mod laws;
 mod ledger;

@@ -31,15 +31,6 @@ impl Model for KnownLine {
 }
 
 impl KnownLine {
-    fn none(alloc: Global) -> KnownLine
-        ensures { result.group ≡ None }
-    {
-        KnownLine {
-            text: Vec::new(alloc),
-            group: None,
-        }
-    }
-
     // The place of the group of this text, where it is this line's.
     fn group_of(&self, text: &[u8]) -> Option<usize>
         ensures { IfSome result (λ at. (self.now.text ≡ text.now) × (self.now.group ≡ Some at)) }
@@ -159,7 +150,10 @@ fn no_lines(alloc: Global) -> Result<Vec<KnownLine>, AllocError>
 {
     let mut lines = Vec::with_capacity(alloc, PLACES)?;
     for place in 0..PLACES {
-        lines.push(KnownLine::none(alloc))?;
+        lines.push(KnownLine {
+            text: Vec::new(alloc),
+            group: None,
+        })?;
     }
     Ok(lines)
 }

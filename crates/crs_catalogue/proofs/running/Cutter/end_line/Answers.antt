@@ -1,7 +1,7 @@
 use Rattle.std.proofs.Common.{◌≡◌, ◌∙◌, ap, length, rules, sym, vec_len, ◌==◌}
 use Rattle.std.proofs.lemmas.Result.{IfOk-weaker}
 use Rattle.crs_catalogue.proofs.GroupCutLemmas.{cut-joined, cut-over, cut-straight}
-use Rattle.crs_catalogue.proofs.group_cutter.Cutter.end_line.Goals as goal
+use Rattle.crs_catalogue.proofs.running.Cutter.end_line.Goals as goal
 
 pub returns-then-is_over-clause-fault : goal.returns-then-is_over-clause-fault
 returns-then-is_over-clause-fault g c =

@@ -1,6 +1,6 @@
 use Rattle.std.proofs.Common.{◌≡◌, ◌∙◌, ap, length, rules, sym, vec_len, ◌==◌}
 use Rattle.crs_catalogue.proofs.GroupCutLemmas.{ended-ledger, last-ledger}
-use Rattle.crs_catalogue.proofs.group_cutter.Cutter.finish.Goals as goal
+use Rattle.crs_catalogue.proofs.running.Cutter.finish.Goals as goal
 
 pub returns-then-is_empty-clause-lines : goal.returns-then-is_empty-clause-lines
 returns-then-is_empty-clause-lines g c =

@@ -1,6 +1,6 @@
 use Rattle.std.proofs.Common.{◌≡◌, ◌+◌, ◌≤◌, ◌++◌, ℕ, List, length}
 use Rattle.crs_catalogue.specs.GroupCutting.{IsCutTo}
-use Rattle.crs_catalogue.proofs.group_cutter.Cutter.take.Given as goal
+use Rattle.crs_catalogue.proofs.running.Cutter.take.Given as goal
 
 abbrev pub invariant-loop-line : goal.invariant-loop-line
 invariant-loop-line g l =

@@ -4,7 +4,7 @@ use Rattle.crs_streams.specs.Prelude.{HasNoFeed}
 use Rattle.crs_catalogue.specs.GroupCutting.{IsCutFault, IsCutTo}
 use Rattle.crs_catalogue.proofs.FaultLemmas.{handed-on}
 use Rattle.crs_catalogue.proofs.GroupCutLemmas.{keep-fault, piece-end-fault, piece-fault, piece-kept, piece-step}
-use Rattle.crs_catalogue.proofs.group_cutter.Cutter.take.Goals as goal
+use Rattle.crs_catalogue.proofs.running.Cutter.take.Goals as goal
 
 pub loop-line-init : goal.loop-line-init
 loop-line-init g c = record {
