@@ -1,12 +1,12 @@
 //! Names and units that count as others.
-ghost use Rattle.std.specs.Prelude.{◌≡◌, ◌++◌, [], ◌∷◌, OnErr, OnOk, drop, length, take};
+ghost use Rattle.std.specs.Prelude.{◌≡◌, ◌++◌, [], ◌∷◌, List, OnErr, OnOk, drop, length, take, ℕ};
 ghost use Rattle.std.specs.Option.{option_copied};
 ghost use Rattle.std.specs.Str.{bytes_eq};
 ghost use Rattle.crs_decimal.specs.Plain.{plain};
 ghost use Rattle.crs_value.specs.Sound.{Each, IsText};
-ghost use Rattle.crs_rules.specs.Firsts.{name_digest, unit_digest};
-ghost use Rattle.crs_rules.specs.Rules.{first_name, first_that, is_name_alias, is_unit_alias};
-ghost use Rattle.crs_rules.specs.SoundRules.{IsUnitAlias};
+ghost use Rattle.crs_rules.specs.Firsts.{AreFound, name_digest, unit_digest};
+ghost use Rattle.crs_rules.specs.Rules.{NameAliasParts, UnitAliasParts, first_name, first_that, is_name_alias, is_unit_alias};
+ghost use Rattle.crs_rules.specs.SoundRules.{IsNameAlias, IsUnitAlias};
 
 use crate::firsts::Firsts;
 use crs_decimal::Decimal;
@@ -29,9 +29,6 @@ pub(crate) struct NameAlias {
 }
 
 impl Model for NameAlias {
-    ghost use Rattle.crs_rules.specs.Rules.{NameAliasParts};
-    ghost use Rattle.crs_rules.specs.SoundRules.{IsNameAlias};
-
     ghost Value = { NameAliasParts };
 
     ghost view = { λ a. record { class = a.class; alias = a.alias.items; name = a.name.items } };
@@ -50,9 +47,6 @@ pub(crate) struct UnitAlias {
 }
 
 impl Model for UnitAlias {
-    ghost use Rattle.crs_rules.specs.Rules.{UnitAliasParts};
-    ghost use Rattle.crs_rules.specs.SoundRules.{IsUnitAlias};
-
     ghost Value = { UnitAliasParts };
 
     ghost view = { λ a. record {
@@ -75,8 +69,6 @@ fn rest_of<T>(items: &[T], from: usize) -> &[T]
 
 // What counts as another, and is looked for by a digest.
 pub(crate) trait Alias: Sized + Drop {
-    ghost use Rattle.std.specs.Prelude.{ℕ};
-
     ghost digest: { Self → ℕ };
 
     fn digest(&self) -> u64
@@ -84,8 +76,6 @@ pub(crate) trait Alias: Sized + Drop {
 }
 
 impl Alias for NameAlias {
-    ghost use Rattle.crs_rules.specs.Firsts.{name_digest};
-
     ghost digest = { λ a. name_digest a.class a.alias };
 
     fn digest(&self) -> u64 {
@@ -94,8 +84,6 @@ impl Alias for NameAlias {
 }
 
 impl Alias for UnitAlias {
-    ghost use Rattle.crs_rules.specs.Firsts.{unit_digest};
-
     ghost digest = { λ a. unit_digest a.alias a.alias_factor.digits };
 
     fn digest(&self) -> u64 {
@@ -111,10 +99,7 @@ pub(crate) struct Aliases<A: Alias> {
 }
 
 impl<A: Alias> Model for Aliases<A> {
-    ghost use Rattle.std.specs.Prelude as std;
-    ghost use Rattle.crs_rules.specs.Firsts.{AreFound};
-
-    ghost Value = { std.List A };
+    ghost Value = { List A };
 
     ghost view = { λ known. known.aliases.items };
 

@@ -1,6 +1,6 @@
 //! Where aliases are looked for: for each digest a place before which no alias has it. What stands there is compared, so
 //! no answer rests on a digest.
-ghost use Rattle.std.specs.Prelude.{◌≡◌, ◌↔◌, [], IsTrue, OnErr, OnOk};
+ghost use Rattle.std.specs.Prelude.{◌≡◌, ◌↔◌, [], IsTrue, List, OnErr, OnOk, ℕ};
 ghost use Rattle.crs_rules.specs.Firsts.{IsFound, IsNoted, place_of};
 
 use indexmap::IndexMap;
@@ -13,8 +13,6 @@ pub(crate) struct Firsts {
 }
 
 impl Model for Firsts {
-    ghost use Rattle.std.specs.Prelude.{ℕ, List};
-
     ghost Value = { List (ℕ × ℕ) };
 
     ghost view = { λ firsts. firsts.places.entries };

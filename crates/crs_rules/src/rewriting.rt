@@ -1,9 +1,10 @@
 //! CRSs under rules, rewritten in place.
-ghost use Rattle.std.specs.Prelude.{◌≡◌};
+ghost use Rattle.std.specs.Prelude.{◌≡◌, map};
 ghost use Rattle.std.specs.Option.{option_map};
+ghost use Rattle.crs_rules.specs.Rules.{Meaning, meaning};
 
 use crate::rules::Rules;
-use crs_value::Change;
+use crs_value::{Change, List};
 
 pub(crate) mod crs;
 mod frames;
@@ -12,17 +13,40 @@ mod parts;
 mod systems;
 mod usages;
 
-// What rules do to each of some values.
+// A part that rules change.
+trait Part<'a>: Sized + Drop {
+    ghost under: { Meaning → Self → Self };
+
+    fn rewrite(&mut self, rules: &'a Rules)
+        ensures { self.new ≡ under (meaning rules.now) self.old };
+}
+
+// Rewrites a part that may be missing.
+fn rewrite_part<'a, T: Part<'a>>(part: &mut Option<T>, rules: &'a Rules)
+    ensures { part.new ≡ option_map (T.under (meaning rules.now)) part.old }
+{
+    if let Some(found) = part {
+        found.rewrite(rules);
+    }
+}
+
+// What rules do to each member of a list.
 #[derive(Drop)]
 struct Rewriting<'a> {
     rules: &'a Rules,
 }
 
-// Changes a part that may be missing.
-fn change_part<T, C: Change<T>>(part: &mut Option<T>, change: &C)
-    ensures { part.new ≡ option_map (C.changed change.now) part.old }
-{
-    if let Some(found) = part {
-        change.change(found);
+impl<'a, T: Part<'a>> Change<T> for Rewriting<'a> {
+    ghost changed = { λ c part. T.under (meaning c.rules.now) part };
+
+    fn change(&self, value: &mut T) {
+        value.rewrite(self.rules);
     }
+}
+
+// Rewrites each member of a list.
+fn rewrite_each<'a, T: Part<'a>>(members: &mut List<T>, rules: &'a Rules)
+    ensures { members.new ≡ map (T.under (meaning rules.now)) members.old }
+{
+    members.change_each(&Rewriting { rules });
 }

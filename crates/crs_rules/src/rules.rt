@@ -3,6 +3,7 @@ ghost use Rattle.std.specs.Prelude.{◌≡◌, ◌++◌, ◌∷◌, [], OnErr, O
 ghost use Rattle.crs_value.specs.BadValue.{IsAboveZero};
 ghost use Rattle.crs_value.specs.Sound.{IsText};
 ghost use Rattle.crs_rules.specs.NoRules.{no_rules};
+ghost use Rattle.crs_rules.specs.Rules.{RulesParts};
 ghost use Rattle.crs_rules.specs.SoundRules.{AreRules};
 
 use crate::aliases::{Aliases, NameAlias, UnitAlias};
@@ -22,9 +23,6 @@ pub struct Rules {
 }
 
 impl Model for Rules {
-    ghost use Rattle.crs_rules.specs.Rules.{RulesParts};
-    ghost use Rattle.crs_rules.specs.SoundRules.{AreRules};
-
     ghost Value = { RulesParts };
 
     ghost view = { λ r. record { names = r.names; units = r.units; uncounted = r.uncounted } };

@@ -2,25 +2,26 @@
 ghost use Rattle.std.specs.Prelude.{◌≡◌, ◌&&◌, OnOk};
 ghost use Rattle.std.specs.List.{list_all};
 ghost use Rattle.std.specs.Option.{is_some};
+ghost use Rattle.crs_shape.specs.declared.class.Class.TheVariants as classes;
 ghost use Rattle.crs_value.specs.declared.values.level.Level.TheVariants as levels;
 ghost use Rattle.crs_normal.specs.PartTexts.{axis_text};
-ghost use Rattle.crs_rules.specs.Rewritten.{across, base, compound, counted, geodetic, geoid_models, has_own_unit, is_idle};
+ghost use Rattle.crs_rules.specs.Rewritten.{across, base, compound, counted, geodetic, geoid_models, has_own_unit, is_idle, named};
 ghost use Rattle.crs_rules.specs.Rewritten.{projected, renamed, rewritten, units, vertical};
 ghost use Rattle.crs_rules.specs.Rules.{meaning};
 
 use crate::aliases::first_name;
 use crate::laws::rules_are_sound;
-use crate::rewriting::Rewriting;
-use crate::rewriting::frames::{dynamics, geodetic_frame, optional_meridian, vertical_frame};
+use crate::rewriting::frames::{dynamics, geodetic_frame, vertical_frame};
 use crate::rewriting::order::arrange_crs;
-use crate::rewriting::parts::{conversion, counted_name, optional_unit};
+use crate::rewriting::parts::{conversion, counted_name};
 use crate::rewriting::systems::system;
 use crate::rewriting::usages::tail;
+use crate::rewriting::{Part, rewrite_each, rewrite_part};
 use crate::rules::Rules;
 use crs_shape::Class;
 use crs_value::{
-    Base, Change, Compound, Crs, Geodetic, GeoidModel, Horizontal, List, Meridian, Parameter,
-    Projected, Unit, Vertical,
+    Base, Compound, Crs, Geodetic, GeoidModel, Horizontal, List, Meridian, Parameter, Projected,
+    Unit, Vertical,
 };
 use std::alloc::{AllocError, Global};
 
@@ -31,7 +32,7 @@ fn geodetic<'a>(alloc: Global, value: &mut Geodetic<'a>, rules: &'a Rules)
     value.name = counted_name(rules.uncounted.crs_names, value.name);
     dynamics(&mut value.dynamic, rules);
     geodetic_frame(alloc, &mut value.frame, rules);
-    optional_meridian(&mut value.meridian, rules);
+    rewrite_part(&mut value.meridian, rules);
     system(&mut value.system, rules);
     tail(&mut value.tail, rules);
 }
@@ -72,7 +73,7 @@ fn base_unit<'a>(unit_or_none: &mut Option<Unit<'a>>, idle: bool, rules: &'a Rul
     if rules.uncounted.base_units && idle {
         *unit_or_none = None;
     } else {
-        optional_unit(unit_or_none, rules);
+        rewrite_part(unit_or_none, rules);
     }
 }
 
@@ -83,7 +84,7 @@ fn base<'a>(alloc: Global, value: &mut Base<'a>, idle: bool, rules: &'a Rules)
     value.name = counted_name(rules.uncounted.base_names, value.name);
     dynamics(&mut value.dynamic, rules);
     geodetic_frame(alloc, &mut value.frame, rules);
-    optional_meridian(&mut value.meridian, rules);
+    rewrite_part(&mut value.meridian, rules);
     base_unit(&mut value.unit, idle, rules);
 }
 
@@ -107,16 +108,11 @@ fn projected<'a>(alloc: Global, value: &mut Projected<'a>, rules: &'a Rules)
 }
 
 // The geoid models of a vertical CRS under rules.
-impl<'a> Change<GeoidModel<'a>> for Rewriting<'a> {
-    ghost use Rattle.crs_shape.specs.declared.class.Class.TheVariants as classes;
-    ghost use Rattle.crs_rules.specs.Rewritten.{named};
-    ghost use Rattle.crs_rules.specs.Rules.{meaning};
+impl<'a> Part<'a> for GeoidModel<'a> {
+    ghost under = { λ r m. named r classes.GeoidModel m };
 
-    ghost changed = { λ c m. named (meaning c.rules.now) classes.GeoidModel m };
-
-    fn change(&self, value: &mut GeoidModel<'a>) {
-        let rules = self.rules;
-        value.name = first_name(&rules.names, Class::GeoidModel, value.name);
+    fn rewrite(&mut self, rules: &'a Rules) {
+        self.name = first_name(&rules.names, Class::GeoidModel, self.name);
     }
 }
 
@@ -126,7 +122,7 @@ fn geoid_models<'a>(models: &mut List<GeoidModel<'a>>, rules: &'a Rules)
     if rules.uncounted.geoid_models {
         models.clear();
     } else {
-        models.change_each(&Rewriting { rules });
+        rewrite_each(models, rules);
     }
 }
 

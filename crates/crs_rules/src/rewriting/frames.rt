@@ -1,6 +1,7 @@
 //! Frames, ensembles and dynamic parts.
 ghost use Rattle.std.specs.Prelude.{◌≡◌};
-ghost use Rattle.std.specs.Option.{option_copied, option_map};
+ghost use Rattle.std.specs.Option.{option_copied};
+ghost use Rattle.crs_shape.specs.declared.class.Class.TheVariants as classes;
 ghost use Rattle.crs_value.specs.Sound.{IsText};
 ghost use Rattle.crs_rules.specs.Rewritten.{counted, counted_frame, datum, dynamic, dynamics, ellipsoid, ensemble, frame_or_ensemble};
 ghost use Rattle.crs_rules.specs.Rewritten.{geodetic_frame, meridian, named, stemmed, vertical_frame};
@@ -8,47 +9,30 @@ ghost use Rattle.crs_rules.specs.Rules.{meaning, without_ensemble};
 
 use crate::aliases::first_name;
 use crate::laws::rules_are_sound;
-use crate::rewriting::Rewriting;
-use crate::rewriting::parts::optional_unit;
+use crate::rewriting::{Part, rewrite_each, rewrite_part};
 use crate::rules::Rules;
 use crs_decimal::Decimal;
 use crs_shape::Class;
-use crs_value::{
-    Change, Datum, DeformationModel, Dynamic, Ellipsoid, Ensemble, Frame, Member, Meridian,
-};
+use crs_value::{Datum, DeformationModel, Dynamic, Ellipsoid, Ensemble, Frame, Member, Meridian};
 use std::alloc::Global;
 
-fn ellipsoid<'a>(value: &mut Ellipsoid<'a>, rules: &'a Rules)
-    ensures { value.new ≡ ellipsoid (meaning rules.now) value.old }
-{
-    rules_are_sound(rules);
-    value.name = first_name(&rules.names, Class::Ellipsoid, value.name);
-    optional_unit(&mut value.unit, rules);
-}
+impl<'a> Part<'a> for Ellipsoid<'a> {
+    ghost under = { ellipsoid };
 
-fn meridian<'a>(value: &mut Meridian<'a>, rules: &'a Rules)
-    ensures { value.new ≡ meridian (meaning rules.now) value.old }
-{
-    rules_are_sound(rules);
-    value.name = first_name(&rules.names, Class::PrimeMeridian, value.name);
-    optional_unit(&mut value.unit, rules);
-}
-
-// A prime meridian that may be missing.
-pub(super) fn optional_meridian<'a>(meridian_or_none: &mut Option<Meridian<'a>>, rules: &'a Rules)
-    ensures { meridian_or_none.new ≡ option_map (meridian (meaning rules.now)) meridian_or_none.old }
-{
-    if let Some(found) = meridian_or_none {
-        meridian(found, rules);
+    fn rewrite(&mut self, rules: &'a Rules) {
+        rules_are_sound(rules);
+        self.name = first_name(&rules.names, Class::Ellipsoid, self.name);
+        rewrite_part(&mut self.unit, rules);
     }
 }
 
-// An ellipsoid that may be missing.
-fn optional_ellipsoid<'a>(ellipsoid_or_none: &mut Option<Ellipsoid<'a>>, rules: &'a Rules)
-    ensures { ellipsoid_or_none.new ≡ option_map (ellipsoid (meaning rules.now)) ellipsoid_or_none.old }
-{
-    if let Some(found) = ellipsoid_or_none {
-        ellipsoid(found, rules);
+impl<'a> Part<'a> for Meridian<'a> {
+    ghost under = { meridian };
+
+    fn rewrite(&mut self, rules: &'a Rules) {
+        rules_are_sound(rules);
+        self.name = first_name(&rules.names, Class::PrimeMeridian, self.name);
+        rewrite_part(&mut self.unit, rules);
     }
 }
 
@@ -71,22 +55,17 @@ fn datum<'a>(value: &mut Datum<'a>, class: Class, rules: &'a Rules)
 {
     rules_are_sound(rules);
     value.name = first_name(&rules.names, class, value.name);
-    optional_ellipsoid(&mut value.ellipsoid, rules);
+    rewrite_part(&mut value.ellipsoid, rules);
     value.anchor = counted_text(rules.uncounted.anchors, value.anchor);
     value.anchor_epoch = counted_number(rules.uncounted.anchors, value.anchor_epoch);
 }
 
 // The members of an ensemble under rules.
-impl<'a> Change<Member<'a>> for Rewriting<'a> {
-    ghost use Rattle.crs_shape.specs.declared.class.Class.TheVariants as classes;
-    ghost use Rattle.crs_rules.specs.Rewritten.{named};
-    ghost use Rattle.crs_rules.specs.Rules.{meaning};
+impl<'a> Part<'a> for Member<'a> {
+    ghost under = { λ r m. named r classes.Member m };
 
-    ghost changed = { λ c m. named (meaning c.rules.now) classes.Member m };
-
-    fn change(&self, value: &mut Member<'a>) {
-        let rules = self.rules;
-        value.name = first_name(&rules.names, Class::Member, value.name);
+    fn rewrite(&mut self, rules: &'a Rules) {
+        self.name = first_name(&rules.names, Class::Member, self.name);
     }
 }
 
@@ -95,8 +74,8 @@ fn ensemble<'a>(value: &mut Ensemble<'a>, class: Class, rules: &'a Rules)
 {
     rules_are_sound(rules);
     value.name = first_name(&rules.names, class, value.name);
-    value.members.change_each(&Rewriting { rules });
-    optional_ellipsoid(&mut value.ellipsoid, rules);
+    rewrite_each(&mut value.members, rules);
+    rewrite_part(&mut value.ellipsoid, rules);
 }
 
 // A name without one ` ensemble` at its end.
@@ -160,12 +139,12 @@ pub(super) fn vertical_frame<'a>(alloc: Global, frame: &mut Frame<'a>, rules: &'
     frame_or_ensemble(frame, Class::VerticalFrame, Class::VerticalEnsemble, rules);
 }
 
-// A deformation model that may be missing.
-fn optional_model<'a>(model_or_none: &mut Option<DeformationModel<'a>>, rules: &'a Rules)
-    ensures { model_or_none.new ≡ option_map (named (meaning rules.now) Class.DeformationModel) model_or_none.old }
-{
-    if let Some(found) = model_or_none {
-        found.name = first_name(&rules.names, Class::DeformationModel, found.name);
+// Deformation models under rules.
+impl<'a> Part<'a> for DeformationModel<'a> {
+    ghost under = { λ r m. named r classes.DeformationModel m };
+
+    fn rewrite(&mut self, rules: &'a Rules) {
+        self.name = first_name(&rules.names, Class::DeformationModel, self.name);
     }
 }
 
@@ -173,7 +152,7 @@ fn dynamic<'a>(value: &mut Dynamic<'a>, rules: &'a Rules)
     ensures { value.new ≡ dynamic (meaning rules.now) value.old }
 {
     rules_are_sound(rules);
-    optional_model(&mut value.model, rules);
+    rewrite_part(&mut value.model, rules);
 }
 
 // A dynamic part that may be missing.

@@ -25,8 +25,6 @@ struct AxisText {
 }
 
 impl Model for AxisText {
-    ghost use Rattle.std.specs.Prelude.{ℕ, List};
-
     ghost Value = { List ℕ };
 
     ghost view = { λ text. text.bytes.items };

@@ -1,32 +1,25 @@
 //! Units, nodes that have a name and identifiers alone, and parts of conversions.
 ghost use Rattle.std.specs.Prelude.{◌≡◌};
 ghost use Rattle.crs_value.specs.Sound.{IsText};
-ghost use Rattle.crs_rules.specs.Rewritten.{conversion, counted_name, named, parameter, units};
-ghost use Rattle.crs_rules.specs.Rules.{first_unit, meaning};
+ghost use Rattle.crs_rules.specs.Rewritten.{conversion, counted_name, named, parameter};
+ghost use Rattle.crs_rules.specs.Rules.{meaning};
 
 use crate::aliases::{first_name, unit_alias};
 use crate::laws::rules_are_sound;
-use crate::rewriting::Rewriting;
+use crate::rewriting::{Part, rewrite_each, rewrite_part};
 use crate::rules::Rules;
 use crs_shape::Class;
-use crs_value::{Change, Conversion, Method, Parameter, Unit};
+use crs_value::{Conversion, Method, Parameter, Unit};
 
-pub(super) fn unit<'a>(value: &mut Unit<'a>, rules: &'a Rules)
-    ensures { value.new ≡ first_unit rules.now.units value.old }
-{
-    rules_are_sound(rules);
-    if let Some(alias) = unit_alias(&rules.units, value) {
-        value.name = alias.name.as_slice();
-        value.factor = alias.factor;
-    }
-}
+impl<'a> Part<'a> for Unit<'a> {
+    ghost under = { λ r u. r.unit u };
 
-// A unit that may be missing.
-pub(super) fn optional_unit<'a>(unit_or_none: &mut Option<Unit<'a>>, rules: &'a Rules)
-    ensures { unit_or_none.new ≡ units (meaning rules.now) unit_or_none.old }
-{
-    if let Some(found) = unit_or_none {
-        unit(found, rules);
+    fn rewrite(&mut self, rules: &'a Rules) {
+        rules_are_sound(rules);
+        if let Some(alias) = unit_alias(&rules.units, self) {
+            self.name = alias.name.as_slice();
+            self.factor = alias.factor;
+        }
     }
 }
 
@@ -36,23 +29,13 @@ fn method<'a>(value: &mut Method<'a>, rules: &'a Rules)
     value.name = first_name(&rules.names, Class::Method, value.name);
 }
 
-fn parameter<'a>(value: &mut Parameter<'a>, rules: &'a Rules)
-    ensures { value.new ≡ parameter (meaning rules.now) value.old }
-{
-    rules_are_sound(rules);
-    value.name = first_name(&rules.names, Class::Parameter, value.name);
-    optional_unit(&mut value.unit, rules);
-}
+impl<'a> Part<'a> for Parameter<'a> {
+    ghost under = { parameter };
 
-// The parameters of a conversion under rules.
-impl<'a> Change<Parameter<'a>> for Rewriting<'a> {
-    ghost use Rattle.crs_rules.specs.Rewritten.{parameter};
-    ghost use Rattle.crs_rules.specs.Rules.{meaning};
-
-    ghost changed = { λ c p. parameter (meaning c.rules.now) p };
-
-    fn change(&self, value: &mut Parameter<'a>) {
-        parameter(value, self.rules);
+    fn rewrite(&mut self, rules: &'a Rules) {
+        rules_are_sound(rules);
+        self.name = first_name(&rules.names, Class::Parameter, self.name);
+        rewrite_part(&mut self.unit, rules);
     }
 }
 
@@ -71,5 +54,5 @@ pub(super) fn conversion<'a>(value: &mut Conversion<'a>, rules: &'a Rules)
     rules_are_sound(rules);
     value.name = counted_name(rules.uncounted.conversion_names, value.name);
     method(&mut value.method, rules);
-    value.parameters.change_each(&Rewriting { rules });
+    rewrite_each(&mut value.parameters, rules);
 }

@@ -1,37 +1,28 @@
 //! Usages and the ends of CRSs.
 ghost use Rattle.std.specs.Prelude.{◌≡◌};
-ghost use Rattle.crs_rules.specs.Rewritten.{tail};
+ghost use Rattle.crs_rules.specs.Rewritten.{extent, tail, usage};
 ghost use Rattle.crs_rules.specs.Rules.{meaning};
 
 use crate::laws::rules_are_sound;
-use crate::rewriting::parts::optional_unit;
-use crate::rewriting::{Rewriting, change_part};
+use crate::rewriting::{Part, rewrite_each, rewrite_part};
 use crate::rules::Rules;
-use crs_value::{Change, Extent, Tail, Usage};
+use crs_value::{Extent, Tail, Usage};
 
-// Extents under rules.
-impl<'a> Change<Extent<'a>> for Rewriting<'a> {
-    ghost use Rattle.crs_rules.specs.Rewritten.{extent};
-    ghost use Rattle.crs_rules.specs.Rules.{meaning};
+impl<'a> Part<'a> for Extent<'a> {
+    ghost under = { extent };
 
-    ghost changed = { λ c e. extent (meaning c.rules.now) e };
-
-    fn change(&self, value: &mut Extent<'a>) {
-        rules_are_sound(self.rules);
-        optional_unit(&mut value.unit, self.rules);
+    fn rewrite(&mut self, rules: &'a Rules) {
+        rules_are_sound(rules);
+        rewrite_part(&mut self.unit, rules);
     }
 }
 
-// Usages under rules.
-impl<'a> Change<Usage<'a>> for Rewriting<'a> {
-    ghost use Rattle.crs_rules.specs.Rewritten.{usage};
-    ghost use Rattle.crs_rules.specs.Rules.{meaning};
+impl<'a> Part<'a> for Usage<'a> {
+    ghost under = { usage };
 
-    ghost changed = { λ c u. usage (meaning c.rules.now) u };
-
-    fn change(&self, value: &mut Usage<'a>) {
-        rules_are_sound(self.rules);
-        change_part(&mut value.extent, self);
+    fn rewrite(&mut self, rules: &'a Rules) {
+        rules_are_sound(rules);
+        rewrite_part(&mut self.extent, rules);
     }
 }
 
@@ -39,6 +30,6 @@ pub(super) fn tail<'a>(value: &mut Tail<'a>, rules: &'a Rules)
     ensures { value.new ≡ tail (meaning rules.now) value.old }
 {
     rules_are_sound(rules);
-    value.usages.change_each(&Rewriting { rules });
-    change_part(&mut value.bare_parts, &Rewriting { rules });
+    rewrite_each(&mut value.usages, rules);
+    rewrite_part(&mut value.bare_parts, rules);
 }

@@ -4,5 +4,5 @@ use Rattle.crs_rules.proofs.rewriting.systems.system.Goals as goal
 
 pub invariant_of-value : goal.invariant_of-value
 invariant_of-value c =
-    simp (c.change_each.ensures, c.optional_unit.ensures)
+    simp (c.rewrite_each.ensures, c.rewrite_part.ensures)
     (system-sound _ (sound-meaning c.args.rules.now c.rules_are_sound.ensures) _ c.value.invariant)

@@ -1,0 +1,8 @@
+use Rattle.crs_rules.proofs.PartLemmas.{ellipsoid-sound}
+use Rattle.crs_rules.proofs.AliasLemmas.{sound-meaning}
+use Rattle.crs_rules.proofs.rewriting.frames.EllipsoidPart.rewrite.Goals as goal
+
+pub invariant_of-self : goal.invariant_of-self
+invariant_of-self c =
+    simp (c.first_name-self-inside.ensures.name, c.rewrite_part.ensures, ← c.rules.view_is)
+    (ellipsoid-sound _ (sound-meaning _ (rw (← c.rules.view_is) at c.rules_are_sound.ensures)) _ c.self.invariant)

@@ -1,8 +1,0 @@
-use Rattle.crs_rules.proofs.CrsLemmas.{along-sound}
-use Rattle.crs_rules.proofs.AliasLemmas.{sound-meaning}
-use Rattle.crs_rules.proofs.rewriting.systems.axis_meridian.Goals as goal
-
-pub invariant_of-value : goal.invariant_of-value
-invariant_of-value c =
-    simp c.unit.ensures
-    (along-sound _ (sound-meaning c.args.rules.now c.rules_are_sound.ensures) _ c.value.invariant)
