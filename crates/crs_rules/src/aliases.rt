@@ -170,28 +170,16 @@ fn name_alias_among<'a>(
     None
 }
 
-// The alias that a name of a node of this class is, of many.
-fn name_alias_of_many<'a>(
-    names: &'a Aliases<NameAlias>,
-    class: Class,
-    name: &[u8],
-) -> Option<&'a NameAlias>
-    ensures { option_copied result ≡ first_that (is_name_alias class name.now) names.now }
-{
-    match names.firsts.place(name_digest(class, name)) {
-        None => None,
-        Some(first) => name_alias_among(rest_of(names.aliases.as_slice(), first), class, name),
-    }
-}
-
 // The alias that a name of a node of this class is.
 fn name_alias<'a>(names: &'a Aliases<NameAlias>, class: Class, name: &[u8]) -> Option<&'a NameAlias>
     ensures { option_copied result ≡ first_that (is_name_alias class name.now) names.now }
 {
-    if names.aliases.len() > FEW {
-        name_alias_of_many(names, class, name)
-    } else {
-        name_alias_among(names.aliases.as_slice(), class, name)
+    if names.aliases.len() <= FEW {
+        return name_alias_among(names.aliases.as_slice(), class, name);
+    }
+    match names.firsts.place(name_digest(class, name)) {
+        None => None,
+        Some(first) => name_alias_among(rest_of(names.aliases.as_slice(), first), class, name),
     }
 }
 
@@ -250,11 +238,17 @@ fn unit_alias_among<'a>(aliases: &'a [UnitAlias], unit: &Unit<'_>) -> Option<&'a
     None
 }
 
-// The alias that a unit is, of many.
-fn unit_alias_of_many<'a>(units: &'a Aliases<UnitAlias>, unit: &Unit<'_>) -> Option<&'a UnitAlias>
+// The alias that a unit is.
+pub(crate) fn unit_alias<'a>(
+    units: &'a Aliases<UnitAlias>,
+    unit: &Unit<'_>,
+) -> Option<&'a UnitAlias>
     requires { Each IsUnitAlias units.now }
     ensures { option_copied result ≡ first_that (is_unit_alias unit.now) units.now }
 {
+    if units.aliases.len() <= FEW {
+        return unit_alias_among(units.aliases.as_slice(), unit);
+    }
     denotes_one();
     normal_is_one();
     plain_is_the_one();
@@ -264,20 +258,5 @@ fn unit_alias_of_many<'a>(units: &'a Aliases<UnitAlias>, unit: &Unit<'_>) -> Opt
     {
         None => None,
         Some(first) => unit_alias_among(rest_of(units.aliases.as_slice(), first), unit),
-    }
-}
-
-// The alias that a unit is.
-pub(crate) fn unit_alias<'a>(
-    units: &'a Aliases<UnitAlias>,
-    unit: &Unit<'_>,
-) -> Option<&'a UnitAlias>
-    requires { Each IsUnitAlias units.now }
-    ensures { option_copied result ≡ first_that (is_unit_alias unit.now) units.now }
-{
-    if units.aliases.len() > FEW {
-        unit_alias_of_many(units, unit)
-    } else {
-        unit_alias_among(units.aliases.as_slice(), unit)
     }
 }

@@ -5,7 +5,7 @@ use Rattle.crs_rules.specs.Firsts.{place_of, unit_digest}
 use Rattle.crs_rules.specs.Rules.{is_unit_alias}
 use Rattle.crs_rules.proofs.FirstsLemmas.{from-first, none-there}
 use Rattle.crs_rules.proofs.LookUpLemmas.{digest_of_unit, units-have}
-use Rattle.crs_rules.proofs.aliases.unit_alias_of_many.Goals as goal
+use Rattle.crs_rules.proofs.aliases.unit_alias.Goals as goal
 
 pub returns-in-None : goal.returns-in-None
 returns-in-None c =
@@ -19,7 +19,7 @@ returns-in-None c =
 pub returns-in-Some : goal.returns-in-Some
 returns-in-Some c =
     let digest = simp c.digits.ensures.value at c.unit_digest.ensures ∙ ap (λ (u : UnitParts). unit_digest u.name u.factor.digits) c.unit.view_is in
-    simp (c.unit_alias_among.ensures, c.rest_of.ensures, c.as_slice.ensures.value, ← c.units.view_is)
+    simp (c.unit_alias_among-in-Some.ensures, c.rest_of.ensures, c.as_slice-in-Some.ensures.value, ← c.units.view_is)
     (from-first digest_of_unit (is_unit_alias c.args.unit.now) _ c.units.inside.firsts _ _
     (units-have c.denotes_one.ensures c.plain_is_the_one.ensures.denotes c.args.unit.now
     (subst (λ (u : UnitParts). IsNormal u.factor) c.unit.view_is c.unit.invariant.factor) _ (rw (← c.units.view_is) at c.requires))
