@@ -1,6 +1,5 @@
 //! What classes are called where they are expected.
-ghost use Rattle.std.specs.Prelude.{◌≡◌, ◌++◌, ◌∷◌, [], OnOk, slice_index_or};
-ghost use Rattle.crs_text.specs.Keywords.{spelling_of};
+ghost use Rattle.std.specs.Prelude.{◌≡◌, ◌++◌, ◌∷◌, [], OnOk};
 ghost use Rattle.crs_explain.specs.ExpectedClasses.{class_names, names_of};
 
 use crate::names::{Name, push_name};
@@ -38,7 +37,9 @@ fn push_class(class: Class, out: &mut Vec<Name>) -> Result<(), AllocError>
     } else if class == Class::AxisUnit {
         push_two(b"LENGTHUNIT", b"ANGLEUNIT", out)
     } else {
-        push_name(first_spelling(keywords(class)), out)
+        // A class that is none of these has a keyword.
+        let keyword = keywords(class).first().unwrap_or(&Keyword::Id);
+        push_name(keyword.spelling(), out)
     }
 }
 
@@ -47,11 +48,4 @@ fn push_two(first: &[u8], second: &[u8], out: &mut Vec<Name>) -> Result<(), Allo
 {
     push_name(first, out)?;
     push_name(second, out)
-}
-
-// A class that is none of these has a keyword.
-fn first_spelling(keywords: &[Keyword]) -> &'static [u8]
-    ensures { result.now ≡ spelling_of (slice_index_or keywords.now 0 Keyword.Id) }
-{
-    keywords.first().unwrap_or(&Keyword::Id).spelling()
 }

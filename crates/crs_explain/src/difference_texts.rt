@@ -8,7 +8,8 @@ ghost use Rattle.crs_explain.specs.Differing.{AreDifferenceTexts, AreTexts, AreT
 ghost use Rattle.crs_explain.specs.DifferingTexts.{AreTextsOfOne, PartTexts};
 ghost use Rattle.crs_explain.specs.InOrder.{AreOrderedTexts};
 
-use crate::order::{StepWord, put_in_order};
+use crate::names::Name;
+use crate::order::put_in_order;
 use crate::set_texts::Sets;
 use crs_canon::write_content;
 use crs_same::{Content, Difference, Differences, differences, same};
@@ -89,7 +90,7 @@ pub(crate) fn ordered_texts<'a>(
     a: &Crs<'a>,
     b: &Crs<'a>,
     level: Level,
-    words: &[StepWord],
+    words: &[Name],
 ) -> Result<Option<Vec<DifferenceTexts>>, AllocError>
     ensures { IfOk result (λ found. MatchOption found (SameCrs level a.now b.now)
         (λ texts. (¬ SameCrs level a.now b.now) × AreOrderedTexts words.now level a.now b.now texts.items)) }

@@ -6,7 +6,7 @@ ghost use Rattle.crs_explain.specs.InOrder.{IsOrderedText};
 ghost use Rattle.crs_same.specs.SameCrs.{SameCrs};
 
 use crate::difference_texts::{DifferenceTexts, difference_texts, ordered_texts};
-use crate::order::StepWord;
+use crate::names::Name;
 use crate::pieces::Pieces;
 use crs_streams::append_escaped;
 use crs_value::{Crs, Level};
@@ -43,7 +43,7 @@ pub fn ordered_differences_text<'a>(
     a: &Crs<'a>,
     b: &Crs<'a>,
     level: Level,
-    words: &[StepWord],
+    words: &[Name],
 ) -> Result<Option<Vec<u8>>, AllocError>
     ensures { IfOk result (λ told. MatchOption told (SameCrs level a.now b.now)
         (λ text. (¬ SameCrs level a.now b.now) × IsOrderedText words.now level a.now b.now text.items)) }

@@ -28,7 +28,7 @@ mod units;
 mod unknown_word;
 
 pub use differences::{difference_pieces, differences_text, ordered_differences_text};
+pub use names::Name as StepWord;
 pub use objects::{difference_objects, refusal_object};
-pub use order::StepWord;
 pub use pieces::Pieces;
 pub use refusal::{ExplanationPieces, refusal_pieces, refusal_text};

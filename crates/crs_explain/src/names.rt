@@ -1,16 +1,17 @@
-//! Names of what could stand at a place, each by itself, listed, and as an array of JSON.
-ghost use Rattle.std.specs.Prelude.{◌≡◌, ◌++◌, ◌∷◌, [], OnOk};
+//! Names of what could stand at a place, each by itself, listed, and as an array of JSON; and the words of paths.
+ghost use Rattle.std.specs.Prelude.{◌≡◌, ◌++◌, ◌∷◌, [], IfOk, OnOk};
 ghost use Rattle.crs_explain.specs.Expectation.{listed};
 ghost use Rattle.crs_streams.specs.Json.{json_array, json_more, json_text};
 
 use crate::pieces::Pieces;
 use crs_streams::json::append_text;
-use std::alloc::AllocError;
+use std::alloc::{AllocError, Global};
 use std::marker::Model;
 
-/// A name, as bytes. Profile.
+/// A name of what could stand at a place; or a word of a path, as `datum`, and of an axis without its position, as
+/// `axis`. Profile.
 #[derive(Drop)]
-pub(crate) struct Name {
+pub struct Name {
     bytes: Vec<u8>,
 }
 
@@ -23,6 +24,16 @@ impl Model for Name {
 }
 
 impl Name {
+    /// The name or the word of these bytes. A word that no path has matches no step.
+    ///
+    /// `AllocError`: there is no memory for it.
+    pub fn new(alloc: Global, bytes: &[u8]) -> Result<Name, AllocError>
+        ensures { IfOk result (λ name. name ≡ bytes.now) }
+    {
+        let bytes = Vec::from_slice(alloc, bytes)?;
+        Ok(Name { bytes })
+    }
+
     /// Its bytes.
     pub(crate) fn bytes(&self) -> &[u8]
         ensures { result.now ≡ self.now }
@@ -35,8 +46,7 @@ impl Name {
 pub(crate) fn push_name(bytes: &[u8], out: &mut Vec<Name>) -> Result<(), AllocError>
     ensures { OnOk result (out.new.items ≡ out.old.items ++ bytes.now ∷ []) }
 {
-    let bytes = Vec::from_slice(*out.allocator(), bytes)?;
-    out.push(Name { bytes })?;
+    out.push(Name::new(*out.allocator(), bytes)?)?;
     Ok(())
 }
 

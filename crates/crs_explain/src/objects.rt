@@ -8,8 +8,7 @@ ghost use Rattle.crs_same.specs.SameCrs.{SameCrs};
 use crate::difference_texts::{DifferenceTexts, ordered_texts};
 use crate::expected_texts::ExpectedTexts;
 use crate::explanation::explanation;
-use crate::names::append_array;
-use crate::order::StepWord;
+use crate::names::{Name, append_array};
 use crate::place::word_at;
 use crate::sentences::SentenceTexts;
 use crs_streams::append_number;
@@ -57,7 +56,7 @@ pub fn difference_objects<'a>(
     a: &Crs<'a>,
     b: &Crs<'a>,
     level: Level,
-    words: &[StepWord],
+    words: &[Name],
 ) -> Result<Option<Vec<u8>>, AllocError>
     ensures { IfOk result (λ told. MatchOption told (SameCrs level a.now b.now)
         (λ text. (¬ SameCrs level a.now b.now) × AreOrderedObjects words.now level a.now b.now text.items)) }

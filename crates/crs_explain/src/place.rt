@@ -97,13 +97,10 @@ fn word_length(there: &[u8]) -> usize
     ensures value { result ≡ prefix_len is_of_word there.now }
     ensures within { result ≤ length there.now }
 {
-    there.iter().take_while(|it| is_of_word(**it)).count()
-}
-
-fn is_of_word(byte: u8) -> bool
-    ensures { result ≡ is_of_word byte }
-{
-    byte.is_ascii_alphanumeric() || byte == b'_'
+    there
+        .iter()
+        .take_while(|it| it.is_ascii_alphanumeric() || **it == b'_')
+        .count()
 }
 
 /// The bytes from a place on.
