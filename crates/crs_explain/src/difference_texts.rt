@@ -19,21 +19,11 @@ use std::marker::Model;
 
 /// What differs between two CRSs: its path, and its value in the first and in the second as the canonical text writes
 /// it, no bytes where there is nothing. Profile.
+#[derive(Drop)]
 pub(crate) struct DifferenceTexts {
     pub(crate) path: Vec<u8>,
     pub(crate) first: Vec<u8>,
     pub(crate) second: Vec<u8>,
-}
-
-// Hand-written: a derived drop is expanded wherever a value is dropped, which slows the proofs.
-impl Drop for DifferenceTexts {
-    fn drop(self) {
-        let DifferenceTexts {
-            path: _,
-            first: _,
-            second: _,
-        } = self;
-    }
 }
 
 impl Model for DifferenceTexts {

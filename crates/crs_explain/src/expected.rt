@@ -4,12 +4,11 @@ ghost use Rattle.crs_shape.specs.Expected.{may_come};
 ghost use Rattle.crs_shape.specs.FaultPlace.{IsShapeNumber};
 ghost use Rattle.crs_shape.specs.Keywords.{every_class};
 ghost use Rattle.crs_explain.specs.Expected.{IsExpected, IsExpectedIn};
-ghost use Rattle.crs_explain.specs.ExpectedClasses.{IsShapeExpected, names_of, node_word};
+ghost use Rattle.crs_explain.specs.ExpectedClasses.{IsShapeExpected, node_word};
 
 use crate::axes::axes_expected;
 use crate::class_names::push_names;
 use crate::expected_texts::ExpectedTexts;
-use crate::names::Name;
 use crate::place::{append_found, append_name, rest_of, word_at};
 use crate::unknown_word::word_expected;
 use crs_shape::{Class, Expected, classes, expected, nearest};
@@ -79,7 +78,9 @@ fn shape_expected(
     let node = node_text(alloc, rest_of(text, expected.place()), expected.parent())?;
     let mut found = Vec::new(alloc);
     append_found(rest_of(text, place), &mut found)?;
-    let names = names_in(alloc, &expected)?;
+    let may_come = classes_in(alloc, &expected)?;
+    let mut names = Vec::new(alloc);
+    push_names(&may_come, expected.may_end(), &mut names)?;
     let meant = meant_at(alloc, rest_of(text, place), &expected)?;
     Ok(Some(ExpectedTexts {
         node,
@@ -107,17 +108,6 @@ fn node_text(alloc: Global, there: &[u8], parent: Option<Class>) -> Result<Vec<u
         append_name(word_at(there), &mut node)?;
     }
     Ok(node)
-}
-
-// The names of the classes that could come, and of the end where the node may end.
-fn names_in(alloc: Global, expected: &Expected) -> Result<Vec<Name>, AllocError>
-    ensures { IfOk result (λ names. names.items
-        ≡ names_of (filter (may_come expected.now) every_class) expected.now.may_end) }
-{
-    let may_come = classes_in(alloc, expected)?;
-    let mut names = Vec::new(alloc);
-    push_names(&may_come, expected.may_end(), &mut names)?;
-    Ok(names)
 }
 
 // The classes that may come, in the order of the table.

@@ -105,28 +105,19 @@ impl InCrs<'_, '_> {
         out.extend_from_slice(b"found ")?;
         append_name(items.raw(unit), out)?;
         out.extend_from_slice(b" for all axes, expected ")?;
-        let mut is_first = true;
+        let mut separator: &[u8] = b"";
         let mut at = items.arg(self.crs, 0);
         while let Some(argument) = at {
             if is_called(items, argument, Keyword::Axis) {
-                self.append_kind(argument, is_first, out)?;
-                is_first = false;
+                out.extend_from_slice(separator)?;
+                out.extend_from_slice(self.asked(argument))?;
+                out.extend_from_slice(b" for AXIS at ")?;
+                append_number(items.place(argument), out)?;
+                separator = b", ";
             }
             at = items.next(argument);
         }
         Ok(())
-    }
-
-    // `ANGLEUNIT for AXIS at 66`, after a comma unless it is the first.
-    fn append_kind(&self, axis: ItemId, is_first: bool, out: &mut Vec<u8>) -> Result<(), AllocError>
-        requires { HasId self.now.items.now axis }
-    {
-        if !is_first {
-            out.extend_from_slice(b", ")?;
-        }
-        out.extend_from_slice(self.asked(axis))?;
-        out.extend_from_slice(b" for AXIS at ")?;
-        append_number(self.items.place(axis), out)
     }
 
     // The keyword of the unit for which an axis asks; `a unit` where its kind isn't known.
