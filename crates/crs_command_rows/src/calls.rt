@@ -1,22 +1,32 @@
-//! Commands over texts in memory.
+//! Runs of commands over texts.
+use self::Outcome::{Groups, Status};
 use crs_desk::{
-    Level, Manner, RunFault, Sink, Source, Stream, Summary, run_canon, run_canon_lines, run_check,
-    run_check_lines, run_explain, run_explain_pair, run_group, run_same,
+    Level, Manner as Form, RunFault, Sink, Source, Stream, Summary, run_canon, run_canon_lines,
+    run_check, run_check_lines, run_explain, run_explain_pair, run_group, run_same,
 };
+use crs_suite::{Manner, Page, Pieces, Row, split_line};
 use std::alloc::Global;
-use std::io::Write;
 
-/// A command with its text or texts.
+/// A run of a command over its text or texts, in a manner.
 #[derive(Clone, Copy)]
-pub enum Call<'t> {
-    Canon(&'t [u8]),
-    CanonLines(&'t [u8]),
-    Check(&'t [u8]),
-    CheckLines(&'t [u8]),
-    Explain(Manner, &'t [u8]),
-    ExplainPair(Manner, &'t [u8], &'t [u8]),
-    Group(&'t [u8]),
-    Same(&'t [u8], &'t [u8]),
+pub struct Run<'t> {
+    command: Command,
+    // the second is that of a command over two
+    texts: [&'t [u8]; 2],
+    level: Level,
+    pub manner: Manner,
+}
+
+#[derive(Clone, Copy)]
+enum Command {
+    Canon,
+    CanonLines,
+    Check,
+    CheckLines,
+    Explain(Form),
+    ExplainPair(Form),
+    Group,
+    Same,
 }
 
 /// What a command answers beside what it writes.
@@ -28,37 +38,97 @@ pub enum Outcome {
     Groups(Summary),
 }
 
-impl Call<'_> {
-    /// Whether each line is answered by itself.
-    pub fn is_by_line(self) -> bool {
-        matches!(self, Call::CanonLines(_) | Call::CheckLines(_))
+/// How a run ended.
+#[derive(Drop)]
+pub struct Ended {
+    pub outcome: Result<Outcome, RunFault>,
+    /// How often it has read.
+    pub reads: u64,
+    pub source_failed: bool,
+    pub sink_failed: bool,
+}
+
+/// What a run did.
+#[derive(Drop)]
+pub struct Done {
+    pub ended: Ended,
+    /// What it wrote.
+    pub written: Vec<u8>,
+}
+
+impl<'t> Run<'t> {
+    /// The run of the command that the first word names, in the manner that the other words say; None where a word says none.
+    pub fn read(words: &str, level: Level, texts: [&'t [u8]; 2]) -> Option<Run<'t>> {
+        let (name, manner) = words.split_once(' ').unwrap_or((words, ""));
+        let command = match name {
+            "run_canon" => Command::Canon,
+            "run_canon_lines" => Command::CanonLines,
+            "run_check" => Command::Check,
+            "run_check_lines" => Command::CheckLines,
+            "run_explain" => Command::Explain(Form::Lines),
+            "run_explain_objects" => Command::Explain(Form::Objects),
+            "run_explain_pair" => Command::ExplainPair(Form::Lines),
+            "run_explain_pair_objects" => Command::ExplainPair(Form::Objects),
+            "run_group" => Command::Group,
+            "run_same" => Command::Same,
+            _ => return None,
+        };
+        Some(Run {
+            command,
+            texts,
+            level,
+            manner: Manner::read(manner)?,
+        })
     }
 
-    /// Runs the command at a level, into a writer.
-    pub fn run<W: Write + Drop>(
-        self,
-        alloc: Global,
-        level: Level,
-        writer: W,
-    ) -> Result<Outcome, RunFault> {
-        let mut sink = Sink::new(writer);
-        let status = match self {
-            Call::Canon(text) => run_canon(alloc, level, &mut Source::new(text), &mut sink),
-            Call::CanonLines(text) => {
-                run_canon_lines(alloc, level, &mut Stream::new(text), &mut sink)
+    /// The same over a row's input, which for `run_same` is two texts, one a line.
+    pub fn of(words: &str, row: &'t Row<'_>) -> Option<Run<'t>> {
+        let input = row.input.as_slice();
+        let (first, second) = split_line(input);
+        let is_same = words.starts_with("run_same");
+        let text = if is_same { first } else { input };
+        Run::read(words, row.level, [text, second])
+    }
+
+    /// Whether each line is answered by itself.
+    pub fn is_by_line(self) -> bool {
+        matches!(self.command, Command::CanonLines | Command::CheckLines)
+    }
+
+    /// What the run does.
+    pub fn done(self, alloc: Global) -> Done {
+        let mut page = Page::new(alloc, self.manner);
+        let ended = self.fill(alloc, &mut page);
+        let written = page.written;
+        Done { ended, written }
+    }
+
+    /// Runs the command onto a page; a text that it reads is read in the run's manner.
+    pub fn fill(self, alloc: Global, page: &mut Page) -> Ended {
+        let level = self.level;
+        let [text, second] = self.texts;
+        let mut source = Source::new(Pieces::new(text, self.manner));
+        let mut stream = Stream::new(Pieces::new(text, self.manner));
+        let mut sink = Sink::new(page);
+        let outcome = match self.command {
+            Command::Canon => run_canon(alloc, level, &mut source, &mut sink).map(Status),
+            Command::CanonLines => {
+                run_canon_lines(alloc, level, &mut stream, &mut sink).map(Status)
             }
-            Call::Check(text) => run_check(alloc, &mut Source::new(text), &mut sink),
-            Call::CheckLines(text) => run_check_lines(alloc, &mut Stream::new(text), &mut sink),
-            Call::Explain(how, text) => run_explain(alloc, how, &mut Source::new(text), &mut sink),
-            Call::ExplainPair(how, a, b) => {
-                run_explain_pair(alloc, how, &[], level, a, b, &mut sink)
+            Command::Check => run_check(alloc, &mut source, &mut sink).map(Status),
+            Command::CheckLines => run_check_lines(alloc, &mut stream, &mut sink).map(Status),
+            Command::Explain(form) => run_explain(alloc, form, &mut source, &mut sink).map(Status),
+            Command::ExplainPair(form) => {
+                run_explain_pair(alloc, form, &[], level, text, second, &mut sink).map(Status)
             }
-            Call::Group(text) => {
-                let groups = run_group(alloc, level, &mut Source::new(text), &mut sink);
-                return groups.map(Outcome::Groups);
-            }
-            Call::Same(a, b) => run_same(alloc, level, a, b, &mut sink),
+            Command::Group => run_group(alloc, level, &mut source, &mut sink).map(Groups),
+            Command::Same => run_same(alloc, level, text, second, &mut sink).map(Status),
         };
-        status.map(Outcome::Status)
+        Ended {
+            outcome,
+            reads: u64::from(source.reads()).saturating_add(stream.reads()),
+            source_failed: source.failed() || stream.failed(),
+            sink_failed: sink.failed(),
+        }
     }
 }

@@ -1,7 +1,8 @@
 //! Runs in which every read, or every write, fails in turn.
-use crate::runs::{Done, Run, put_done};
+use crate::calls::{Done, Run};
+use crate::runs::put_done;
+use crs_desk::RunFault;
 use crs_suite::{Answer, Row};
-use std::alloc::Global;
 
 // No row reads or writes more often.
 const MOST: u32 = 10_000;
@@ -10,7 +11,7 @@ const MOST: u32 = 10_000;
 /// this read, with nothing written, or with the first whole lines of the answer where lines are answered as they come.
 /// How many did, and what the run after them did, in which another thing or nothing fails.
 pub fn put_failed_reads(out: &mut Answer, words: &str, row: &Row<'_>) {
-    let Some(mut run) = Run::read(words, row) else {
+    let Some(mut run) = Run::of(words, row) else {
         return out.put("no such run");
     };
     let whole = run.done(out.alloc());
@@ -19,7 +20,7 @@ pub fn put_failed_reads(out: &mut Answer, words: &str, row: &Row<'_>) {
         let done = run.done(out.alloc());
         let is_left = done.written.is_empty()
             || run.is_by_line() && are_first_lines(&done.written, &whole.written);
-        if !is_left || !is_failed_read(out.alloc(), nth, &done) {
+        if !is_left || !is_failed_read(&done, nth) {
             return put_behind(out, nth - 1, "reads", &done);
         }
     }
@@ -30,17 +31,19 @@ fn are_first_lines(lines: &[u8], whole: &[u8]) -> bool {
     lines.ends_with(b"\n") && whole.starts_with(lines)
 }
 
-fn is_failed_read(alloc: Global, nth: u32, done: &Done) -> bool {
-    let mut failed = Answer::new(alloc);
-    write!(failed, "fault ReadFailed, reads {nth}, source failed");
-    done.told.text().unwrap_or("") == failed.text().unwrap_or("none")
+fn is_failed_read(done: &Done, nth: u32) -> bool {
+    let ended = &done.ended;
+    matches!(ended.outcome, Err(RunFault::ReadFailed))
+        && ended.reads == u64::from(nth)
+        && ended.source_failed
+        && !ended.sink_failed
 }
 
 /// Runs a command with its first write failing, then its second, and so on. Each run must end with `WriteFailed`,
 /// with a front of the answer written, which is longer with each write. How many did, and what the run after them
 /// did, in which nothing fails.
 pub fn put_failed_writes(out: &mut Answer, words: &str, row: &Row<'_>) {
-    let Some(mut run) = Run::read(words, row) else {
+    let Some(mut run) = Run::of(words, row) else {
         return out.put("no such run");
     };
     let whole = run.done(out.alloc());
@@ -58,9 +61,8 @@ pub fn put_failed_writes(out: &mut Answer, words: &str, row: &Row<'_>) {
 
 // Whether a write failed after others, which took so many bytes of the whole answer at least.
 fn is_failed_write(done: &Done, least: usize, whole: &[u8]) -> bool {
-    let told = done.told.text().unwrap_or("");
-    told.starts_with("fault WriteFailed, ")
-        && told.ends_with(", sink failed")
+    matches!(done.ended.outcome, Err(RunFault::WriteFailed))
+        && done.ended.sink_failed
         && done.written.len() >= least
         && whole.starts_with(&done.written)
 }

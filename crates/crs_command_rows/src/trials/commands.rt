@@ -1,42 +1,44 @@
 //! The reading of a command line, and the runs of commands.
-use crate::calls::Call;
+use crate::calls::Run;
 use crate::lines::put_told_or_said;
 use crate::runs::{put_outcome, put_written};
-use crs_desk::{Level, request};
-use crs_suite::{Trial, Turn, about_value, run_call, run_trial, unusable};
+use crs_desk::request;
+use crs_suite::{Page, Trial, Turn, about_value, run_call, run_trial, unusable};
 use std::alloc::{AllocError, Global};
 use std::{io, str};
 
 // No row writes more bytes.
 const ROOM: usize = 65_536;
 
-// The run of a command, into a vector that has room for what is written.
+// The run of a command, onto a page that has room for what is written.
 #[derive(Drop)]
-struct Run<'t> {
-    call: Call<'t>,
-    written: Vec<u8>,
+struct Filled<'t> {
+    run: Run<'t>,
+    page: Page,
 }
 
-impl Trial for Run<'_> {
+impl Trial for Filled<'_> {
     fn call<R: Print + AllocGlobal>(&mut self, turn: &mut Turn<'_, R>) -> io::Result<()> {
-        self.written.clear();
-        let outcome = self.call.run(turn.alloc(), Level::Full, &mut self.written);
+        self.page.written.clear();
+        let ended = self.run.fill(turn.alloc(), &mut self.page);
         let out = turn.end()?;
-        put_outcome(out, &outcome);
-        put_written(out, &self.written);
+        put_outcome(out, &ended.outcome);
+        put_written(out, &self.page.written);
         Ok(())
     }
 
     // Nothing was written, or whole lines where each line is answered by itself.
     fn is_kept(&self, _alloc: Global) -> Result<bool, AllocError> {
-        Ok(self.written.is_empty() || self.call.is_by_line() && self.written.ends_with(b"\n"))
+        let written = &self.page.written;
+        Ok(written.is_empty() || self.run.is_by_line() && written.ends_with(b"\n"))
     }
 }
 
 /// The run of a command over its text or texts.
-pub fn try_command(rt: &(impl Print + AllocGlobal), call: Call<'_>) -> io::Result<()> {
-    let written = Vec::with_capacity(rt.alloc(), ROOM)?;
-    run_trial(rt, &mut Run { call, written })
+pub fn try_run(rt: &(impl Print + AllocGlobal), run: Run<'_>) -> io::Result<()> {
+    let mut page = Page::new(rt.alloc(), run.manner);
+    page.written.reserve(ROOM)?;
+    run_trial(rt, &mut Filled { run, page })
 }
 
 fn call_request<R: Print + AllocGlobal>(turn: &mut Turn<'_, R>, words: &[&str]) -> io::Result<()> {
