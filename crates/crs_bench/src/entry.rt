@@ -51,7 +51,8 @@ pub fn accepted<T: Drop>(answer: Result<T, Fault>) -> Result<Option<T>, AllocErr
     }
 }
 
-/// A CRS that counts for so much. A function that looks into an owned one is slow to prove, so that there is one.
+/// What a stage counts where a CRS was read, which ends here: a function that owns a CRS is slow to prove, so that this one
+/// serves all stages.
 pub fn dropped(answer: Result<Crs<'_>, Fault>, count: usize) -> Result<usize, Fault> {
     match answer {
         Ok(_crs) => Ok(count),
