@@ -1,7 +1,6 @@
 //! From the name of a call to its answer.
 use crate::nodes::{Part, put_part};
-use crate::sameness::{Comparison, Told, put_comparison};
-use crate::texts::{Column, put_column};
+use crate::sameness::{Told, put_comparison};
 use crate::{canonical, numbers, pieces, shapes, texts, values};
 use crs_suite::{Answer, Calls, Row};
 
@@ -22,12 +21,9 @@ impl Calls for Answers {
             "feed" => pieces::put_fed(out, row),
             "read_items" => texts::put_tree(out, input),
             "prefixes" => texts::put_prefixes(out, input),
-            "places" => put_column(out, row, Column::Place),
-            "closes" => put_column(out, row, Column::Close),
-            "numbers" => put_column(out, row, Column::Number),
-            "sizes" => put_column(out, row, Column::Size),
-            "nexts" => put_column(out, row, Column::Next),
-            "keywords" => put_column(out, row, Column::Keyword),
+            "places" | "closes" | "numbers" | "sizes" | "nexts" | "keywords" => {
+                texts::put_column(out, row)
+            }
             _ => put_answer_of_shape(out, row),
         }
     }
@@ -48,10 +44,10 @@ fn put_answer_of_shape(out: &mut Answer, row: &Row<'_>) {
         "canon" => canonical::put_canon(out, row),
         "Canon::same" => canonical::put_same(out, row),
         "levels" => canonical::put_levels(out, input),
-        "same" => put_comparison(out, row, Comparison::Same),
-        "differences" => put_comparison(out, row, Comparison::Differences(Told::Paths)),
-        "values" => put_comparison(out, row, Comparison::Differences(Told::Values)),
-        "same_axis" => put_comparison(out, row, Comparison::Axes),
+        "same" => put_comparison(out, row, Told::First),
+        "differences" => put_comparison(out, row, Told::Paths),
+        "values" => put_comparison(out, row, Told::Values),
+        "same_axis" => put_comparison(out, row, Told::Axes),
         "Axis::write" => put_part(out, row, Part::Axis, "no axis"),
         "Dynamic::write" => put_part(out, row, Part::Dynamic, "no dynamic part"),
         "DeformationModel::write" => put_part(out, row, Part::Model, "no model"),

@@ -4,6 +4,9 @@ use crs_suite::{Answer, Row, about_crs};
 use crs_value::{Crs, Ident, Level, Tail, Vertical};
 use std::alloc::AllocError;
 
+/// Whether a part is the same as itself, once it is appended; None where there is no such part.
+pub type Appended = Option<Result<bool, AllocError>>;
+
 /// A CRS, or a part of a vertical one.
 #[derive(Clone, Copy)]
 pub enum Part {
@@ -30,14 +33,8 @@ pub enum Part {
 }
 
 impl Part {
-    /// Appends this part of a CRS at a level, and answers whether it is the same as itself; None where the CRS has no such
-    /// part.
-    pub fn append(
-        self,
-        crs: &Crs<'_>,
-        level: Level,
-        out: &mut Vec<u8>,
-    ) -> Option<Result<bool, AllocError>> {
+    /// Appends this part of a CRS at a level.
+    pub fn append(self, crs: &Crs<'_>, level: Level, out: &mut Vec<u8>) -> Appended {
         match crs {
             _ if matches!(self, Part::Crs) => append(crs, level, out),
             Crs::Vertical(vertical) => self.append_of(vertical, level, out),
@@ -45,12 +42,7 @@ impl Part {
         }
     }
 
-    fn append_of(
-        self,
-        crs: &Vertical<'_>,
-        level: Level,
-        out: &mut Vec<u8>,
-    ) -> Option<Result<bool, AllocError>> {
+    fn append_of(self, crs: &Vertical<'_>, level: Level, out: &mut Vec<u8>) -> Appended {
         let axes = crs.system.axes.as_slice();
         match self {
             Part::Crs => append(crs, level, out),
@@ -65,12 +57,7 @@ impl Part {
         }
     }
 
-    fn append_behind(
-        self,
-        tail: &Tail<'_>,
-        level: Level,
-        out: &mut Vec<u8>,
-    ) -> Option<Result<bool, AllocError>> {
+    fn append_behind(self, tail: &Tail<'_>, level: Level, out: &mut Vec<u8>) -> Appended {
         let usages = tail.usages.as_slice();
         let idents = tail.identifiers.as_slice();
         match self {
@@ -82,30 +69,15 @@ impl Part {
     }
 }
 
-fn append<T: Canonical>(
-    node: &T,
-    level: Level,
-    out: &mut Vec<u8>,
-) -> Option<Result<bool, AllocError>> {
+fn append<T: Canonical>(node: &T, level: Level, out: &mut Vec<u8>) -> Appended {
     let written = node.write(*out.allocator(), level, out);
-    answered(written, node.same(node, level))
+    Some(written.and(Ok(node.same(node, level))))
 }
 
-fn append_set(
-    idents: &[Ident<'_>],
-    level: Level,
-    out: &mut Vec<u8>,
-) -> Option<Result<bool, AllocError>> {
+fn append_set(idents: &[Ident<'_>], level: Level, out: &mut Vec<u8>) -> Appended {
     let set = Set::of(idents);
     let written = set.write(*out.allocator(), level, out);
-    answered(written, set.same(&set, level))
-}
-
-fn answered(written: Result<(), AllocError>, is_itself: bool) -> Option<Result<bool, AllocError>> {
-    match written {
-        Ok(()) => Some(Ok(is_itself)),
-        Err(error) => Some(Err(error)),
-    }
+    Some(written.and(Ok(set.same(&set, level))))
 }
 
 /// `text` and what a part of the CRS of a text appends by itself, or the refusal of the text; what is said of an absent

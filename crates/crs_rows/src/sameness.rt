@@ -6,45 +6,42 @@ use crs_suite::{Answer, Row, about_both, split_line};
 use crs_value::{Axis, Crs, Level};
 use std::alloc::{AllocError, Global};
 
-/// What is asked of two CRSs, each in both orders.
-#[derive(Clone, Copy)]
-pub enum Comparison {
-    /// `same`, or `different` and the first part that differs; `one way` where the two calls disagree.
-    Same,
-    /// What is told of all parts in which they differ, with a semicolon between two; `none` where there are none.
-    Differences(Told),
-    /// Whether the first axes of two vertical CRSs are the same by themselves; `no axes` for other ones.
-    Axes,
-}
-
-/// What is told of parts that differ.
+/// What is told of two CRSs, in each of both orders.
 #[derive(Clone, Copy)]
 pub enum Told {
-    /// The paths.
+    /// `same`, or `different` and the first part that differs; `one way` where the two calls disagree.
+    First,
+    /// The paths of all parts in which they differ, with a semicolon between two; `none` where there are none.
     Paths,
     /// The paths, and the value in the first and in the second CRS.
     Values,
     /// The paths, and the value in the second and in the first CRS.
     TurnedValues,
+    /// Whether the first axes of two vertical CRSs are the same by themselves; `no axes` for other ones.
+    Axes,
 }
 
-impl Comparison {
-    // What has the same answer for two CRSs in the other order.
-    fn turned(self) -> Comparison {
-        match self {
-            Comparison::Differences(Told::Values) => Comparison::Differences(Told::TurnedValues),
-            _ => self,
-        }
-    }
+/// How it is told.
+#[derive(Clone, Copy)]
+pub struct Telling {
+    pub alloc: Global,
+    pub level: Level,
+    pub told: Told,
 }
 
-/// What is asked of the CRSs of two texts, one a line, or the refusal of the first text that has one; `one way` where the
+/// What is told of the CRSs of two texts, one a line, or the refusal of the first text that has one; `one way` where the
 /// orders of the two disagree.
-pub fn put_comparison(out: &mut Answer, row: &Row<'_>, comparison: Comparison) {
-    let level = row.level;
+pub fn put_comparison(out: &mut Answer, row: &Row<'_>, told: Told) {
+    let (alloc, level) = (out.alloc(), row.level);
+    let forth = Telling { alloc, level, told };
+    let told = match told {
+        Told::Values => Told::TurnedValues,
+        _ => told,
+    };
+    let back = Telling { alloc, level, told };
     let (first, second) = split_line(&row.input);
-    if let Some(forth) = comparison.answer_of(out, level, first, second)
-        && let Some(back) = comparison.turned().answer_of(out, level, second, first)
+    if let Some(forth) = forth.of_texts(out, first, second)
+        && let Some(back) = back.of_texts(out, second, first)
     {
         put_one_way_or(out, &forth, &back);
     }
@@ -58,72 +55,40 @@ fn put_one_way_or(out: &mut Answer, forth: &[u8], back: &[u8]) {
     }
 }
 
-impl Comparison {
-    // In one order. A function that owns anything beside two CRSs is slow to prove, so that each order is asked about by
-    // itself, and the text of the answer is made without them.
-    fn answer_of(
-        self,
-        out: &mut Answer,
-        level: Level,
-        first: &[u8],
-        second: &[u8],
-    ) -> Option<Vec<u8>> {
-        let alloc = out.alloc();
-        let asked = about_both(alloc, first, second, |a, b| self.answer(alloc, level, a, b));
+impl Telling {
+    // Of two texts in one order; None where one is refused, which is put. A function that owns anything beside two CRSs is
+    // slow to prove, so that each order is asked about by itself, and the text of the answer is made without them.
+    fn of_texts(self, out: &mut Answer, first: &[u8], second: &[u8]) -> Option<Vec<u8>> {
+        let asked = about_both(self.alloc, first, second, |a, b| self.of_both(a, b));
         let text = out.accepted(asked)?;
         out.made(text)
     }
 
-    fn answer<'t>(
-        self,
-        alloc: Global,
-        level: Level,
-        a: &Crs<'t>,
-        b: &Crs<'t>,
-    ) -> Result<Vec<u8>, AllocError> {
-        match self {
-            Comparison::Same => first_differing(alloc, level, a, b),
-            Comparison::Differences(told) => Telling { alloc, level, told }.differing(a, b),
-            Comparison::Axes => Vec::from_slice(alloc, axes_of(a, b, level).as_bytes()),
+    fn of_both<'a>(self, a: &Crs<'a>, b: &Crs<'a>) -> Result<Vec<u8>, AllocError> {
+        match self.told {
+            Told::First => self.first_differing(a, b),
+            Told::Axes => Vec::from_slice(self.alloc, axes_of(a, b, self.level).as_bytes()),
+            Told::Paths | Told::Values | Told::TurnedValues => self.differing(a, b),
         }
     }
-}
 
-fn first_differing<'a>(
-    alloc: Global,
-    level: Level,
-    a: &Crs<'a>,
-    b: &Crs<'a>,
-) -> Result<Vec<u8>, AllocError> {
-    text_of_first(alloc, same(a, b, level), first_part(a, b, level))
-}
-
-// Of two CRSs of which one call says whether they are the same, and another the first part that differs.
-fn text_of_first(
-    alloc: Global,
-    are_same: bool,
-    found: Option<Path>,
-) -> Result<Vec<u8>, AllocError> {
-    match found {
-        None if are_same => Vec::from_slice(alloc, b"same"),
-        Some(path) if !are_same => {
-            let mut text = Vec::from_slice(alloc, b"different ")?;
-            path.write(&mut text)?;
-            Ok(text)
-        }
-        _ => Vec::from_slice(alloc, b"one way"),
+    fn first_differing<'a>(self, a: &Crs<'a>, b: &Crs<'a>) -> Result<Vec<u8>, AllocError> {
+        self.text_of_first(same(a, b, self.level), first_part(a, b, self.level))
     }
-}
 
-/// How differences are told.
-#[derive(Clone, Copy)]
-pub struct Telling {
-    pub alloc: Global,
-    pub level: Level,
-    pub told: Told,
-}
+    // Of two CRSs of which one call says whether they are the same, and another the first part that differs.
+    fn text_of_first(self, are_same: bool, found: Option<Path>) -> Result<Vec<u8>, AllocError> {
+        match found {
+            None if are_same => Vec::from_slice(self.alloc, b"same"),
+            Some(path) if !are_same => {
+                let mut text = Vec::from_slice(self.alloc, b"different ")?;
+                path.write(&mut text)?;
+                Ok(text)
+            }
+            _ => Vec::from_slice(self.alloc, b"one way"),
+        }
+    }
 
-impl Telling {
     /// What is told of the parts in which two CRSs differ, with a semicolon between two.
     pub fn differing<'a>(self, a: &Crs<'a>, b: &Crs<'a>) -> Result<Vec<u8>, AllocError> {
         self.text_of(differences(self.alloc, a, b, self.level)?)
@@ -155,9 +120,9 @@ impl Telling {
     fn append(self, difference: &Difference<'_, '_>, text: &mut Vec<u8>) -> Result<(), AllocError> {
         append_path(difference.path(), text)?;
         match self.told {
-            Told::Paths => Ok(()),
             Told::Values => self.append_two(difference.first(), difference.second(), text),
             Told::TurnedValues => self.append_two(difference.second(), difference.first(), text),
+            Told::First | Told::Paths | Told::Axes => Ok(()),
         }
     }
 

@@ -9,23 +9,6 @@ use crs_text::{Fault, ItemId, ItemKind, Items, read_items};
 // No item is inside more delimiters than these.
 const DEPTH: u8 = 12;
 
-/// What is asked of each item.
-#[derive(Clone, Copy)]
-pub enum Column {
-    /// The place of its first byte.
-    Place,
-    /// The place of a node's closing delimiter.
-    Close,
-    /// The value of a number.
-    Number,
-    /// How many items are in it, itself included.
-    Size,
-    /// The place of the argument after it in its node.
-    Next,
-    /// The keyword that a word or a node's word is.
-    Keyword,
-}
-
 /// The items of a text, node by node, or its refusal; `another answer in pieces` where a cut into pieces gives one.
 pub fn put_tree(out: &mut Answer, input: &[u8]) {
     if let Some(items) = read_agreed(out, input) {
@@ -41,12 +24,14 @@ pub fn put_read(out: &mut Answer, read: Result<Items<'_>, Fault>) {
     }
 }
 
-/// What each item has in a column, `none` where it has nothing there, in the order in which the items begin, behind the
-/// name of the call.
-pub fn put_column(out: &mut Answer, row: &Row<'_>, column: Column) {
+/// What each item has in the column that a call names, `none` where it has nothing there, in the order in which the items
+/// begin, behind the name of the call: the `places` of their first bytes, where nodes have their closing delimiters
+/// (`closes`), the values of `numbers`, how many items are in each, itself included (`sizes`), the places of the arguments
+/// after them in their nodes (`nexts`), and the `keywords` that words and nodes' words are.
+pub fn put_column(out: &mut Answer, row: &Row<'_>) {
     if let Some(items) = out.accepted(read_items(out.alloc(), &row.input)) {
         out.put(row.call);
-        put_each(out, &items, items.root(), column, DEPTH);
+        put_each(out, &items, items.root(), row.call, DEPTH);
     }
 }
 
@@ -113,7 +98,7 @@ fn put_raw(out: &mut Answer, items: &Items<'_>, id: ItemId)
     out.put(behind);
 }
 
-fn put_each(out: &mut Answer, items: &Items<'_>, id: ItemId, column: Column, depth: u8)
+fn put_each(out: &mut Answer, items: &Items<'_>, id: ItemId, column: &str, depth: u8)
     requires { HasId items.now id }
 {
     out.put(" ");
@@ -130,16 +115,16 @@ fn put_each(out: &mut Answer, items: &Items<'_>, id: ItemId, column: Column, dep
 }
 
 // None where the item has nothing in the column.
-fn put_cell(out: &mut Answer, items: &Items<'_>, id: ItemId, column: Column) -> Option<()>
+fn put_cell(out: &mut Answer, items: &Items<'_>, id: ItemId, column: &str) -> Option<()>
     requires { HasId items.now id }
 {
     match column {
-        Column::Place => write!(out, "{}", items.place(id)),
-        Column::Close => write!(out, "{}", items.close(id)?),
-        Column::Number => put_spelling(out, &items.number(id)?),
-        Column::Size => write!(out, "{}", items.size(id)),
-        Column::Next => write!(out, "{}", items.place(items.next(id)?)),
-        Column::Keyword => write!(out, "{:?}", items.keyword(id)?),
+        "places" => write!(out, "{}", items.place(id)),
+        "closes" => write!(out, "{}", items.close(id)?),
+        "numbers" => put_spelling(out, &items.number(id)?),
+        "sizes" => write!(out, "{}", items.size(id)),
+        "nexts" => write!(out, "{}", items.place(items.next(id)?)),
+        _ => write!(out, "{:?}", items.keyword(id)?),
     }
     Some(())
 }
