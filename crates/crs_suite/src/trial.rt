@@ -9,7 +9,7 @@ use std::io::Write;
 pub trait Trial {
     /// Makes the call, and nothing else that takes memory; then ends the turn, and puts what the call answers, be it a
     /// refusal, and what it has changed, or that memory ran out.
-    fn call<R: Print + AllocGlobal>(&mut self, turn: &mut Turn<'_, R>) -> io::Result<()>;
+    fn call<R: Print + AllocGlobal>(&mut self, turn: &mut Turn<'_, R>);
 
     /// Whether all that the call is handed is as it was before the first call: what is only read can't change.
     fn is_kept(&self, _alloc: Global) -> Result<bool, AllocError> {
@@ -23,6 +23,8 @@ pub struct Turn<'r, R> {
     rt: &'r R,
     is_tried: bool,
     out: Answer,
+    // whether the end of the call that is tried was written
+    ended: io::Result<()>,
 }
 
 impl<'r, R: Print + AllocGlobal> Turn<'r, R> {
@@ -33,6 +35,7 @@ impl<'r, R: Print + AllocGlobal> Turn<'r, R> {
             rt,
             is_tried: true,
             out: Answer::new(rt.alloc()),
+            ended: Ok(()),
         })
     }
 
@@ -41,12 +44,13 @@ impl<'r, R: Print + AllocGlobal> Turn<'r, R> {
         self.out.alloc()
     }
 
-    /// Ends the call, and has its answer put: of the call that is tried it writes `answered`.
-    pub fn end(&mut self) -> io::Result<&mut Answer> {
+    /// Ends the call, and has its answer put: of the call that is tried it writes `answered`, and remembers whether that
+    /// failed.
+    pub fn end(&mut self) -> &mut Answer {
         if self.is_tried {
-            io::writer(self.rt).write_all(b"answered\n")?;
+            self.ended = io::writer(self.rt).write_all(b"answered\n");
         }
-        Ok(&mut self.out)
+        &mut self.out
     }
 
     /// Whether memory ran out.
@@ -64,6 +68,7 @@ impl<'r, R: Print + AllocGlobal> Turn<'r, R> {
 
     /// Prints the answer; the error is that memory ran out, too.
     pub fn print(&self) -> io::Result<()> {
+        self.ended?;
         let word = if self.is_tried { "answer" } else { "again" };
         let text = self.out.text()?;
         println!(self.rt; "{word} {text}")
@@ -75,26 +80,26 @@ impl<'r, R: Print + AllocGlobal> Turn<'r, R> {
 /// and a line `again` has the answer of the same call made once more.
 pub fn run_trial<T: Trial>(rt: &(impl Print + AllocGlobal), trial: &mut T) -> io::Result<()> {
     let mut turn = Turn::begin(rt)?;
-    trial.call(&mut turn)?;
+    trial.call(&mut turn);
     if turn.ran_out() {
         turn.again(trial.is_kept(rt.alloc())?)?;
-        trial.call(&mut turn)?;
+        trial.call(&mut turn);
     }
     turn.print()
 }
 
 /// The same of a call that changes nothing that it is handed.
-pub fn run_call<R: Print + AllocGlobal, C: FnMut(&mut Turn<'_, R>) -> io::Result<()> + Drop>(
+pub fn run_call<R: Print + AllocGlobal, C: FnMut(&mut Turn<'_, R>) + Drop>(
     rt: &R,
     mut call: C,
 ) -> io::Result<()>
     requires { C.IsAlwaysCallable call }
 {
     let mut turn = Turn::begin(rt)?;
-    call(&mut turn)?;
+    call(&mut turn);
     if turn.ran_out() {
         turn.again(true)?;
-        call(&mut turn)?;
+        call(&mut turn);
     }
     turn.print()
 }

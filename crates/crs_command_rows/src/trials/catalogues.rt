@@ -16,14 +16,13 @@ struct Add<'t> {
 }
 
 impl Trial for Add<'_> {
-    fn call<R: Print + AllocGlobal>(&mut self, turn: &mut Turn<'_, R>) -> io::Result<()> {
+    fn call<R: Print + AllocGlobal>(&mut self, turn: &mut Turn<'_, R>) {
         let added = self.catalogue.add(self.line, self.text);
-        let out = turn.end()?;
+        let out = turn.end();
         if let Some(placed) = out.made(added) {
             put_placed(out, placed);
             put_all(out, &self.catalogue);
         }
-        Ok(())
     }
 
     fn is_kept(&self, alloc: Global) -> Result<bool, AllocError> {

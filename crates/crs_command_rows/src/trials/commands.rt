@@ -18,13 +18,12 @@ struct Filled<'t> {
 }
 
 impl Trial for Filled<'_> {
-    fn call<R: Print + AllocGlobal>(&mut self, turn: &mut Turn<'_, R>) -> io::Result<()> {
+    fn call<R: Print + AllocGlobal>(&mut self, turn: &mut Turn<'_, R>) {
         self.page.written.clear();
         let ended = self.run.fill(turn.alloc(), &mut self.page);
-        let out = turn.end()?;
+        let out = turn.end();
         put_outcome(out, &ended.outcome);
         put_written(out, &self.page.written);
-        Ok(())
     }
 
     // Nothing was written, or whole lines where each line is answered by itself.
@@ -41,11 +40,11 @@ pub fn try_run(rt: &(impl Print + AllocGlobal), run: Run<'_>) -> io::Result<()> 
     run_trial(rt, &mut Filled { run, page })
 }
 
-fn call_request<R: Print + AllocGlobal>(turn: &mut Turn<'_, R>, words: &[&str]) -> io::Result<()> {
-    about_value(request(turn.alloc(), words), |told| {
-        put_told_or_said(turn.end()?, told);
-        Ok(())
-    })
+fn call_request<R: Print + AllocGlobal>(turn: &mut Turn<'_, R>, words: &[&str]) {
+    about_value(
+        request(turn.alloc(), words),
+        |told| put_told_or_said(turn.end(), told),
+    );
 }
 
 /// `request` of words, of which the first is the program's name.

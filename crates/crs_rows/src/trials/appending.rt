@@ -52,12 +52,11 @@ struct Append<'v, T> {
 }
 
 impl<T: Appended> Trial for Append<'_, T> {
-    fn call<R: Print + AllocGlobal>(&mut self, turn: &mut Turn<'_, R>) -> io::Result<()> {
+    fn call<R: Print + AllocGlobal>(&mut self, turn: &mut Turn<'_, R>) {
         let appended = self.part.append(&mut self.out);
-        let out = turn.end()?;
+        let out = turn.end();
         out.note(appended);
         out.put_bytes(&self.out);
-        Ok(())
     }
 
     fn is_kept(&self, _alloc: Global) -> Result<bool, AllocError> {

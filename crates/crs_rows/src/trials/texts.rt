@@ -17,13 +17,12 @@ struct Feed<'p, 't> {
 impl Trial for Feed<'_, '_> {
     // The answer is what the last piece is answered, and what `finish` answers then, which shows which bytes the feeder
     // holds.
-    fn call<R: Print + AllocGlobal>(&mut self, turn: &mut Turn<'_, R>) -> io::Result<()> {
+    fn call<R: Print + AllocGlobal>(&mut self, turn: &mut Turn<'_, R>) {
         let taken = self.feed();
-        let out = turn.end()?;
+        let out = turn.end();
         put_taken(out, taken);
         out.put("; ");
         put_read(out, self.feeder.finish());
-        Ok(())
     }
 
     // Whether the feeder holds what one does that was fed the pieces before the refused one, and nothing else.
@@ -56,11 +55,9 @@ struct Finish<'f> {
 }
 
 impl Trial for Finish<'_> {
-    fn call<R: Print + AllocGlobal>(&mut self, turn: &mut Turn<'_, R>) -> io::Result<()> {
+    fn call<R: Print + AllocGlobal>(&mut self, turn: &mut Turn<'_, R>) {
         let read = self.feeder.finish();
-        let out = turn.end()?;
-        put_read(out, read);
-        Ok(())
+        put_read(turn.end(), read);
     }
 
     fn is_kept(&self, alloc: Global) -> Result<bool, AllocError> {
@@ -72,8 +69,7 @@ impl Trial for Finish<'_> {
 pub fn try_read(rt: &(impl Print + AllocGlobal), text: &[u8]) -> io::Result<()> {
     run_call(rt, |turn| {
         let read = read_items(turn.alloc(), text);
-        put_read(turn.end()?, read);
-        Ok(())
+        put_read(turn.end(), read);
     })
 }
 

@@ -10,59 +10,43 @@ use std::alloc::AllocError;
 use std::io;
 
 // What is put of a value, or why there is none.
-fn end_value<R: Print + AllocGlobal>(
-    turn: &mut Turn<'_, R>,
-    made: Result<io::Result<()>, Fault>,
-) -> io::Result<()> {
-    match made {
-        Ok(ended) => ended,
-        Err(fault) => {
-            turn.end()?.put_fault(fault);
-            Ok(())
-        }
+fn end_value<R: Print + AllocGlobal>(turn: &mut Turn<'_, R>, made: Result<(), Fault>) {
+    if let Err(fault) = made {
+        turn.end().put_fault(fault);
     }
 }
 
 // A value by its kind and its canonical text.
-fn put_value<R: Print + AllocGlobal>(crs: &Crs<'_>, turn: &mut Turn<'_, R>) -> io::Result<()> {
-    let out = turn.end()?;
+fn put_value<R: Print + AllocGlobal>(crs: &Crs<'_>, turn: &mut Turn<'_, R>) {
+    let out = turn.end();
     out.put(kind_word(crs.kind()));
     out.put(" ");
     if let Some(text) = out.made(canon_of(out.alloc(), crs, Level::Full)) {
         out.put_bytes(text.bytes());
     }
-    Ok(())
 }
 
-// What `canon_of` answers.
-fn put_text<R: Print + AllocGlobal>(
-    turn: &mut Turn<'_, R>,
-    called: Result<Canon, AllocError>,
-) -> io::Result<()> {
-    let out = turn.end()?;
-    if let Some(text) = out.made(called) {
+// What `canon` or `canon_of` answers.
+fn put_text<R: Print + AllocGlobal>(turn: &mut Turn<'_, R>, called: Result<Canon, Fault>) {
+    let out = turn.end();
+    if let Some(text) = out.accepted(called) {
         put_spelling(out, &text);
     }
-    Ok(())
 }
 
 // What `differences` answers: the paths of the parts that differ, which take memory too.
-fn put_paths<R: Print + AllocGlobal>(
-    turn: &mut Turn<'_, R>,
-    called: Result<Vec<u8>, AllocError>,
-) -> io::Result<()> {
-    let out = turn.end()?;
+fn put_paths<R: Print + AllocGlobal>(turn: &mut Turn<'_, R>, called: Result<Vec<u8>, AllocError>) {
+    let out = turn.end();
     if let Some(paths) = out.made(called) {
         out.put_bytes(&paths);
     }
-    Ok(())
 }
 
 /// `read` of a text.
 pub fn try_read(rt: &(impl Print + AllocGlobal), text: &[u8]) -> io::Result<()> {
     run_call(rt, |turn| {
         let made = about_crs(turn.alloc(), text, |crs| put_value(crs, turn));
-        end_value(turn, made)
+        end_value(turn, made);
     })
 }
 
@@ -71,20 +55,16 @@ pub fn try_value_of(rt: &(impl Print + AllocGlobal), text: &[u8]) -> io::Result<
     let items = read_items(rt.alloc(), text).map_err(unmade)?;
     run_call(rt, |turn| {
         let made = about_items(turn.alloc(), &items, |crs| put_value(crs, turn));
-        end_value(turn, made)
+        end_value(turn, made);
     })
 }
 
 /// `canon` of a text.
 pub fn try_canon(rt: &(impl Print + AllocGlobal), text: &[u8]) -> io::Result<()> {
-    run_call(rt, |turn| {
-        let called = canon(turn.alloc(), text, Level::Full);
-        let out = turn.end()?;
-        if let Some(text) = out.accepted(called) {
-            put_spelling(out, &text);
-        }
-        Ok(())
-    })
+    run_call(
+        rt,
+        |turn| put_text(turn, canon(turn.alloc(), text, Level::Full)),
+    )
 }
 
 /// `canon_of` the CRS that a text spells.
@@ -93,10 +73,10 @@ pub fn try_canon_of(rt: &(impl Print + AllocGlobal), text: &[u8]) -> io::Result<
 }
 
 fn call_canon_of(rt: &(impl Print + AllocGlobal), crs: &Crs<'_>) -> io::Result<()> {
-    run_call(
-        rt,
-        |turn| put_text(turn, canon_of(turn.alloc(), crs, Level::Full)),
-    )
+    run_call(rt, |turn| {
+        let called = canon_of(turn.alloc(), crs, Level::Full);
+        put_text(turn, called.map_err(Fault::Memory));
+    })
 }
 
 /// `differences` between the CRSs of two texts.
@@ -120,10 +100,10 @@ fn call_differences<'t>(
         told: Told::Paths,
     };
     let mut turn = Turn::begin(rt)?;
-    put_paths(&mut turn, telling.differing(first, second))?;
+    put_paths(&mut turn, telling.differing(first, second));
     if turn.ran_out() {
         turn.again(true)?;
-        put_paths(&mut turn, telling.differing(first, second))?;
+        put_paths(&mut turn, telling.differing(first, second));
     }
     turn.print()
 }
