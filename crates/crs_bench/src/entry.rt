@@ -2,7 +2,6 @@
 
 use crs_group::Catalogue;
 use crs_text::Fault;
-use crs_value::Crs;
 use std::alloc::{AllocError, Global};
 
 /// Stages that are given a `T` of each text.
@@ -48,14 +47,5 @@ pub fn accepted<T: Drop>(answer: Result<T, Fault>) -> Result<Option<T>, AllocErr
         Ok(accepted) => Ok(Some(accepted)),
         Err(Fault::Refused(_)) => Ok(None),
         Err(Fault::Memory(error)) => Err(error),
-    }
-}
-
-/// What a stage counts where a CRS was read, which ends here: a function that owns a CRS is slow to prove, so that this one
-/// serves all stages.
-pub fn dropped(answer: Result<Crs<'_>, Fault>, count: usize) -> Result<usize, Fault> {
-    match answer {
-        Ok(_crs) => Ok(count),
-        Err(fault) => Err(fault),
     }
 }

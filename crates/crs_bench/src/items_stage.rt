@@ -1,11 +1,12 @@
 //! Stages that are given the items of a text.
 
-use crate::entry::{Entry, Measure, dropped};
+use crate::entry::{Entry, Measure};
 use crate::text_stage::size;
 use crs_group::Catalogue;
 use crs_shape::{Class, fit_root};
+use crs_suite::about_items;
 use crs_text::{Fault, Items, Refusal, read_items};
-use crs_value::{judge, value_of};
+use crs_value::judge;
 use std::alloc::Global;
 
 #[derive(Clone, Copy)]
@@ -50,5 +51,5 @@ fn counted(class: Result<Class, Refusal>, items: &Items<'_>) -> Result<usize, Fa
 // A function clears the memory of its locals when it is entered, so the stages that own no value aren't one with this.
 #[inline(never)]
 fn valued(alloc: Global, items: &Items<'_>) -> Result<usize, Fault> {
-    dropped(value_of(alloc, items), size(items))
+    about_items(alloc, items, |_crs| size(items))
 }

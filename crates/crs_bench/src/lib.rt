@@ -5,7 +5,6 @@
 
 mod entry;
 mod items_stage;
-mod pair;
 mod stage;
 mod tally;
 mod text_stage;
@@ -107,11 +106,10 @@ fn report_by<'t, T: Drop, M: Measure<'t, T> + Copy>(
     let entries = entries_of(rt.alloc(), measure, texts)?;
     if stage.grows() {
         for smaller in SMALLER {
-            match entries.get(..smaller) {
-                Some(first) if first.len() < entries.len() => {
-                    report_of(rt, stage, measure, rounds, first)?
-                }
-                _ => {}
+            if smaller < entries.len()
+                && let Some(first) = entries.get(..smaller)
+            {
+                report_of(rt, stage, measure, rounds, first)?;
             }
         }
     }

@@ -1,11 +1,12 @@
 //! Stages that are given the text alone.
 
-use crate::entry::{Entry, Measure, dropped};
-use crate::pair::matched;
+use crate::entry::{Entry, Measure};
 use crs_canon::canon;
 use crs_group::{Catalogue, Placed};
+use crs_same::same;
+use crs_suite::{about_both, about_crs};
 use crs_text::{Fault, Feeder, Items, read_items};
-use crs_value::{Level, kind_of, read};
+use crs_value::{Level, kind_of};
 use std::alloc::Global;
 
 #[derive(Clone, Copy)]
@@ -54,7 +55,18 @@ impl<'t> Measure<'t, ()> for TextStage {
 // A function clears the memory of its locals when it is entered, so the stages that own no value aren't one with this.
 #[inline(never)]
 fn whole(alloc: Global, text: &[u8]) -> Result<usize, Fault> {
-    dropped(read(alloc, text), 1)
+    about_crs(alloc, text, |_crs| 1)
+}
+
+// 1 where two texts spell the same CRS, else 0; the second isn't read where the first is refused.
+#[inline(never)]
+fn matched<'t>(alloc: Global, text: &'t [u8], next: &'t [u8]) -> Result<usize, Fault> {
+    about_both(
+        alloc,
+        text,
+        next,
+        |first, second| usize::from(same(first, second, Level::Full)),
+    )
 }
 
 fn items(alloc: Global, text: &[u8]) -> Result<usize, Fault> {

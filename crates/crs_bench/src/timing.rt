@@ -48,22 +48,13 @@ fn tally_of<'t, T: Drop, M: Measure<'t, T> + Copy>(
     let mut tally = Tally::EMPTY;
     for (index, entry) in entries.iter().enumerate() {
         let next = entries.get(index.saturating_add(1)).unwrap_or(entry);
-        tally.add(entry.text, outcome_of(alloc, measure, entry, next, before)?);
+        let counted = match &entry.given {
+            Some(given) => accepted(measure.outcome(alloc, entry.text, given, next, before))?,
+            None => None,
+        };
+        tally.add(entry.text, counted);
     }
     Ok(tally)
-}
-
-fn outcome_of<'t, T: Drop, M: Measure<'t, T> + Copy>(
-    alloc: Global,
-    measure: M,
-    entry: &Entry<'t, T>,
-    next: &Entry<'t, T>,
-    before: &mut Catalogue,
-) -> Result<Option<usize>, AllocError> {
-    match &entry.given {
-        Some(given) => accepted(measure.outcome(alloc, entry.text, given, next, before)),
-        None => Ok(None),
-    }
 }
 
 impl Timing {
