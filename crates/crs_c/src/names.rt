@@ -18,21 +18,11 @@ pub extern "C" fn crsdesk_refusal_name(number: u32, out: &mut [u8], length: &mut
         result }
 {
     match u8::try_from(number) {
-        Ok(number) => give_name(number, out, length),
+        Ok(number) => match Refusal::new(number, 0) {
+            Some(refusal) => give(refusal.name().as_bytes(), out, length),
+            None => NO_NUMBER,
+        },
         Err(_) => NO_NUMBER,
-    }
-}
-
-#[tactic(auto, unfolding(crate::specs::Names::IsNameAnswer))]
-fn give_name(number: u8, out: &mut [u8], length: &mut usize) -> u32
-    ensures { IsNameAnswer number
-        (record { items = out.old; told = length.old })
-        (record { items = out.new; told = length.new })
-        result }
-{
-    match Refusal::new(number, 0) {
-        Some(refusal) => give(refusal.name().as_bytes(), out, length),
-        None => NO_NUMBER,
     }
 }
 

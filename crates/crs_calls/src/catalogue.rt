@@ -50,13 +50,7 @@ fn standing_of(place: Placed) -> Standing
     }
 }
 
-// What is answered of a line for which there was no memory.
-fn without_memory() -> Standing
-    ensures { result ≡ without_memory }
-{
-    in_group(0, NO_MEMORY)
-}
-
+// What is answered with this code of a line that isn't refused; its group is 0 where it is in none.
 fn in_group(group: usize, code: u32) -> Standing
     ensures { result ≡ record without_memory { group = group; code = code } }
 {
@@ -86,7 +80,7 @@ pub fn added(held: Catalogue, number: u64, text: &[u8]) -> (Catalogue, Standing)
     let mut held = held;
     let told = match held.add(number, text) {
         Ok(place) => standing_of(place),
-        Err(_) => without_memory(),
+        Err(_) => in_group(0, NO_MEMORY),
     };
     (held, told)
 }
@@ -104,7 +98,7 @@ pub fn added_under(
     let mut held = held;
     let told = match held.add_under(number, text, rules.reader.rules()) {
         Ok(place) => standing_of(place),
-        Err(_) => without_memory(),
+        Err(_) => in_group(0, NO_MEMORY),
     };
     (held, rules, told)
 }

@@ -60,13 +60,6 @@ pub struct Form {
     pub code: u32,
 }
 
-// What is answered of a file that was read.
-fn file_read() -> RulesStanding
-    ensures { result ≡ file_read }
-{
-    without_line(OK)
-}
-
 // What is answered with this code of a file in which no line is refused.
 fn without_line(code: u32) -> RulesStanding
     ensures { result ≡ record file_read { code = code } }
@@ -139,7 +132,7 @@ pub fn with_file(held: HeldRules, text: &[u8]) -> (HeldRules, RulesStanding)
     let told = match held.reader.read(held.alloc, text) {
         Ok(()) => {
             held.form = Vec::new(held.alloc);
-            file_read()
+            without_line(OK)
         }
         Err(fault) => file_fault(fault),
     };
