@@ -45,17 +45,10 @@ fn hex_digit(byte: u8) -> Option<u8>
 
 /// What comes before the first line end, and what comes after it.
 pub fn split_line(input: &[u8]) -> (&[u8], &[u8]) {
-    split_at_byte(input, b'\n')
+    input.split_once_str(b"\n").unwrap_or((input, &[]))
 }
 
 /// What comes before the first blank, and what comes after it.
 pub fn split_blank(input: &[u8]) -> (&[u8], &[u8]) {
-    split_at_byte(input, b' ')
-}
-
-fn split_at_byte(input: &[u8], byte: u8) -> (&[u8], &[u8]) {
-    match input.find_byte(byte) {
-        Some(end) => (&input[..end], &input[end + 1..]),
-        None => (input, &[]),
-    }
+    input.split_once_str(b" ").unwrap_or((input, &[]))
 }

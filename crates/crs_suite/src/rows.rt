@@ -26,16 +26,6 @@ pub struct Row<'t> {
     pub ends: Vec<usize>,
 }
 
-// What a line does.
-enum Step<'t> {
-    // It says nothing, or a part of a row.
-    Part,
-    // It ends a row by its answer.
-    Expect(&'t str),
-    // It can't be read.
-    Unknown,
-}
-
 // How many rows were run, and how many of them differ; a line that can't be read counts as such a row.
 #[derive(Clone, Copy)]
 struct Tally {
@@ -108,50 +98,45 @@ impl<'t> Row<'t> {
         line: &'t str,
         came: &mut Answer,
     ) -> Result<Option<bool>, AllocError> {
-        match self.read_line(line)? {
-            Step::Part => Ok(None),
-            Step::Expect(answer) => {
-                calls.put_answer(came, self);
-                Ok(Some(came.text()? == answer))
-            }
-            Step::Unknown => {
-                came.put("no line of a row");
-                Ok(Some(false))
-            }
-        }
-    }
-
-    fn read_line(&mut self, line: &'t str) -> Result<Step<'t>, AllocError> {
         let (word, rest) = split_word(line);
-        match word {
-            "" | "#" => Ok(Step::Part),
+        let is_read = match word {
+            "" | "#" => true,
             "call" => {
                 let (call, level) = split_level(rest);
                 self.call = call;
                 self.level = level;
-                Ok(Step::Part)
+                true
             }
-            "input" => self.read_input(1, rest),
+            "input" => self.read_input(1, rest)?,
             "input*" => {
                 let (count, part) = split_word(rest);
                 match count.parse::<u32>() {
-                    Ok(count) => self.read_input(count, part),
-                    Err(_) => Ok(Step::Unknown),
+                    Ok(count) => self.read_input(count, part)?,
+                    Err(_) => false,
                 }
             }
-            "expect" => Ok(Step::Expect(rest)),
-            _ => Ok(Step::Unknown),
+            "expect" => {
+                calls.put_answer(came, self);
+                return Ok(Some(came.text()? == rest));
+            }
+            _ => false,
+        };
+        if is_read {
+            return Ok(None);
         }
+        came.put("no line of a row");
+        Ok(Some(false))
     }
 
-    fn read_input(&mut self, count: u32, part: &str) -> Result<Step<'t>, AllocError> {
+    // Whether the bytes that a part means were added so many times.
+    fn read_input(&mut self, count: u32, part: &str) -> Result<bool, AllocError> {
         for _turn in 0..count {
             if !put_bytes(&mut self.input, part.as_bytes())? {
-                return Ok(Step::Unknown);
+                return Ok(false);
             }
             self.ends.push(self.input.len())?;
         }
-        Ok(Step::Part)
+        Ok(true)
     }
 }
 
