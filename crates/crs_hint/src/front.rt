@@ -9,22 +9,15 @@ pub(crate) fn by_front<'a>(text: &'a [u8], front: &'a [u8]) -> Option<Hint<'a>> 
     if front.is_empty() {
         return Some(Hint::Empty);
     }
-    let by_bytes = by_first_bytes(text, &FORMATS)
+    let by_word = match keyword_at(front) {
+        [] => by_string(front),
+        keyword => by_class(keyword),
+    };
+    by_first_bytes(text, &FORMATS)
         .or(by_utf16(text))
-        .or(by_first_bytes(front, &MARKS));
-    if by_bytes.is_some() {
-        return by_bytes;
-    }
-    let geometry = geometry_of(front);
-    if !geometry.is_empty() {
-        return Some(Hint::Geometry(geometry));
-    }
-    let keyword = keyword_at(front);
-    if keyword.is_empty() {
-        by_string(front)
-    } else {
-        by_class(keyword)
-    }
+        .or(by_first_bytes(front, &MARKS))
+        .or(geometry_of(front).map(Hint::Geometry))
+        .or(by_word)
 }
 
 // Files that are no text.
@@ -76,35 +69,22 @@ const GEOMETRIES: [&[u8]; 7] = [
     b"GEOMETRYCOLLECTION",
 ];
 
-// The kind of a geometry, after an SRID too; empty where the text is none.
-fn geometry_of(front: &[u8]) -> &[u8] {
-    let text = behind_srid(front);
+// The kind of a geometry, after an SRID too.
+fn geometry_of(front: &[u8]) -> Option<&[u8]> {
+    let text = match srid_of(front) {
+        Some(srid) => rest(front, srid.len().saturating_add(1)).trim_ascii_start(),
+        None => front,
+    };
     let kind = word_at(text);
-    if is_one_of(kind, &GEOMETRIES) && has_coordinates(rest(text, kind.len())) {
-        kind
-    } else {
-        b""
-    }
+    (is_one_of(kind, &GEOMETRIES) && has_coordinates(rest(text, kind.len()))).then_some(kind)
 }
 
-// The bytes after `SRID=28992;`, or all.
-fn behind_srid(front: &[u8]) -> &[u8] {
-    let srid = srid_of(front);
-    match rest(front, srid.len()) {
-        [b';', behind @ ..] if !srid.is_empty() => behind.trim_ascii_start(),
-        _ => front,
-    }
-}
-
-/// `SRID=` with its digits, where a semicolon follows them; else empty.
-pub(crate) fn srid_of(front: &[u8]) -> &[u8] {
-    if !begins(front, b"SRID=") {
-        return b"";
-    }
+/// `SRID=` with its digits, where a semicolon follows them.
+pub(crate) fn srid_of(front: &[u8]) -> Option<&[u8]> {
     let digits = digit_count(rest(front, 5));
     match front.split_at_checked(5usize.saturating_add(digits)) {
-        Some((srid, [b';', ..])) if digits > 0 => srid,
-        _ => b"",
+        Some((srid, [b';', ..])) if begins(front, b"SRID=") && digits > 0 => Some(srid),
+        _ => None,
     }
 }
 

@@ -50,15 +50,10 @@ fn by_character<'a>(there: &[u8]) -> Option<Hint<'a>> {
 // What is where a number should begin.
 fn by_number<'a>(text: &[u8], place: usize) -> Option<Hint<'a>> {
     let there = looked_at(text, place);
-    if is_cut_off(rest(text, place)) {
-        Some(Hint::NumberCutOff)
-    } else if is_date(there) {
-        Some(Hint::Date)
-    } else if has_unit(there) {
-        Some(Hint::WithUnit)
-    } else {
-        None
-    }
+    let is_cut_off = is_cut_off(rest(text, place)).then_some(Hint::NumberCutOff);
+    is_cut_off
+        .or(is_date(there).then_some(Hint::Date))
+        .or(has_unit(there).then_some(Hint::WithUnit))
 }
 
 // Whether the text ends in a number that goes on, as `298.` and `1e-` do.
@@ -96,11 +91,12 @@ fn by_comma<'a>(before: &[u8], there: &[u8]) -> Option<Hint<'a>> {
     if !begins_number(there) || !ends_with_number(before) {
         return None;
     }
-    if digit_count(there) == 3 && ends_with_thousands(before) {
-        Some(Hint::Thousands)
+    let is_of_thousands = digit_count(there) == 3 && ends_with_thousands(before);
+    Some(if is_of_thousands {
+        Hint::Thousands
     } else {
-        Some(Hint::DecimalComma)
-    }
+        Hint::DecimalComma
+    })
 }
 
 // Whether the digits and commas at the end are a number with a comma before each three digits, and a comma: `6,378,`.

@@ -5,23 +5,14 @@ use crate::hint::Hint;
 
 /// What a text is that doesn't begin with a node, by its front.
 pub(crate) fn by_string(text: &[u8]) -> Option<Hint<'_>> {
-    let srid = srid_of(text);
-    if !srid.is_empty() {
-        return Some(Hint::Srid(srid));
-    }
-    if is_proj_string(text) {
-        return Some(Hint::ProjString);
-    }
-    if digit_count(text) == text.len() {
-        return Some(Hint::EpsgCode(text));
-    }
-    if is_code(text) || is_address(text) {
-        return Some(Hint::Code(text));
-    }
-    if is_path(text) {
-        return Some(Hint::Path);
-    }
-    None
+    let is_epsg_code = digit_count(text) == text.len();
+    let is_any_code = is_code(text) || is_address(text);
+    srid_of(text)
+        .map(Hint::Srid)
+        .or(is_proj_string(text).then_some(Hint::ProjString))
+        .or(is_epsg_code.then_some(Hint::EpsgCode(text)))
+        .or(is_any_code.then_some(Hint::Code(text)))
+        .or(is_path(text).then_some(Hint::Path))
 }
 
 // `+proj=utm ..`, also without plus signs, or with `init=`, or with other words before.
