@@ -132,15 +132,27 @@ is_after_word BeforeItem = false
 is_after_word AfterWord = true
 is_after_word AfterItem = false
 
--- the last word becomes a node
-abbrev pub with_open : Flat → Bool → Flat
-with_open f square = record {
-  rows =
-      slice_set f.rows (length f.rows - 1)
-      (record (slice_index_or f.rows (length f.rows - 1) no_row) { kind = Node; square = square });
-  opens = record { row = length f.rows - 1; square = square; count = 0 } ∷ f.opens;
+-- the table with this row as that of an open node
+abbrev pub with_opened : Flat → ℕ → Bool → Flat
+with_opened f row square = record {
+  rows = f.rows;
+  opens = record { row = row; square = square; count = 0 } ∷ f.opens;
   position = BeforeItem;
 }
+
+-- the last word becomes a node
+abbrev pub with_open : Flat → Bool → Flat
+with_open f square =
+    with_opened
+    (record f {
+      rows =
+          slice_set f.rows (length f.rows - 1)
+          (record (slice_index_or f.rows (length f.rows - 1) no_row) {
+            kind = Node;
+            square = square;
+          });
+    })
+    (length f.rows - 1) square
 
 -- the table after an opening delimiter; none where it isn't allowed, or is one too many
 abbrev pub flat_open : Flat → Bool → Option Flat
@@ -196,19 +208,11 @@ IsOpened before square TooDeep behind =
     (before.position ≡ AfterWord) × (length before.opens ≡ 12) × (behind ≡ before)
 IsOpened before square Refused behind = (before.position ≡ AfterWord → ⊥) × (behind ≡ before)
 
--- the table with this row as that of an open node with a square delimiter
-abbrev pub with_opened : Flat → ℕ → Flat
-with_opened f row = record {
-  rows = f.rows;
-  opens = record { row = row; square = true; count = 0 } ∷ f.opens;
-  position = BeforeItem;
-}
-
 -- the table takes a word and then a square delimiter
 abbrev pub IsNodeBegun : Flat → ℕ → List ℕ → Flat → Type 0
 IsNodeBegun before place raw behind =
     (before.position ≡ BeforeItem) × (length before.opens < 12)
-    × (behind ≡ with_opened (with_first before Node true place raw) (length before.rows))
+    × (behind ≡ with_opened (with_first before Node true place raw) (length before.rows) true)
 
 -- the tokens are those of one whole node
 abbrev pub is_whole : Flat → Bool

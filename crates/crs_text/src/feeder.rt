@@ -43,7 +43,7 @@ impl Feeder {
         Feeder {
             alloc,
             bytes: Vec::new(alloc),
-            table: Table::new(alloc),
+            table: Table::new(Vec::new(alloc)),
             held: Held {
                 at: 0,
                 pending: Pending::Unknown,
@@ -113,7 +113,7 @@ fn cut_back(alloc: Global, bytes: &mut Vec<u8>, table: &mut Table, fed: usize) -
     ensures pending { result.pending ≡ Pending.Unknown }
 {
     bytes.truncate(fed);
-    *table = Table::new(alloc);
+    *table = Table::new(Vec::new(alloc));
     Held {
         at: after_white(bytes, 0),
         pending: Pending::Unknown,

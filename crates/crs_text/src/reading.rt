@@ -21,8 +21,8 @@ const BYTES_A_ROW: usize = 8;
 pub fn read_items<'a>(alloc: Global, text: &'a [u8]) -> Result<Items<'a>, Fault>
     ensures { MatchResult result (SpellsNode text.now) (IsTextFault text.now) }
 {
-    let table = Table::with_room(alloc, text.len() / BYTES_A_ROW).map_err(Fault::Memory)?;
-    items_in(table, text, white_length(text))
+    let rows = Vec::with_capacity(alloc, text.len() / BYTES_A_ROW).map_err(Fault::Memory)?;
+    items_in(Table::new(rows), text, white_length(text))
 }
 
 /// The items of a text, of which the table shows those before this place.

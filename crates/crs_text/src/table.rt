@@ -1,12 +1,11 @@
 ghost use Rattle.std.specs.Prelude.{◌≡◌, ◌+◌, ◌-◌, ◌<◌, ◌≤◌, ◌&&◌, true, IsSome, IfOk, OnOk, OnErr, MatchBool};
 ghost use Rattle.std.specs.Prelude.{[], length};
 ghost use Rattle.crs_text.specs.Table.{position_after, may_begin, with_first, with_opened};
-ghost use Rattle.crs_text.specs.Table.{flat_single, may_go_on, flat_comma, with_open, has_square};
+ghost use Rattle.crs_text.specs.Table.{flat_single, may_go_on, flat_comma, has_square};
 ghost use Rattle.crs_text.specs.Table.{flat_close, IsStep, IsOpened, IsNodeBegun, is_whole};
 ghost use Rattle.crs_text.specs.Items.{keyword_at};
 ghost use Rattle.crs_text.specs.Keywords.{keyword_of};
 ghost use Rattle.crs_text.specs.State.{start};
-ghost use Rattle.crs_text.specs.declared.table.Position.TheVariants.{AfterWord};
 ghost use Rattle.crs_text.specs.Rows.{flat};
 
 use crate::items::ItemKind;
@@ -93,8 +92,8 @@ impl Model for Table {
 }
 
 impl Table {
-    // A table with no row, over this vector.
-    fn over(rows: Vec<Row>) -> Self
+    /// A table with no row, over this vector.
+    pub(crate) fn new(rows: Vec<Row>) -> Self
         requires { rows.items ≡ [] }
         ensures { result ≡ flat start }
     {
@@ -108,20 +107,6 @@ impl Table {
             depth: 0,
             position: Position::BeforeItem,
         }
-    }
-
-    /// A table with no row. It takes no memory.
-    pub(crate) fn new(alloc: Global) -> Self
-        ensures { result ≡ flat start }
-    {
-        Table::over(Vec::new(alloc))
-    }
-
-    /// A table with no row, and room for so many.
-    pub(crate) fn with_room(alloc: Global, rows: usize) -> Result<Self, AllocError>
-        ensures { IfOk result (λ table. table ≡ flat start) }
-    {
-        Ok(Table::over(Vec::with_capacity(alloc, rows)?))
     }
 
     fn may_begin(&self, kind: ItemKind) -> bool
@@ -208,30 +193,23 @@ impl Table {
         true
     }
 
-    // The last word becomes a node.
+    // The last row, which is a node's, is that of an open node.
     #[tactic(auto, using(crate::proofs::rows::TableLemmas::held_rules))]
     #[inline(always)]
-    fn open_last(&mut self, square: bool)
-        requires word { self.old.position ≡ AfterWord }
+    fn open_begun(&mut self, row: usize, square: bool)
+        requires last { row + 1 ≡ length self.old.rows }
         requires room { length self.old.opens < 12 }
-        ensures { self.new ≡ with_open self.old square }
+        ensures { self.new ≡ with_opened self.old row square }
     {
-        let at = self.rows.len() - 1;
-        let word = self.rows[at];
-        self.rows[at] = Row {
-            kind: ItemKind::Node,
-            square,
-            ..word
-        };
         let open = &mut self.opens[self.depth];
-        open.row = at;
+        open.row = row;
         open.count = 0;
         open.square = square;
         self.depth += 1;
         self.position = Position::BeforeItem;
     }
 
-    /// An opening delimiter.
+    /// An opening delimiter: the last word becomes a node.
     #[tactic(auto, using(crate::proofs::rows::TableLemmas::held_rules))]
     #[inline(always)]
     pub(crate) fn open(&mut self, square: bool) -> Opened
@@ -243,24 +221,15 @@ impl Table {
         if self.depth == LIMIT {
             return Opened::TooDeep;
         }
-        self.open_last(square);
+        let row = self.rows.len() - 1;
+        let word = self.rows[row];
+        self.rows[row] = Row {
+            kind: ItemKind::Node,
+            square,
+            ..word
+        };
+        self.open_begun(row, square);
         Opened::Taken
-    }
-
-    // The last row, which is a node's, is that of an open node.
-    #[tactic(auto, using(crate::proofs::rows::TableLemmas::held_rules))]
-    #[inline(always)]
-    fn open_begun(&mut self, row: usize)
-        requires last { row + 1 ≡ length self.old.rows }
-        requires room { length self.old.opens < 12 }
-        ensures { self.new ≡ with_opened self.old row }
-    {
-        let open = &mut self.opens[self.depth];
-        open.row = row;
-        open.count = 0;
-        open.square = true;
-        self.depth += 1;
-        self.position = Position::BeforeItem;
     }
 
     /// A word, the keyword that it is, and a square delimiter right behind it: whether both are allowed, and then the
@@ -285,7 +254,7 @@ impl Table {
         }
         let row = self.rows.len();
         self.begin(ItemKind::Node, true, place, raw, keyword)?;
-        self.open_begun(row);
+        self.open_begun(row, true);
         Ok(true)
     }
 

@@ -54,26 +54,16 @@ length-counted (o ∷ os) = refl
 pub ruleset begun_rules = (length-counted, length-held, length-append)
 
 -- the table still fits once its last row is that of an open node
-pub begun_keeps : (rows : List Row) (os : List Open) (depth row : ℕ) (position : Position) → IsRoomy (record { rows = rows; opens = held depth os; position = position }) →
+pub begun_keeps : (rows : List Row) (os : List Open) (depth row : ℕ) (square : Bool) (position : Position) → IsRoomy (record { rows = rows; opens = held depth os; position = position }) →
     row + 1 ≡ length rows → depth < 12 → length os ≡ 12 →
-    (depth + 1 ≤ 12) × IsRoomy (record { rows = rows; opens = held (depth + 1) (set os depth (record { row = row; square = true; count = 0 })); position = BeforeItem })
-begun_keeps rows os depth row position h last lt twelve =
+    (depth + 1 ≤ 12) × IsRoomy (record { rows = rows; opens = held (depth + 1) (set os depth (record { row = row; square = square; count = 0 })); position = BeforeItem })
+begun_keeps rows os depth row square position h last lt twelve =
     let fits : depth < length os = omega arith in
     (omega arith, record { opens = rw held-push (omega arith, h.opens); word = λ no. cc })
 
--- a new open node at the last row
-pub roomy_push : (n m depth : ℕ) (os : List Open) (square : Bool) → AreRoomy n (held depth os) → m ≡ n → 0 < n → depth < length os →
-    AreRoomy m (held (depth + 1) (set os depth (record { row = n - 1; square = square; count = 0 })))
-roomy_push n m depth os square h e lt d =
-    rw held-push (omega arith, roomy_more n m (held depth os) h (omega arith))
-
--- the table still fits once the last row is an open node
-pub open_keeps : (rows : List Row) (os : List Open) (depth at : ℕ) (row : Row) (square : Bool) (position : Position) →
-    IsRoomy (record { rows = rows; opens = held depth os; position = position }) → position ≡ AfterWord → at ≡ length rows → depth < 12 → length os ≡ 12 →
-    (depth + 1 ≤ 12) × IsRoomy (record { rows = set rows (at - 1) row; opens = held (depth + 1) (set os depth (record { row = at - 1; square = square; count = 0 })); position = BeforeItem })
-open_keeps rows os depth at row square position h word e lt twelve =
-    let some = h.word word in
-    let same : length (set rows (at - 1) row) ≡ length rows = length-set rows (at - 1) row in (
-      omega arith,
-      record { opens = roomy_push at (length (set rows (at - 1) row)) depth os square (roomy_more (length rows) at (held depth os) h.opens (omega arith)) (omega arith) (omega arith) (omega arith); word = λ no. cc },
-    )
+-- the table still fits once a row is another
+pub row_keeps : (rows : List Row) (os : List Open) (depth at : ℕ) (row : Row) (position : Position) → IsRoomy (record { rows = rows; opens = held depth os; position = position }) →
+    IsRoomy (record { rows = set rows at row; opens = held depth os; position = position })
+row_keeps rows os depth at row position h =
+    let same : length (set rows at row) ≡ length rows = length-set rows at row in
+    record { opens = rw same h.opens; word = λ w. rw same (h.word w) }

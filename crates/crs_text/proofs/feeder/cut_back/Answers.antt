@@ -6,4 +6,4 @@ use Rattle.crs_text.proofs.feeder.cut_back.Goals as goal
 
 pub returns-clause-settled : goal.returns-clause-settled
 returns-clause-settled c =
-    settled_start c.truncate.new.self.items c.new.result c.after_white.result c.new.ensures (omega (arith, c.after_white.ensures, ap (prefix_len is_white) c.deref.ensures.value))
+    settled_start c.truncate.new.self.items c.new-2.result c.after_white.result c.new-2.ensures (omega (arith, c.after_white.ensures, ap (prefix_len is_white) c.deref.ensures.value))
