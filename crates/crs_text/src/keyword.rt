@@ -339,26 +339,16 @@ fn suspects() -> &'static [Suspect]
     }
 }
 
-// By the length of a word the bits of its first eight letters that tell one from another, letter case aside.
-const KEPT: [u64; 17] = [
-    0x0000_0000_0000_0000,
-    0x0000_0000_0000_001f,
-    0x0000_0000_0000_1f1f,
-    0x0000_0000_001f_1f1f,
-    0x0000_0000_1f1f_1f1f,
-    0x0000_001f_1f1f_1f1f,
-    0x0000_1f1f_1f1f_1f1f,
-    0x001f_1f1f_1f1f_1f1f,
-    0x1f1f_1f1f_1f1f_1f1f,
-    0x1f1f_1f1f_1f1f_1f1f,
-    0x1f1f_1f1f_1f1f_1f1f,
-    0x1f1f_1f1f_1f1f_1f1f,
-    0x1f1f_1f1f_1f1f_1f1f,
-    0x1f1f_1f1f_1f1f_1f1f,
-    0x1f1f_1f1f_1f1f_1f1f,
-    0x1f1f_1f1f_1f1f_1f1f,
-    0x1f1f_1f1f_1f1f_1f1f,
-];
+// The bits of eight letters that tell one from another, letter case aside.
+const LETTERS: u64 = 0x1f1f_1f1f_1f1f_1f1f;
+
+// none, and then the last of these bits, without so many in front
+macro_rules! kept {
+    ($($without:literal)*) => { [0, $(LETTERS >> $without),*] };
+}
+
+// By the length of a word those of its first eight letters.
+const KEPT: [u64; 17] = kept!(56 48 40 32 24 16 8 0 0 0 0 0 0 0 0 0);
 
 // A number for the word of so many bytes in front, letter case aside, which differs from keyword to keyword: it is made
 // of the first eight letters and the length.
