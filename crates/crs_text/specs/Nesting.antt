@@ -1,17 +1,12 @@
 -- A bridge: the places of the delimiters that are open, the last opened first.
-use Rattle.std.specs.Prelude.{◌≡◌, ℕ, zero, suc, ◌+◌, ◌≤◌, ◌⊎◌, Bool, Option, Some, None, List, []}
-use Rattle.std.specs.Prelude.{◌∷◌, ◌++◌, length, drop, slice_index_or, MatchOption}
+use Rattle.std.specs.Prelude.{◌≡◌, ℕ, ◌+◌, ◌≤◌, ◌⊎◌, Bool, Option, Some, None, List, []}
+use Rattle.std.specs.Prelude.{◌∷◌, ◌++◌, length, drop, MatchOption}
 use Rattle.crs_text.specs.Tokens.{Token, single, comma, opening, closing, Forms, Fronts}
 use Rattle.crs_text.specs.Viable.{IsViable, opens}
 use Rattle.crs_text.specs.TextFault.{IsFlaw}
 use Rattle.crs_text.specs.Innermost.{IsInnermost}
 use Rattle.crs_text.specs.declared.refusal.Reason.{Reason}
 use Rattle.crs_text.specs.declared.refusal.Reason.TheVariants.{NotUtf8}
-
--- the first of these, as many as `depth` says, the last first
-abbrev pub places_held : ℕ → List ℕ → List ℕ
-places_held zero places = []
-places_held (suc depth) places = slice_index_or places depth 0 ∷ places_held depth places
 
 -- the places after a token at this place
 abbrev pub places_after : ℕ → List ℕ → Token → List ℕ

@@ -1,8 +1,8 @@
 -- The places of the delimiters that are open, token by token.
-use Rattle.std.proofs.Common.{add-one, ◌≡◌, ℕ, zero, suc, ◌+◌, ◌-◌, ◌≤◌, ◌<◌, ◌≢◌, ◌⊎◌, inl, inr, min, Bool, Option, Some, None, List, [], ◌∷◌, ◌++◌, length, get_or, drop, refl, sym, ap, subst, ◌∙◌, append_assoc, arith, get_or-set_same, get_or-set_other, MatchOption}
-use Rattle.std.proofs.Math.ListN.{set}
+use Rattle.std.proofs.Common.{add-one, ◌≡◌, ℕ, zero, suc, ◌+◌, ◌-◌, ◌≤◌, ◌<◌, ◌≢◌, ◌⊎◌, inl, inr, min, Bool, true, false, Option, Some, None, List, [], ◌∷◌, ◌++◌, length, get_or, drop, refl, sym, ap, subst, ◌∙◌, append_assoc, arith, MatchOption, reverse, ◌↔◌, IsSome}
+use Rattle.std.specs.Option.{option_to_list}
 use Rattle.std.specs.List.{fold, prefix_len}
-use Rattle.std.proofs.lemmas.List.{append-nil, length-drop, drop-drop}
+use Rattle.std.proofs.lemmas.List.{append-nil, length-drop, drop-drop, reverse-append}
 use Rattle.std.proofs.lemmas.List.Sums.{fold-append, prefix_len-le-length}
 use Rattle.crs_text.specs.Quoted.{StopsAt}
 use Rattle.crs_text.specs.Tokens as tokens
@@ -16,7 +16,7 @@ use Rattle.crs_text.specs.declared.refusal.Reason.TheVariants.{NotUtf8}
 use Rattle.crs_text.specs.declared.items.ItemKind.{ItemKind}
 use Rattle.crs_text.specs.Scan.{IsSingleAt}
 use Rattle.crs_text.specs.Innermost.{IsClosed, IsInnermost}
-use Rattle.crs_text.specs.Nesting.{places_held, places_after, innermost_of, IsPassed, IsHalted, AreOpen, LeadsTo, IsAhead, IsNested, IsAnswered}
+use Rattle.crs_text.specs.Nesting.{places_after, innermost_of, IsPassed, IsHalted, AreOpen, LeadsTo, IsAhead, IsNested, IsAnswered}
 use Rattle.crs_text.proofs.tokens.TokenLemmas.{Forms-one}
 use Rattle.crs_text.proofs.tokens.FlawLemmas.{flaw_no_token}
 use Rattle.crs_text.proofs.tokens.FrontsLemmas.{fronts_dark, skip_white, front_token, front_none, fronts_more, forms_shorter}
@@ -24,31 +24,19 @@ use Rattle.crs_text.proofs.tokens.AllowedLemmas.{allows_from_viable, opens-item}
 use Rattle.crs_text.proofs.tokens.ViableLemmas.{viable_front}
 use Rattle.crs_text.proofs.tokens.ScanLemmas.{after_white, fronts_short}
 
--- ---- the places, read from the array
+-- ---- the places, the last opened first
 
-pub places_held-top : (depth : ℕ) (ps : List ℕ) → 0 < depth → places_held depth ps ≡ get_or ps (depth - 1) 0 ∷ places_held (depth - 1) ps
-places_held-top zero ps h = absurd (omega arith)
-places_held-top (suc depth) ps h = let e : suc depth - 1 ≡ depth = omega arith in rw e refl
+-- the last one comes off
+pub popped : (old new : List ℕ) (last : Option ℕ) → old ≡ new ++ option_to_list last → (IsSome last ↔ (0 < length old)) →
+    (drop 1 (reverse old) ≡ reverse new) × (innermost_of (reverse old) ≡ last)
+popped [] new None e some = (ap reverse (e ∙ append-nil new), refl)
+popped (p ∷ ps) new None e some = let h : false ≡ true = some.1 (omega arith) in absurd cc
+popped old new (Some p) e some =
+    let last : reverse old ≡ p ∷ reverse new = ap reverse e ∙ reverse-append new (p ∷ []) in
+    (ap (drop 1) last, ap innermost_of last)
 
-pub places_held-none : (depth : ℕ) (ps : List ℕ) → depth ≡ 0 → places_held depth ps ≡ []
-places_held-none depth ps h = rw h refl
-
-pub length-places_held : (depth : ℕ) (ps : List ℕ) → length (places_held depth ps) ≡ depth
-length-places_held zero ps = refl
-length-places_held (suc depth) ps = ap (λ n. suc n) (length-places_held depth ps)
-
--- a write above leaves what is below
-places_held-set : (depth : ℕ) (ps : List ℕ) (i p : ℕ) → depth ≤ i → places_held depth (set ps i p) ≡ places_held depth ps
-places_held-set zero ps i p h = refl
-places_held-set (suc depth) ps i p h =
-    let below : depth ≢ i = omega arith in rw (get_or-set_other, places_held-set depth ps i p (omega arith))
-
--- one more
-pub places_held-push : (depth : ℕ) (ps : List ℕ) (p : ℕ) → depth < length ps → places_held (depth + 1) (set ps depth p) ≡ p ∷ places_held depth ps
-places_held-push depth ps p d =
-    rw (add-one, get_or-set_same, places_held-set depth ps depth p (omega arith))
-
-pub ruleset places_rules = (places_held-top, places_held-none, length-places_held, places_held-push)
+pub pushed : (old new : List ℕ) (at : ℕ) → new ≡ old ++ at ∷ [] → reverse new ≡ at ∷ reverse old
+pushed old new at e = ap reverse e ∙ reverse-append old (at ∷ [])
 
 -- ---- what is open
 
