@@ -92,16 +92,16 @@ fn is_closing(bytes: &[u8]) -> bool
     !begins_with_quote(rest_of(bytes, 1))
 }
 
-/// The length of the quoted text that begins what is left, if it is ASCII with no quote inside, as most are.
+/// The quoted text that begins what is left, if it is ASCII with no quote inside, as most are.
 #[inline(always)]
-pub(crate) fn plain_text_length(left: &[u8]) -> Option<usize>
+pub(crate) fn plain_text(left: &[u8]) -> Option<Lexed>
     requires { left.now ≡ 34 ∷ drop 1 left.now }
-    ensures { IfSome result (λ n. IsLexed left.now (Lexed.Text n)) }
+    ensures { IfSome result (IsLexed left.now) }
 {
     let after = rest_of(left, 1);
     let length = plain_ascii_length(after);
     if is_closing(rest_of(after, length)) {
-        Some(length)
+        Some(Lexed::Text { length })
     } else {
         None
     }
@@ -113,8 +113,8 @@ fn quoted(left: &[u8]) -> Lexed
     requires { left.now ≡ 34 ∷ drop 1 left.now }
     ensures { IsLexed left.now result }
 {
-    match plain_text_length(left) {
-        Some(length) => Lexed::Text { length },
+    match plain_text(left) {
+        Some(lexed) => lexed,
         None => any_quoted(left),
     }
 }
@@ -190,16 +190,16 @@ fn is_one_digit(left: &[u8]) -> bool
     }
 }
 
-/// The length of the number that begins what is left, if it has digits, no exponent, and few enough digits to be in
-/// bounds whatever they are, as most have.
+/// The number that begins what is left, if it has digits, no exponent, and few enough digits to be in bounds whatever
+/// they are, as most have.
 #[inline(always)]
-pub(crate) fn plain_number_length(left: &[u8]) -> Option<usize>
-    ensures { IfSome result (λ n. IsLexed left.now (Lexed.Number n)) }
+pub(crate) fn plain_number(left: &[u8]) -> Option<Lexed>
+    ensures { IfSome result (IsLexed left.now) }
 {
     crs_decimal::laws::few_digits();
     crs_decimal::laws::spelled_as_a_run();
     if is_one_digit(left) {
-        return Some(1);
+        return Some(Lexed::Number { length: 1 });
     }
     let start = sign_length(left);
     let unsigned = rest_of(left, start);
@@ -213,19 +213,12 @@ pub(crate) fn plain_number_length(left: &[u8]) -> Option<usize>
         return None;
     }
     if ends_run(rest_of(behind, fraction)) {
-        Some(start + whole + fraction)
+        Some(Lexed::Number {
+            length: start + whole + fraction,
+        })
     } else {
         None
     }
-}
-
-#[inline(always)]
-fn single_word(left: &[u8]) -> Lexed
-    requires { BeginsWith tokens.is_letter left.now }
-    ensures { IsLexed left.now result }
-{
-    let length = word_length(left);
-    Lexed::Word { length }
 }
 
 /// The token or the flaw that begins what is left, which begins with no white space.
@@ -235,7 +228,9 @@ pub(crate) fn token_at(left: &[u8]) -> Lexed
     ensures { IsLexed left.now result }
 {
     match left[0] {
-        b'A'..=b'Z' | b'a'..=b'z' => single_word(left),
+        b'A'..=b'Z' | b'a'..=b'z' => Lexed::Word {
+            length: word_length(left),
+        },
         b'0'..=b'9' | b'+' | b'-' | b'.' => run(left),
         b'"' => quoted(left),
         b',' => Lexed::Comma,

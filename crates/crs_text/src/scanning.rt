@@ -1,5 +1,5 @@
 //! One pass over the text: each token is found, and the table takes it or refuses it.
-ghost use Rattle.std.specs.Prelude.{◌≡◌, ◌+◌, ◌≤◌, ◌<◌, List, ◌∷◌, length, drop, true, MatchResult, MatchBool, IsTrue};
+ghost use Rattle.std.specs.Prelude.{◌≡◌, ◌+◌, ◌≤◌, ◌<◌, List, ◌∷◌, length, drop, true, MatchResult, MatchBool, IfSome, IsTrue};
 ghost use Rattle.crs_text.specs.Tokens.{Token, Forms, comma, opening, is_letter, is_white};
 ghost use Rattle.crs_text.specs.Quoted.{BeginsWith};
 ghost use Rattle.std.specs.List.{prefix_len};
@@ -13,7 +13,7 @@ ghost use Rattle.crs_text.specs.Lexing.{IsLexed};
 use crate::fault::Fault;
 use crate::items::ItemKind;
 use crate::keyword::{Keyword, front_keyword};
-use crate::lexing::{Lexed, front_of, plain_number_length, plain_text_length, rest_of, token_at};
+use crate::lexing::{Lexed, front_of, plain_number, plain_text, rest_of, token_at};
 use crate::refusal::Reason;
 use crate::runs::{is_digit, is_letter, is_white, letters_length};
 use crate::table::{Opened, Table};
@@ -176,17 +176,6 @@ fn past_comma(table: &mut Table, text: &[u8], at: usize) -> usize
     }
 }
 
-// Moves the place past a token of so many bytes that was taken, and past a comma right behind it and white space.
-#[inline(always)]
-fn go_on(table: &mut Table, text: &[u8], at: &mut usize, taken: usize)
-    requires { IsPassed text.now table.old (at.old + taken) }
-    ensures reached { IsReached text.now table.new at.new }
-    ensures further { at.old + taken ≤ at.new }
-{
-    let end = past_comma(table, text, *at + taken);
-    *at = after_white(text, end);
-}
-
 // Takes this token, which begins here, and a comma right behind it; moves the place past them and white space. Each
 // caller knows what kind of token it is, so that each kind has code of its own.
 #[inline(always)]
@@ -199,7 +188,8 @@ fn pass(table: &mut Table, text: &[u8], at: &mut usize, lexed: Lexed) -> Result<
     let mut taken = 0;
     match take_lexed(table, text, *at, lexed, &mut taken) {
         Ok(()) => {
-            go_on(table, text, at, taken);
+            let end = past_comma(table, text, *at + taken);
+            *at = after_white(text, end);
             Ok(())
         }
         Err(fault) => Err(fault),
@@ -234,27 +224,16 @@ fn pass_else(table: &mut Table, text: &[u8], at: &mut usize) -> Result<(), Fault
     }
 }
 
+// The token here, if it is seen by a quick look.
 #[inline(always)]
-fn pass_quoted(table: &mut Table, text: &[u8], at: &mut usize) -> Result<(), Fault>
+fn pass_if(table: &mut Table, text: &[u8], at: &mut usize, seen: Option<Lexed>) -> Result<(), Fault>
     requires more { at.old < length text.now }
     requires reached { IsReached text.now table.old at.old }
-    requires quote { drop at.old text.now ≡ 34 ∷ drop 1 (drop at.old text.now) }
+    requires lexed { IfSome seen (IsLexed (drop at.old text.now)) }
     ensures { MatchResult result (λ _. IsFurther text.now at.old table.new at.new) (IsTextFault text.now) }
 {
-    match plain_text_length(rest_of(text, *at)) {
-        Some(length) => pass(table, text, at, Lexed::Text { length }),
-        None => pass_else(table, text, at),
-    }
-}
-
-#[inline(always)]
-fn pass_number(table: &mut Table, text: &[u8], at: &mut usize) -> Result<(), Fault>
-    requires more { at.old < length text.now }
-    requires reached { IsReached text.now table.old at.old }
-    ensures { MatchResult result (λ _. IsFurther text.now at.old table.new at.new) (IsTextFault text.now) }
-{
-    match plain_number_length(rest_of(text, *at)) {
-        Some(length) => pass(table, text, at, Lexed::Number { length }),
+    match seen {
+        Some(lexed) => pass(table, text, at, lexed),
         None => pass_else(table, text, at),
     }
 }
@@ -334,7 +313,7 @@ fn advance(table: &mut Table, text: &[u8], at: &mut usize) -> Result<(), Fault>
 {
     let first = text[*at];
     if first == b'"' {
-        return pass_quoted(table, text, at);
+        return pass_if(table, text, at, plain_text(rest_of(text, *at)));
     }
     if first == b']' {
         return pass(table, text, at, Lexed::Closing { square: true });
@@ -343,7 +322,7 @@ fn advance(table: &mut Table, text: &[u8], at: &mut usize) -> Result<(), Fault>
         return pass_word(table, text, at);
     }
     if is_digit(first) {
-        return pass_number(table, text, at);
+        return pass_if(table, text, at, plain_number(rest_of(text, *at)));
     }
     if first == b',' {
         return pass(table, text, at, Lexed::Comma);
@@ -357,7 +336,7 @@ fn advance(table: &mut Table, text: &[u8], at: &mut usize) -> Result<(), Fault>
     if first == b'[' {
         return pass(table, text, at, Lexed::Opening { square: true });
     }
-    pass_number(table, text, at)
+    pass_if(table, text, at, plain_number(rest_of(text, *at)))
 }
 
 // Reads the last bytes of the text, from this place on: Ok where all tokens are one whole node. `advance` is called in

@@ -3,7 +3,7 @@ use Rattle.std.specs.List.{prefix_len}
 use Rattle.crs_text.specs.Runs.{is_plain_ascii, IsClosing}
 use Rattle.crs_text.proofs.tokens.LexedLemmas.{lexed_text, with_quote}
 use Rattle.crs_text.proofs.tokens.RunLemmas.{ascii_shut, ascii_utf8}
-use Rattle.crs_text.proofs.lexing.plain_text_length.Goals as goal
+use Rattle.crs_text.proofs.lexing.plain_text.Goals as goal
 
 pub returns-then-is_closing : goal.returns-then-is_closing
 returns-then-is_closing c =

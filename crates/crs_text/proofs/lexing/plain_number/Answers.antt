@@ -2,7 +2,7 @@ use Rattle.std.proofs.Common.{ap, ◌∙◌, drop, arith}
 use Rattle.std.specs.List.{prefix_len}
 use Rattle.crs_decimal.specs.Prelude.{is_digit}
 use Rattle.crs_text.proofs.tokens.PlainNumberLemmas.{plain_lexed, one_digit_lexed}
-use Rattle.crs_text.proofs.lexing.plain_number_length.Goals as goal
+use Rattle.crs_text.proofs.lexing.plain_number.Goals as goal
 
 pub returns-then-ends_run : goal.returns-then-ends_run
 returns-then-ends_run c =
