@@ -104,11 +104,6 @@ abbrev pub IsFedBefore : List ℕ → List ℕ → Flat → Held → Type 0
 IsFedBefore text piece table held =
     (before : List ℕ) × (text ≡ before ++ piece) × IsFedTo before table held
 
--- after a settled token the next place, else what is pending here
-abbrev pub IsStepFrom : List ℕ → ℕ → Flat → Flat → Option ℕ → Type 0
-IsStepFrom text at before behind None = (behind ≡ before) × IsUnsettledAt text at
-IsStepFrom text at before behind (Some next) = IsSettledTo text behind next × (at < next)
-
 -- a fault that is a refusal is settled
 abbrev pub IsSettledFault : List ℕ → Fault → Type 0
 IsSettledFault text (faults.Refused refusal) = IsSettledRefusal text refusal.number refusal.place

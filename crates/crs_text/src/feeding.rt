@@ -4,7 +4,7 @@ ghost use Rattle.std.specs.Prelude.{◌<◌, length, IfSome, MatchBool, MatchRes
 ghost use Rattle.crs_text.specs.Utf8.{IsUtf8Front, IsValidTo};
 ghost use Rattle.crs_text.specs.Lexing.{IsLexed};
 ghost use Rattle.crs_text.specs.Feeding.{IsFlawSettled, IsLexedSettled, IsSettledTo, IsUnsettledAt, IsFedTo};
-ghost use Rattle.crs_text.specs.Feeding.{IsFedBefore, IsStepFrom, IsSettledFault, IsPendingIn, IsPendingBefore};
+ghost use Rattle.crs_text.specs.Feeding.{IsFedBefore, IsSettledFault, IsPendingIn, IsPendingBefore};
 ghost use Rattle.crs_text.specs.Feeding.{StaysPending, IsInsideTo, IsOpenTo};
 
 use crate::fault::Fault;
@@ -59,25 +59,8 @@ fn is_settled(left: &[u8], lexed: Lexed) -> bool
     }
 }
 
-// The settled token at this place, taken with the white space after it; None where none is settled.
-fn settle(table: &mut Table, text: &[u8], at: usize) -> Result<Option<usize>, Fault>
-    requires more { at < length text.now }
-    requires reached { IsSettledTo text.now table.old at }
-    ensures { MatchResult result (IsStepFrom text.now at table.old table.new) (IsSettledFault text.now) }
-{
-    let left = rest_of(text, at);
-    let lexed = token_at(left);
-    if !is_settled(left, lexed) {
-        return Ok(None);
-    }
-    let mut taken = 0;
-    match take_lexed(table, text, at, lexed, &mut taken) {
-        Ok(()) => Ok(Some(after_white(text, at + taken))),
-        Err(fault) => Err(fault),
-    }
-}
-
-// Takes the settled tokens from this place on: where the first one begins that isn't settled.
+// Takes the settled tokens from this place on, each with the white space after it: where the first one begins that
+// isn't settled.
 fn settle_all(table: &mut Table, text: &[u8], from: usize) -> Result<usize, Fault>
     requires { IsSettledTo text.now table.old from }
     ensures { MatchResult result
@@ -86,10 +69,14 @@ fn settle_all(table: &mut Table, text: &[u8], from: usize) -> Result<usize, Faul
 {
     let mut at = from;
     while at < text.len() {
-        match settle(table, text, at)? {
-            Some(next) => at = next,
-            None => return Ok(at),
+        let left = rest_of(text, at);
+        let lexed = token_at(left);
+        if !is_settled(left, lexed) {
+            return Ok(at);
         }
+        let mut taken = 0;
+        take_lexed(table, text, at, lexed, &mut taken)?;
+        at = after_white(text, at + taken);
     }
     Ok(at)
 }
@@ -158,18 +145,6 @@ fn pending_of(left: &[u8]) -> Pending
     }
 }
 
-// Takes the settled tokens from this place on.
-fn read_tokens(table: &mut Table, text: &[u8], from: usize) -> Result<Held, Fault>
-    requires { IsSettledTo text.now table.old from }
-    ensures { MatchResult result (IsFedTo text.now table.new) (IsSettledFault text.now) }
-{
-    let at = settle_all(table, text, from)?;
-    Ok(Held {
-        at,
-        pending: pending_of(rest_of(text, at)),
-    })
-}
-
 /// Takes what the last piece of the text settles.
 pub(crate) fn read_on(
     table: &mut Table,
@@ -184,7 +159,11 @@ pub(crate) fn read_on(
         Some(pending) => Ok(Held { pending, ..held }),
         None => {
             let from = after_white(text, held.at);
-            read_tokens(table, text, from)
+            let at = settle_all(table, text, from)?;
+            Ok(Held {
+                at,
+                pending: pending_of(rest_of(text, at)),
+            })
         }
     }
 }

@@ -19,7 +19,17 @@ returns-in-Some c =
       so_far = so_far_from text c.args.table.now at settled (held_at_place text c.rest_of.result.now at c.rest_of.ensures s.1);
     }
 
-pub read_tokens-requires : goal.read_tokens-requires
-read_tokens-requires c =
+pub settle_all-requires : goal.settle_all-requires
+settle_all-requires c =
     let r = c.requires in
     settled_behind c.args.text.now r.0 c.args.piece.now c.args.table.now c.args.held.at c.after_white-from.result r.1 r.2.settled c.after_white-from.ensures
+
+pub returns-in_ok-at-in-None : goal.returns-in_ok-at-in-None
+returns-in_ok-at-in-None c =
+    let text = c.args.text.now in
+    let at = c.in_ok-at-in-None.at in
+    record {
+      settled = c.in_ok-at-in-None.ensures.0;
+      pending = rw c.rest_of-in-None.ensures at c.pending_of.ensures;
+      so_far = so_far_from text c.settle_all.new.table at c.in_ok-at-in-None.ensures.0 c.in_ok-at-in-None.ensures.1;
+    }
