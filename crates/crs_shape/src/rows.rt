@@ -8,210 +8,132 @@
 #[macro_export]
 macro_rules! row {
     // items that aren't nodes
-    (Number, $table:ident, $with:tt) => { $table! { $with [] } };
-    (Text, $table:ident, $with:tt) => { $table! { $with [] } };
-    (Word, $table:ident, $with:tt) => { $table! { $with [] } };
+    (Number $to:tt) => { row!(@ $to []) };
+    (Text $to:tt) => { row!(@ $to []) };
+    (Word $to:tt) => { row!(@ $to []) };
 
     // Geodetic and geographic CRS
-    (GeodeticCrs, $table:ident, $with:tt) => {
-        $table! {
-            $with [GeodCrs, GeodeticCrs]
-            one(Text) optional(Dynamic) one(GeodeticFrame, GeodeticEnsemble) optional(PrimeMeridian)
-            one(CoordinateSystem) some(Axis) optional(AxisUnit)
-            any(Usage, Scope, Area, BoundingBox, VerticalExtent, Identifier, Remark)
-        }
+    (GeodeticCrs $to:tt) => {
+        row!(@ $to [GeodCrs, GeodeticCrs] one(Text) optional(Dynamic) one(GeodeticFrame, GeodeticEnsemble)
+            optional(PrimeMeridian) one(CoordinateSystem) some(Axis) optional(AxisUnit)
+            any(Usage, Scope, Area, BoundingBox, VerticalExtent, Identifier, Remark))
     };
-    (GeographicCrs, $table:ident, $with:tt) => {
-        $table! {
-            $with [GeogCrs, GeographicCrs]
-            one(Text) optional(Dynamic) one(GeodeticFrame, GeodeticEnsemble) optional(PrimeMeridian)
-            one(CoordinateSystem) some(Axis) optional(AxisUnit)
-            any(Usage, Scope, Area, BoundingBox, VerticalExtent, Identifier, Remark)
-        }
+    (GeographicCrs $to:tt) => {
+        row!(@ $to [GeogCrs, GeographicCrs] one(Text) optional(Dynamic) one(GeodeticFrame, GeodeticEnsemble)
+            optional(PrimeMeridian) one(CoordinateSystem) some(Axis) optional(AxisUnit)
+            any(Usage, Scope, Area, BoundingBox, VerticalExtent, Identifier, Remark))
     };
 
     // Projected CRS
-    (ProjectedCrs, $table:ident, $with:tt) => {
-        $table! {
-            $with [ProjCrs, ProjectedCrs]
-            one(Text) one(BaseCrs) one(Conversion) one(CoordinateSystem) some(Axis) optional(AxisUnit)
-            any(Usage, Scope, Area, BoundingBox, VerticalExtent, Identifier, Remark)
-        }
+    (ProjectedCrs $to:tt) => {
+        row!(@ $to [ProjCrs, ProjectedCrs] one(Text) one(BaseCrs) one(Conversion) one(CoordinateSystem) some(Axis)
+            optional(AxisUnit) any(Usage, Scope, Area, BoundingBox, VerticalExtent, Identifier, Remark))
     };
 
     // Vertical CRS
-    (VerticalCrs, $table:ident, $with:tt) => {
-        $table! {
-            $with [VertCrs, VerticalCrs]
-            one(Text) optional(Dynamic) one(VerticalFrame, VerticalEnsemble) one(CoordinateSystem) some(Axis)
-            optional(AxisUnit)
-            any(GeoidModel, Usage, Scope, Area, BoundingBox, VerticalExtent, Identifier, Remark)
-        }
+    (VerticalCrs $to:tt) => {
+        row!(@ $to [VertCrs, VerticalCrs] one(Text) optional(Dynamic) one(VerticalFrame, VerticalEnsemble)
+            one(CoordinateSystem) some(Axis) optional(AxisUnit)
+            any(GeoidModel, Usage, Scope, Area, BoundingBox, VerticalExtent, Identifier, Remark))
     };
 
     // Compound CRS
-    (CompoundCrs, $table:ident, $with:tt) => {
-        $table! {
-            $with [CompoundCrs]
-            one(Text) one(GeodeticCrs, GeographicCrs, ProjectedCrs) one(VerticalCrs)
-            any(Usage, Scope, Area, BoundingBox, VerticalExtent, Identifier, Remark)
-        }
+    (CompoundCrs $to:tt) => {
+        row!(@ $to [CompoundCrs] one(Text) one(GeodeticCrs, GeographicCrs, ProjectedCrs) one(VerticalCrs)
+            any(Usage, Scope, Area, BoundingBox, VerticalExtent, Identifier, Remark))
     };
-    (BaseCrs, $table:ident, $with:tt) => {
-        $table! {
-            $with [BaseGeogCrs, BaseGeodCrs]
-            one(Text) optional(Dynamic) one(GeodeticFrame, GeodeticEnsemble) optional(PrimeMeridian)
-            optional(AngleUnit) any(Identifier)
-        }
+    (BaseCrs $to:tt) => {
+        row!(@ $to [BaseGeogCrs, BaseGeodCrs] one(Text) optional(Dynamic) one(GeodeticFrame, GeodeticEnsemble)
+            optional(PrimeMeridian) optional(AngleUnit) any(Identifier))
     };
 
     // Dynamic frame
-    (Dynamic, $table:ident, $with:tt) => { $table! { $with [Dynamic] one(FrameEpoch) optional(DeformationModel) } };
+    (Dynamic $to:tt) => { row!(@ $to [Dynamic] one(FrameEpoch) optional(DeformationModel)) };
 
     // Datum
-    (GeodeticFrame, $table:ident, $with:tt) => {
-        $table! {
-            $with [Datum, Trf, GeodeticDatum]
-            one(Text) one(Ellipsoid) any(Anchor, AnchorEpoch) any(Identifier)
-        }
+    (GeodeticFrame $to:tt) => {
+        row!(@ $to [Datum, Trf, GeodeticDatum] one(Text) one(Ellipsoid) any(Anchor, AnchorEpoch) any(Identifier))
     };
-    (VerticalFrame, $table:ident, $with:tt) => {
-        $table! {
-            $with [VDatum, Vrf, VerticalDatum]
-            one(Text) any(Anchor, AnchorEpoch) any(Identifier)
-        }
+    (VerticalFrame $to:tt) => {
+        row!(@ $to [VDatum, Vrf, VerticalDatum] one(Text) any(Anchor, AnchorEpoch) any(Identifier))
     };
 
     // Datum ensemble
-    (GeodeticEnsemble, $table:ident, $with:tt) => {
-        $table! {
-            $with [Ensemble]
-            one(Text) some(Member) one(Ellipsoid) one(EnsembleAccuracy) any(Identifier)
-        }
+    (GeodeticEnsemble $to:tt) => {
+        row!(@ $to [Ensemble] one(Text) some(Member) one(Ellipsoid) one(EnsembleAccuracy) any(Identifier))
     };
-    (VerticalEnsemble, $table:ident, $with:tt) => {
-        $table! {
-            $with [Ensemble]
-            one(Text) some(Member) one(EnsembleAccuracy) any(Identifier)
-        }
+    (VerticalEnsemble $to:tt) => {
+        row!(@ $to [Ensemble] one(Text) some(Member) one(EnsembleAccuracy) any(Identifier))
     };
 
     // Ellipsoid: name, semi-major axis, inverse flattening
-    (Ellipsoid, $table:ident, $with:tt) => {
-        $table! {
-            $with [Ellipsoid, Spheroid]
-            one(Text) one(Number) one(Number) optional(LengthUnit) any(Identifier)
-        }
+    (Ellipsoid $to:tt) => {
+        row!(@ $to [Ellipsoid, Spheroid] one(Text) one(Number) one(Number) optional(LengthUnit) any(Identifier))
     };
 
     // Prime meridian: name, longitude
-    (PrimeMeridian, $table:ident, $with:tt) => {
-        $table! {
-            $with [PrimeM, PrimeMeridian]
-            one(Text) one(Number) optional(AngleUnit) any(Identifier)
-        }
+    (PrimeMeridian $to:tt) => {
+        row!(@ $to [PrimeM, PrimeMeridian] one(Text) one(Number) optional(AngleUnit) any(Identifier))
     };
 
     // Units: name, factor
-    (PlainUnit, $table:ident, $with:tt) => { $table! { $with [PlainUnit] one(Text) one(Number) any(Identifier) } };
-    (LengthUnit, $table:ident, $with:tt) => {
-        $table! {
-            $with [LengthUnit, PlainUnit]
-            one(Text) one(Number) any(Identifier)
-        }
-    };
-    (AngleUnit, $table:ident, $with:tt) => {
-        $table! {
-            $with [AngleUnit, PlainUnit]
-            one(Text) one(Number) any(Identifier)
-        }
-    };
-    (ScaleUnit, $table:ident, $with:tt) => { $table! { $with [ScaleUnit] one(Text) one(Number) any(Identifier) } };
-    (AxisUnit, $table:ident, $with:tt) => {
-        $table! {
-            $with [LengthUnit, AngleUnit, PlainUnit]
-            one(Text) one(Number) any(Identifier)
-        }
-    };
+    (PlainUnit $to:tt) => { row!(@ $to [PlainUnit] one(Text) one(Number) any(Identifier)) };
+    (LengthUnit $to:tt) => { row!(@ $to [LengthUnit, PlainUnit] one(Text) one(Number) any(Identifier)) };
+    (AngleUnit $to:tt) => { row!(@ $to [AngleUnit, PlainUnit] one(Text) one(Number) any(Identifier)) };
+    (ScaleUnit $to:tt) => { row!(@ $to [ScaleUnit] one(Text) one(Number) any(Identifier)) };
+    (AxisUnit $to:tt) => { row!(@ $to [LengthUnit, AngleUnit, PlainUnit] one(Text) one(Number) any(Identifier)) };
 
     // Coordinate system: type, dimension
-    (CoordinateSystem, $table:ident, $with:tt) => { $table! { $with [Cs] one(Word) one(Number) any(Identifier) } };
+    (CoordinateSystem $to:tt) => { row!(@ $to [Cs] one(Word) one(Number) any(Identifier)) };
 
     // Axis: name, direction
-    (Axis, $table:ident, $with:tt) => {
-        $table! {
-            $with [Axis]
-            one(Text) one(Word) optional(AxisMeridian) optional(Order) optional(AxisUnit) any(Identifier)
-        }
+    (Axis $to:tt) => {
+        row!(@ $to [Axis] one(Text) one(Word) optional(AxisMeridian) optional(Order) optional(AxisUnit) any(Identifier))
     };
-    (AxisMeridian, $table:ident, $with:tt) => { $table! { $with [Meridian] one(Number) one(AngleUnit) } };
+    (AxisMeridian $to:tt) => { row!(@ $to [Meridian] one(Number) one(AngleUnit)) };
 
     // Map projection
-    (Conversion, $table:ident, $with:tt) => {
-        $table! {
-            $with [Conversion]
-            one(Text) one(Method) any(Parameter) any(Identifier)
-        }
-    };
-    (Parameter, $table:ident, $with:tt) => {
-        $table! {
-            $with [Parameter]
-            one(Text) one(Number) optional(PlainUnit, LengthUnit, AngleUnit, ScaleUnit) any(Identifier)
-        }
+    (Conversion $to:tt) => { row!(@ $to [Conversion] one(Text) one(Method) any(Parameter) any(Identifier)) };
+    (Parameter $to:tt) => {
+        row!(@ $to [Parameter] one(Text) one(Number) optional(PlainUnit, LengthUnit, AngleUnit, ScaleUnit)
+            any(Identifier))
     };
 
     // a name and identifiers
-    (Member, $table:ident, $with:tt) => { $table! { $with [Member] one(Text) any(Identifier) } };
-    (Method, $table:ident, $with:tt) => { $table! { $with [Method, Projection] one(Text) any(Identifier) } };
-    (GeoidModel, $table:ident, $with:tt) => { $table! { $with [GeoidModel] one(Text) any(Identifier) } };
-    (DeformationModel, $table:ident, $with:tt) => {
-        $table! {
-            $with [Model, VelocityGrid]
-            one(Text) any(Identifier)
-        }
-    };
+    (Member $to:tt) => { row!(@ $to [Member] one(Text) any(Identifier)) };
+    (Method $to:tt) => { row!(@ $to [Method, Projection] one(Text) any(Identifier)) };
+    (GeoidModel $to:tt) => { row!(@ $to [GeoidModel] one(Text) any(Identifier)) };
+    (DeformationModel $to:tt) => { row!(@ $to [Model, VelocityGrid] one(Text) any(Identifier)) };
 
     // Usage; a node has at least one argument
-    (Usage, $table:ident, $with:tt) => {
-        $table! {
-            $with [Usage]
-            optional(Scope) optional(Area) optional(BoundingBox) optional(VerticalExtent)
-        }
+    (Usage $to:tt) => {
+        row!(@ $to [Usage] optional(Scope) optional(Area) optional(BoundingBox) optional(VerticalExtent))
     };
-    (BoundingBox, $table:ident, $with:tt) => {
-        $table! {
-            $with [BBox]
-            one(Number) one(Number) one(Number) one(Number)
-        }
-    };
-    (VerticalExtent, $table:ident, $with:tt) => {
-        $table! {
-            $with [VerticalExtent]
-            one(Number) one(Number) optional(LengthUnit)
-        }
-    };
+    (BoundingBox $to:tt) => { row!(@ $to [BBox] one(Number) one(Number) one(Number) one(Number)) };
+    (VerticalExtent $to:tt) => { row!(@ $to [VerticalExtent] one(Number) one(Number) optional(LengthUnit)) };
 
     // Identifier: authority, code, version
-    (Identifier, $table:ident, $with:tt) => {
-        $table! {
-            $with [Id]
-            one(Text) one(Number, Text) optional(Number, Text) optional(Citation) optional(Uri)
-        }
+    (Identifier $to:tt) => {
+        row!(@ $to [Id] one(Text) one(Number, Text) optional(Number, Text) optional(Citation) optional(Uri))
     };
 
     // one number
-    (FrameEpoch, $table:ident, $with:tt) => { $table! { $with [FrameEpoch] one(Number) } };
-    (AnchorEpoch, $table:ident, $with:tt) => { $table! { $with [AnchorEpoch] one(Number) } };
-    (EnsembleAccuracy, $table:ident, $with:tt) => { $table! { $with [EnsembleAccuracy] one(Number) } };
-    (Order, $table:ident, $with:tt) => { $table! { $with [Order] one(Number) } };
+    (FrameEpoch $to:tt) => { row!(@ $to [FrameEpoch] one(Number)) };
+    (AnchorEpoch $to:tt) => { row!(@ $to [AnchorEpoch] one(Number)) };
+    (EnsembleAccuracy $to:tt) => { row!(@ $to [EnsembleAccuracy] one(Number)) };
+    (Order $to:tt) => { row!(@ $to [Order] one(Number)) };
 
     // one text
-    (Anchor, $table:ident, $with:tt) => { $table! { $with [Anchor] one(Text) } };
-    (Scope, $table:ident, $with:tt) => { $table! { $with [Scope] one(Text) } };
-    (Area, $table:ident, $with:tt) => { $table! { $with [Area] one(Text) } };
-    (Citation, $table:ident, $with:tt) => { $table! { $with [Citation] one(Text) } };
-    (Uri, $table:ident, $with:tt) => { $table! { $with [Uri] one(Text) } };
-    (Remark, $table:ident, $with:tt) => { $table! { $with [Remark] one(Text) } };
+    (Anchor $to:tt) => { row!(@ $to [Anchor] one(Text)) };
+    (Scope $to:tt) => { row!(@ $to [Scope] one(Text)) };
+    (Area $to:tt) => { row!(@ $to [Area] one(Text)) };
+    (Citation $to:tt) => { row!(@ $to [Citation] one(Text)) };
+    (Uri $to:tt) => { row!(@ $to [Uri] one(Text)) };
+    (Remark $to:tt) => { row!(@ $to [Remark] one(Text)) };
+
+    // to the macro that is asked
+    (@ ($table:ident $with:tt) $($row:tt)*) => { $table! { $with $($row)* } };
+    ($class:ident, $table:ident, $with:tt) => { row!($class ($table $with)) };
 }
 
 // calls the macro `$each` with `$with` and all classes, in the order of `Class`
