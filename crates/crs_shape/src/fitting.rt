@@ -1,11 +1,11 @@
-//! Whether items have the shape of a class.
+//! Whether items have the shape of a class, and what could come where they don't.
 ghost use Rattle.std.specs.Prelude.{◌≡◌, ◌+◌, ◌^◌, ◌<◌, ◌&&◌, not, true, false, Some, IsTrue, IsFalse, MatchResult};
 ghost use Rattle.std.specs.Prelude.{All, MatchOption, option_map};
 ghost use Rattle.crs_text.specs.Items.{first_of, kind_of_item, raw_of, here, HasId};
 ghost use Rattle.crs_shape.specs.Keywords.{is_known};
 ghost use Rattle.crs_text.specs.Refusal.{is_refusal};
 ghost use Rattle.crs_shape.specs.ClassSet.{HasSet};
-ghost use Rattle.crs_shape.specs.Expected.{ExpectedIn};
+ghost use Rattle.crs_shape.specs.Expected.{ExpectedAtRoot, ExpectedIn};
 ghost use Rattle.crs_shape.specs.FirstFault.{step_of, first_inside};
 ghost use Rattle.crs_shape.specs.ShapeFault.{class_in, is_of, misplaced, IsFree, IsOnly, Inside, AtRoot, class_of_root};
 ghost use Rattle.crs_shape.specs.Walk.{after, may_end, left_of};
@@ -53,6 +53,24 @@ pub fn fit_root(items: &Items<'_>) -> Result<Class, Refusal>
         Some(class) => {
             fit(items, root, class)?;
             Ok(class)
+        }
+    }
+}
+
+/// What could come at the fault for which `fit_root` refuses the items: the node whose argument isn't allowed there,
+/// or whose arguments aren't complete, and exactly the classes with which an allowed list goes on after the arguments
+/// before. None: the items have the shape of a CRS.
+///
+/// It takes no memory; time is linear in the items. Profile.
+pub fn expected(items: &Items<'_>) -> Option<Expected>
+    ensures { MatchOption result (IsFree (AtRoot items.now)) (ExpectedAtRoot items.now) }
+{
+    let root = items.root();
+    match class_at_root(items, root) {
+        None => Some(Expected::new(None, items.place(root), START)),
+        Some(class) => {
+            let (_, expected) = fault_within(items, root, class)?;
+            Some(expected)
         }
     }
 }

@@ -8,7 +8,6 @@ ghost use Rattle.crs_shape.specs.Shape.{has_class};
 use crate::class::Class;
 use crate::keyword_classes::classes_by;
 use crate::rows::{every_class, row, rows};
-use crate::slot::has;
 use crs_text::{Keyword, laws};
 
 // the keywords of a class
@@ -38,12 +37,7 @@ pub fn root_class(keyword: &[u8]) -> Option<Class>
 pub(crate) fn root_by(keyword: Option<Keyword>) -> Option<Class>
     ensures { result ≡ find is_root (classes_by keyword) }
 {
-    first_root(classes_by(keyword))
-}
-
-fn first_root(classes: &[Class]) -> Option<Class>
-    ensures { result ≡ find is_root classes.now }
-{
+    let classes = classes_by(keyword);
     for class in classes {
         if is_root(*class) {
             return Some(*class);
@@ -91,4 +85,16 @@ pub(crate) fn has_keyword(class: Class, keyword: Option<Keyword>) -> bool
     ensures { result ≡ is_among class (classes_by keyword) }
 {
     has(classes_by(keyword), class)
+}
+
+// Whether a class is one of these. Mostly it is the first, so a plain loop is quicker than `contains`.
+fn has(classes: &[Class], class: Class) -> bool
+    ensures { result ≡ is_among class classes.now }
+{
+    for own in classes {
+        if *own == class {
+            return true;
+        }
+    }
+    false
 }

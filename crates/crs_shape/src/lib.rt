@@ -1,17 +1,15 @@
 //! Keywords, classes and slots, the closed lists of words, and the exact refusal of a shape.
 #![tactic(auto)]
 
+mod bit_set;
 mod class;
-mod class_set;
 mod direction;
 mod expectation;
-mod expecting;
 mod fitting;
 mod keyword;
 mod keyword_classes;
 pub mod laws;
 mod near;
-mod part;
 mod rows;
 mod seeking;
 mod slot;
@@ -23,8 +21,7 @@ mod unit_kind;
 pub use class::Class;
 pub use direction::Direction;
 pub use expectation::{Expected, classes};
-pub use expecting::expected;
-pub use fitting::{class_at_root, class_in, fit, fit_root, misplaced};
+pub use fitting::{class_at_root, class_in, expected, fit, fit_root, misplaced};
 pub use keyword::{keywords, known, root_class};
 pub use near::nearest;
 pub use seeking::{Sought, stands_as};

@@ -1,11 +1,12 @@
 //! The search for an argument of a class.
 ghost use Rattle.std.specs.Prelude.{◌≡◌};
 ghost use Rattle.crs_text.specs.Items.{first_of, here, HasId};
-ghost use Rattle.crs_shape.specs.ClassSet.{has_bit, keyword_bit, keyword_set};
+ghost use Rattle.crs_shape.specs.ClassSet.{keyword_set};
 ghost use Rattle.crs_shape.specs.ShapeFault.{class_in};
 ghost use Rattle.crs_shape.specs.Slots.{is_class};
 ghost use Rattle.crs_shape.specs.Sought.{kind_for, SoughtParts};
 
+use crate::bit_set::{BitSet, set};
 use crate::class::Class;
 use crate::rows::{every_class, row, rows};
 use crate::table::{class_by, is_class, is_clear};
@@ -16,7 +17,7 @@ use std::marker::Model;
 /// found once: its kind, and which keywords the class has. Profile.
 #[derive(Clone, Copy)]
 pub struct Sought {
-    keywords: KeywordSet,
+    keywords: BitSet,
     kind: ItemKind,
     parent: Class,
     class: Class,
@@ -67,7 +68,7 @@ impl Sought {
         let Some(keyword) = items.keyword(id) else {
             return false;
         };
-        if !self.keywords.has(keyword) {
+        if !self.keywords.has(keyword as u64) {
             return false;
         }
         if is_clear(self.parent, self.class) {
@@ -103,31 +104,16 @@ fn kind_for(class: Class) -> ItemKind
     }
 }
 
-// A set of keywords, as a word with a bit for each keyword.
-#[derive(Clone, Copy)]
-struct KeywordSet {
-    bits: u64,
-}
-
-impl KeywordSet {
-    #[inline(always)]
-    fn has(self, keyword: Keyword) -> bool
-        ensures { result ≡ has_bit self.bits (keyword_bit keyword) }
-    {
-        (self.bits >> keyword as u64) & 1 == 1
-    }
-}
-
 // the sets of the keywords of classes
 macro_rules! keyword_sets {
     (() [$($keyword:ident),*] $($count:ident($($part:ident),+))*) => {
-        KeywordSet { bits: 0 $(| 1 << Keyword::$keyword as u64)* }
+        set!(Keyword: $($keyword),*)
     };
 }
 
 // The keywords of a class; none for an item that isn't a node.
 #[inline(always)]
-fn keywords_of(class: Class) -> KeywordSet
+fn keywords_of(class: Class) -> BitSet
     ensures { result.bits ≡ keyword_set class }
 {
     rows!(keyword_sets, class)

@@ -1,13 +1,10 @@
 //! Slots.
 ghost use Rattle.std.specs.Prelude.{◌≡◌};
-ghost use Rattle.std.specs.List.{list_any};
-ghost use denote.Enum.Bare.{sameb};
-ghost use Rattle.crs_shape.specs.contracts.class.Class.{the_type};
 ghost use Rattle.crs_shape.specs.ClassSet.{HasSet};
 ghost use Rattle.crs_shape.specs.Slots.{shown, takes};
 
+use crate::bit_set::BitSet;
 use crate::class::Class;
-use crate::class_set::ClassSet;
 
 /// A slot: a place in a class's row for arguments of its classes. It takes at least one argument if it
 /// is required, and more than one only if it takes many. Profile.
@@ -15,7 +12,7 @@ use crate::class_set::ClassSet;
 pub struct Slot {
     pub(crate) classes: &'static [Class],
     // the same classes
-    pub(crate) set: ClassSet,
+    pub(crate) set: BitSet,
     pub(crate) required: bool,
     pub(crate) many: bool,
 }
@@ -47,18 +44,6 @@ impl Slot {
         requires { HasSet self.now }
         ensures { result ≡ takes (shown self.now) class }
     {
-        self.set.has(class)
+        self.set.has(class as u64)
     }
-}
-
-// Whether it is one of these classes. Mostly it is the first, so a plain loop is quicker than `contains`.
-pub(crate) fn has(classes: &[Class], class: Class) -> bool
-    ensures { result ≡ list_any (λ d. sameb the_type d class) classes.now }
-{
-    for own in classes {
-        if *own == class {
-            return true;
-        }
-    }
-    false
 }

@@ -1,15 +1,14 @@
 //! The slots of each class.
 ghost use Rattle.std.specs.Prelude.{◌≡◌, All, IsTrue, map};
 ghost use Rattle.std.specs.List.{find};
-ghost use Rattle.crs_shape.specs.ClassSet.{HasSet};
-ghost use Rattle.crs_shape.specs.KeywordTable.{classes_by, is_part, IsClear};
+ghost use Rattle.crs_shape.specs.ClassSet.{HasSet, set_of};
+ghost use Rattle.crs_shape.specs.KeywordTable.{argument_classes, classes_by, is_part, IsClear};
 ghost use Rattle.crs_shape.specs.Slots.{shown, slots_of, class_named, is_class};
 
+use crate::bit_set::{BitSet, set};
 use crate::class::Class;
-use crate::class_set::{ClassSet, set};
 use crate::keyword::has_keyword;
 use crate::keyword_classes::{classes_by, rivals_of};
-use crate::part::is_part;
 use crate::rows::{every_class, row, rows};
 use crate::slot::Slot;
 use crs_text::{Keyword, laws};
@@ -23,7 +22,7 @@ macro_rules! slot {
     ($required:literal, $many:literal, $($class:ident),+) => {
         Slot {
             classes: &[$(Class::$class),+],
-            set: set!($($class),+),
+            set: set!(Class: $($class),+),
             required: $required,
             many: $many,
         }
@@ -88,13 +87,7 @@ fn first_part(parent: Class, classes: &[Class]) -> Option<Class>
 pub(crate) fn is_clear(parent: Class, class: Class) -> bool
     ensures { IsTrue result → IsClear parent class }
 {
-    if !is_part(parent, class) {
-        return false;
-    }
-    match first_part(parent, rivals_of(class)) {
-        None => true,
-        Some(_) => false,
-    }
+    is_part(parent, class) && first_part(parent, rivals_of(class)).is_none()
 }
 
 /// Whether this keyword names that class in a parent of this class; a cheaper test than `class_of` where the
@@ -103,21 +96,36 @@ pub fn keyword_names(parent: Class, keyword: &[u8], class: Class) -> bool
     ensures { result ≡ is_class class (class_named parent keyword.now) }
 {
     laws::keywords_are_spelled();
-    keyword_by_names(parent, Keyword::of(keyword), class)
-}
-
-// Whether a keyword names that class in a parent of this class.
-fn keyword_by_names(parent: Class, keyword: Option<Keyword>, class: Class) -> bool
-    ensures { result ≡ is_class class (find (is_part parent) (classes_by keyword)) }
-{
+    let keyword = Keyword::of(keyword);
     has_keyword(class, keyword) && is_class(class_by(parent, keyword), class)
 }
 
 pub(crate) fn is_class(named: Option<Class>, class: Class) -> bool
     ensures { result ≡ is_class class named }
 {
-    match named {
-        None => false,
-        Some(other) => other == class,
-    }
+    named == Some(class)
+}
+
+// the classes of a class's slots
+macro_rules! parts_of {
+    (() [$($keyword:ident),*] $($count:ident($($part:ident),+))*) => {
+        set!(Class: $($($part),+),*)
+    };
+}
+
+// Whether arguments of this class are allowed in a parent of that class. One test saves a walk over the slots for each
+// keyword.
+#[inline(always)]
+pub(crate) fn is_part(parent: Class, class: Class) -> bool
+    ensures { result ≡ is_part parent class }
+{
+    parts(parent).has(class as u64)
+}
+
+// The classes of the arguments that are allowed in a parent of this class.
+#[inline(always)]
+fn parts(parent: Class) -> BitSet
+    ensures { result.bits ≡ set_of (argument_classes parent) }
+{
+    rows!(parts_of, parent)
 }

@@ -21,13 +21,6 @@ pub enum UnitKind {
     Plain,
 }
 
-const UNIT_KINDS: [UnitKind; 4] = [
-    UnitKind::Length,
-    UnitKind::Angle,
-    UnitKind::Scale,
-    UnitKind::Plain,
-];
-
 impl UnitKind {
     /// The kind of a unit of this kind where that one is asked: `UNIT` is of the asked kind. ISO 19162:2019, "Units".
     pub fn as_asked(self, asked: UnitKind) -> UnitKind
@@ -55,7 +48,12 @@ impl UnitKind {
     pub fn read(word: &[u8]) -> Option<UnitKind>
         ensures { IsReading (λ value. SpellsWord word.now (unit_word value)) result }
     {
-        for kind in UNIT_KINDS {
+        for kind in [
+            UnitKind::Length,
+            UnitKind::Angle,
+            UnitKind::Scale,
+            UnitKind::Plain,
+        ] {
             if is_spelled(kind.keyword().as_bytes(), word) {
                 return Some(kind);
             }
