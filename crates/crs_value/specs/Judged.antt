@@ -1,18 +1,25 @@
 -- A bridge: what a walk over items answers: whether it found no fault of shape, and the first fault so far:
 -- that of shape where there is one, else the least of the checks that are broken.
 use Rattle.std.specs.Prelude.{◌≡◌, ℕ, ◌⊎◌, Bool, true, false, Option, Some, None, List, ◌∷◌, ◌++◌}
+use Rattle.std.specs.Prelude.{get_or}
 use Rattle.std.specs.List.{list_any}
 use denote.Enum.Bare.{sameb}
 use Rattle.crs_text.specs.Items.{Item}
 use Rattle.crs_text.specs.Refusal.{RefusedAt}
 use Rattle.crs_shape.specs.contracts.class.Class.{the_type}
 use Rattle.crs_shape.specs.declared.class.Class.{Class}
+use Rattle.crs_shape.specs.declared.class.Class.TheVariants as class
 use Rattle.crs_shape.specs.FirstFault.{first_inside, first_in_arguments}
+use Rattle.crs_shape.specs.Keywords.{every_class}
 use Rattle.crs_shape.specs.ShapeFault.{class_in}
 use Rattle.crs_shape.specs.Slots.{SlotParts, takes}
 use Rattle.crs_value.specs.Break.{IsLeast}
 use Rattle.crs_value.specs.Checks.{Breaks, BreaksAmong}
 use Rattle.crs_value.specs.Reading.{ahead, those}
+
+-- the class at a place among all
+abbrev pub class_at : ℕ → Class
+class_at place = get_or every_class place class.Number
 
 -- whether it is one of these classes
 abbrev pub is_in : List Class → Option Class → Bool

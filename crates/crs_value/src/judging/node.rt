@@ -1,12 +1,13 @@
 //! A node as one of a class, whose arguments are walked over and then its own checks are made.
-ghost use Rattle.std.specs.Prelude.{◌≡◌, ◌⊎◌, IsTrue, Some, true, [], ◌∷◌, ◌++◌};
+ghost use Rattle.std.specs.Prelude.{◌≡◌, ◌<◌, ◌⊎◌, IsTrue, Some, true, length, [], ◌∷◌, ◌++◌};
 ghost use Rattle.crs_text.specs.Items.{HasId, arguments, close_of};
+ghost use Rattle.crs_shape.specs.Keywords.{every_class};
 ghost use Rattle.crs_shape.specs.ShapeFault.{is_of};
 ghost use Rattle.crs_shape.specs.Shaped.{Shaped};
 ghost use Rattle.crs_shape.specs.Slots.{any_of, slots_of};
 ghost use Rattle.crs_value.specs.Break.{IsLeast};
 ghost use Rattle.crs_value.specs.Checks.{BreaksAmong, HasSystem, Own};
-ghost use Rattle.crs_value.specs.Judged.{Answers, Judged};
+ghost use Rattle.crs_value.specs.Judged.{class_at, Answers, Judged};
 ghost use Rattle.crs_value.specs.Least.{lesser};
 ghost use Rattle.crs_value.specs.Reading.{item_at, Holds};
 ghost use Rattle.crs_value.specs.Seen.{is_head, is_tail, rest_slots, IsHeld, IsLaid, Laid};
@@ -15,15 +16,15 @@ use crate::checks::crs::whole_crs;
 use crate::checks::dynamic::bad_dynamic;
 use crate::checks::lesser;
 use crate::checks::own::own_of_part;
-use crate::judging::named::AxisUnit;
-use crate::judging::parts::{Axis, CoordinateSystem};
+use crate::judging::parts::Identifier;
 use crate::judging::quiet::{Layout, NOWHERE, is_quiet};
 use crate::judging::slots::{
-    Any, Found, One, OneOrMore, Optional, Parent, Part, Slot, Slots, ends, walk,
+    Any, End, Found, One, OneOrMore, Optional, Parent, Part, Slot, Slots, Then, chain, ends, taken,
+    walk,
 };
 use crate::reading::arguments::first_before;
 use crate::reading::cursor::Cursor;
-use crs_shape::{Class, laws, stands_as};
+use crs_shape::{Class, classes, laws, row, stands_as};
 use crs_text::{ItemId, Items, Refusal};
 
 // What was found is joined by what a node breaks by itself, which mostly is nothing: then nothing is written.
@@ -51,6 +52,7 @@ fn node_judged<S: Slots>(
     requires of { IsTrue (is_of class (item_at items.now id)) }
     requires close { close_of (item_at items.now id) ≡ Some close }
     requires slots { slots_of class ≡ S.slots }
+    requires fits { S.fits }
     requires part { ¬ (HasSystem class) }
     ensures { Judged class (item_at items.now id) found.old result found.new }
 {
@@ -78,6 +80,7 @@ pub(crate) fn judged<S: Slots>(
     requires has { HasId items.now id }
     requires of { IsTrue (is_of class (item_at items.now id)) }
     requires slots { slots_of class ≡ S.slots }
+    requires fits { S.fits }
     requires part { ¬ (HasSystem class) }
     ensures { Judged class (item_at items.now id) found.old result found.new }
 {
@@ -96,6 +99,7 @@ fn laid<H: Slots, T: Part>(
     found: &mut Found,
 ) -> Option<Layout>
     requires holds { Holds parent.items.now at }
+    requires fits { H.fits × T.fits }
     requires head { is_head H.slots ≡ true }
     requires tail { is_tail (any_of T.classes) ≡ true }
     ensures { Laid parent.entry.items.now parent.entry.class parent.entry.close (H.slots ++ rest_slots (any_of
@@ -103,11 +107,11 @@ fn laid<H: Slots, T: Part>(
 {
     let system = H::pass(parent, at, found)?;
     let layout = Layout { system, ..NOWHERE };
-    let axes = One::<CoordinateSystem>::pass(parent, layout.system, found)?;
+    let axes = One::<taken!(CoordinateSystem)>::pass(parent, layout.system, found)?;
     let layout = Layout { axes, ..layout };
-    let unit = OneOrMore::<Axis>::pass(parent, layout.axes, found)?;
+    let unit = OneOrMore::<taken!(Axis)>::pass(parent, layout.axes, found)?;
     let layout = Layout { unit, ..layout };
-    let tail = Optional::<AxisUnit>::pass(parent, layout.unit, found)?;
+    let tail = Optional::<taken!(AxisUnit)>::pass(parent, layout.unit, found)?;
     let layout = Layout { tail, ..layout };
     let end = Any::<T>::pass(parent, layout.tail, found)?;
     if !ends(parent, end, found) {
@@ -154,6 +158,7 @@ pub(crate) fn crs_judged<H: Slots, T: Part>(
     requires has { HasId items.now id }
     requires of { IsTrue (is_of class (item_at items.now id)) }
     requires slots { slots_of class ≡ H.slots ++ rest_slots (any_of T.classes) }
+    requires fits { H.fits × T.fits }
     requires head { is_head H.slots ≡ true }
     requires tail { is_tail (any_of T.classes) ≡ true }
     requires system { HasSystem class }
@@ -188,6 +193,7 @@ pub(crate) fn part<S: Slots>(
 ) -> Option<bool>
     requires has { HasId items.now id }
     requires slots { slots_of class ≡ S.slots }
+    requires fits { S.fits }
     requires part { ¬ (HasSystem class) }
     ensures { Answers parent (class ∷ []) (item_at items.now id) found.old result found.new }
 {
@@ -209,6 +215,7 @@ pub(crate) fn crs<H: Slots, T: Part>(
 ) -> Option<bool>
     requires has { HasId items.now id }
     requires slots { slots_of class ≡ H.slots ++ rest_slots (any_of T.classes) }
+    requires fits { H.fits × T.fits }
     requires head { is_head H.slots ≡ true }
     requires tail { is_tail (any_of T.classes) ≡ true }
     requires system { HasSystem class }
@@ -219,4 +226,29 @@ pub(crate) fn crs<H: Slots, T: Part>(
         return None;
     }
     Some(crs_judged::<H, T>(class, items, id, found))
+}
+
+// The class at this place among all.
+#[inline(always)]
+fn class_at(place: u8) -> Class
+    requires { place < length every_class }
+    ensures { result ≡ class_at place }
+{
+    classes()[place as usize]
+}
+
+// An item of the class at this place, without a coordinate system, which has these slots.
+pub(crate) struct Node<const PLACE: u8, S> {
+    _slots: S,
+}
+
+impl<const PLACE: u8, S: Slots> Part for Node<PLACE, S> {
+    ghost classes = { class_at PLACE ∷ [] };
+
+    ghost fits = { (PLACE < length every_class)
+        × ((¬ (HasSystem (class_at PLACE))) × ((slots_of (class_at PLACE) ≡ S.slots) × S.fits)) };
+
+    fn judge(items: &Items<'_>, id: ItemId, parent: Class, found: &mut Found) -> Option<bool> {
+        part::<S>(class_at(PLACE), items, id, parent, found)
+    }
 }

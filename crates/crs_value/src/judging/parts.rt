@@ -1,4 +1,4 @@
-//! CRSs and the parts of them that have a form of their own, and whole texts.
+//! Items that have a type of their own, and whole texts.
 ghost use Rattle.std.specs.Prelude.{IsTrue, [], ◌∷◌};
 ghost use Rattle.crs_text.specs.Items.{HasId};
 ghost use Rattle.crs_shape.specs.declared.class.Class.TheVariants as kinds;
@@ -8,62 +8,32 @@ ghost use Rattle.crs_value.specs.FoundArguments.{IsAmong};
 ghost use Rattle.crs_value.specs.Judged.{Judged};
 ghost use Rattle.crs_value.specs.Reading.{item_at};
 
-use crate::judging::leaves::{
-    Anchor, AnchorEpoch, Area, EnsembleAccuracy, FrameEpoch, Number, Order, Remark, Scope, Text,
-    Word,
-};
-use crate::judging::named::{
-    AngleUnit, AxisUnit, Conversion, DeformationModel, GeoidModel, Identifier, LengthUnit, Member,
-};
-use crate::judging::node::{crs, crs_judged, judged, part};
+use crate::judging::node::{Node, crs, crs_judged, judged, part};
 use crate::judging::slots::{
-    Any, Either, End, Found, One, OneOrMore, Optional, Part, Then, chain, judge, judge_as,
-    judge_crs, taken,
+    Any, Either, End, Found, One, OneOrMore, Optional, Part, Then, chain, judge_crs, taken,
 };
 use crs_shape::{Class, row};
 use crs_text::{ItemId, Items};
 
-// A coordinate system.
-pub(crate) struct CoordinateSystem;
+// An identifier.
+pub(crate) struct Identifier;
 
-impl Part for CoordinateSystem {
-    ghost classes = { kinds.CoordinateSystem ∷ [] };
+impl Part for Identifier {
+    ghost classes = { kinds.Identifier ∷ [] };
 
     fn judge(items: &Items<'_>, id: ItemId, parent: Class, found: &mut Found) -> Option<bool> {
-        judge_as!(part, CoordinateSystem, items, id, parent, found)
+        part::<row!(Identifier, chain, ())>(Class::Identifier, items, id, parent, found)
     }
 }
 
-// The meridian of an axis.
-pub(crate) struct AxisMeridian;
+// A parameter.
+pub(crate) struct Parameter;
 
-impl Part for AxisMeridian {
-    ghost classes = { kinds.AxisMeridian ∷ [] };
-
-    fn judge(items: &Items<'_>, id: ItemId, parent: Class, found: &mut Found) -> Option<bool> {
-        judge_as!(part, AxisMeridian, items, id, parent, found)
-    }
-}
-
-// An axis.
-pub(crate) struct Axis;
-
-impl Part for Axis {
-    ghost classes = { kinds.Axis ∷ [] };
+impl Part for Parameter {
+    ghost classes = { kinds.Parameter ∷ [] };
 
     fn judge(items: &Items<'_>, id: ItemId, parent: Class, found: &mut Found) -> Option<bool> {
-        judge_as!(part, Axis, items, id, parent, found)
-    }
-}
-
-// A bounding box.
-pub(crate) struct BoundingBox;
-
-impl Part for BoundingBox {
-    ghost classes = { kinds.BoundingBox ∷ [] };
-
-    fn judge(items: &Items<'_>, id: ItemId, parent: Class, found: &mut Found) -> Option<bool> {
-        judge_as!(part, BoundingBox, items, id, parent, found)
+        part::<row!(Parameter, chain, ())>(Class::Parameter, items, id, parent, found)
     }
 }
 
@@ -74,51 +44,7 @@ impl Part for VerticalExtent {
     ghost classes = { kinds.VerticalExtent ∷ [] };
 
     fn judge(items: &Items<'_>, id: ItemId, parent: Class, found: &mut Found) -> Option<bool> {
-        judge_as!(part, VerticalExtent, items, id, parent, found)
-    }
-}
-
-// A usage.
-pub(crate) struct Usage;
-
-impl Part for Usage {
-    ghost classes = { kinds.Usage ∷ [] };
-
-    fn judge(items: &Items<'_>, id: ItemId, parent: Class, found: &mut Found) -> Option<bool> {
-        judge_as!(part, Usage, items, id, parent, found)
-    }
-}
-
-// An ellipsoid.
-pub(crate) struct Ellipsoid;
-
-impl Part for Ellipsoid {
-    ghost classes = { kinds.Ellipsoid ∷ [] };
-
-    fn judge(items: &Items<'_>, id: ItemId, parent: Class, found: &mut Found) -> Option<bool> {
-        judge_as!(part, Ellipsoid, items, id, parent, found)
-    }
-}
-
-// A prime meridian.
-pub(crate) struct PrimeMeridian;
-
-impl Part for PrimeMeridian {
-    ghost classes = { kinds.PrimeMeridian ∷ [] };
-
-    fn judge(items: &Items<'_>, id: ItemId, parent: Class, found: &mut Found) -> Option<bool> {
-        judge_as!(part, PrimeMeridian, items, id, parent, found)
-    }
-}
-
-// The dynamic part of a frame.
-pub(crate) struct Dynamic;
-
-impl Part for Dynamic {
-    ghost classes = { kinds.Dynamic ∷ [] };
-
-    fn judge(items: &Items<'_>, id: ItemId, parent: Class, found: &mut Found) -> Option<bool> {
-        judge_as!(part, Dynamic, items, id, parent, found)
+        part::<row!(VerticalExtent, chain, ())>(Class::VerticalExtent, items, id, parent, found)
     }
 }
 
@@ -129,18 +55,7 @@ impl Part for GeodeticFrame {
     ghost classes = { kinds.GeodeticFrame ∷ [] };
 
     fn judge(items: &Items<'_>, id: ItemId, parent: Class, found: &mut Found) -> Option<bool> {
-        judge_as!(part, GeodeticFrame, items, id, parent, found)
-    }
-}
-
-// A vertical reference frame.
-pub(crate) struct VerticalFrame;
-
-impl Part for VerticalFrame {
-    ghost classes = { kinds.VerticalFrame ∷ [] };
-
-    fn judge(items: &Items<'_>, id: ItemId, parent: Class, found: &mut Found) -> Option<bool> {
-        judge_as!(part, VerticalFrame, items, id, parent, found)
+        part::<row!(GeodeticFrame, chain, ())>(Class::GeodeticFrame, items, id, parent, found)
     }
 }
 
@@ -151,18 +66,7 @@ impl Part for GeodeticEnsemble {
     ghost classes = { kinds.GeodeticEnsemble ∷ [] };
 
     fn judge(items: &Items<'_>, id: ItemId, parent: Class, found: &mut Found) -> Option<bool> {
-        judge_as!(part, GeodeticEnsemble, items, id, parent, found)
-    }
-}
-
-// A vertical ensemble.
-pub(crate) struct VerticalEnsemble;
-
-impl Part for VerticalEnsemble {
-    ghost classes = { kinds.VerticalEnsemble ∷ [] };
-
-    fn judge(items: &Items<'_>, id: ItemId, parent: Class, found: &mut Found) -> Option<bool> {
-        judge_as!(part, VerticalEnsemble, items, id, parent, found)
+        part::<row!(GeodeticEnsemble, chain, ())>(Class::GeodeticEnsemble, items, id, parent, found)
     }
 }
 
@@ -173,7 +77,7 @@ impl Part for BaseCrs {
     ghost classes = { kinds.BaseCrs ∷ [] };
 
     fn judge(items: &Items<'_>, id: ItemId, parent: Class, found: &mut Found) -> Option<bool> {
-        judge_as!(part, BaseCrs, items, id, parent, found)
+        part::<row!(BaseCrs, chain, ())>(Class::BaseCrs, items, id, parent, found)
     }
 }
 
@@ -184,7 +88,7 @@ impl Part for GeodeticCrs {
     ghost classes = { kinds.GeodeticCrs ∷ [] };
 
     fn judge(items: &Items<'_>, id: ItemId, parent: Class, found: &mut Found) -> Option<bool> {
-        judge_as!(crs, GeodeticCrs, items, id, parent, found)
+        judge_crs!(crs, GeodeticCrs, items, id, parent, found)
     }
 }
 
@@ -195,7 +99,7 @@ impl Part for GeographicCrs {
     ghost classes = { kinds.GeographicCrs ∷ [] };
 
     fn judge(items: &Items<'_>, id: ItemId, parent: Class, found: &mut Found) -> Option<bool> {
-        judge_as!(crs, GeographicCrs, items, id, parent, found)
+        judge_crs!(crs, GeographicCrs, items, id, parent, found)
     }
 }
 
@@ -206,7 +110,7 @@ impl Part for ProjectedCrs {
     ghost classes = { kinds.ProjectedCrs ∷ [] };
 
     fn judge(items: &Items<'_>, id: ItemId, parent: Class, found: &mut Found) -> Option<bool> {
-        judge_as!(crs, ProjectedCrs, items, id, parent, found)
+        judge_crs!(crs, ProjectedCrs, items, id, parent, found)
     }
 }
 
@@ -217,7 +121,7 @@ impl Part for VerticalCrs {
     ghost classes = { kinds.VerticalCrs ∷ [] };
 
     fn judge(items: &Items<'_>, id: ItemId, parent: Class, found: &mut Found) -> Option<bool> {
-        judge_as!(crs, VerticalCrs, items, id, parent, found)
+        judge_crs!(crs, VerticalCrs, items, id, parent, found)
     }
 }
 
@@ -229,11 +133,11 @@ pub(crate) fn root_judged(items: &Items<'_>, id: ItemId, class: Class, found: &m
     ensures { Judged class (item_at items.now id) found.old result found.new }
 {
     match class {
-        Class::GeodeticCrs => judge_as!(crs_judged, GeodeticCrs, items, id, found),
-        Class::GeographicCrs => judge_as!(crs_judged, GeographicCrs, items, id, found),
-        Class::ProjectedCrs => judge_as!(crs_judged, ProjectedCrs, items, id, found),
-        Class::VerticalCrs => judge_as!(crs_judged, VerticalCrs, items, id, found),
-        Class::CompoundCrs => judge_as!(judged, CompoundCrs, items, id, found),
+        Class::GeodeticCrs => judge_crs!(crs_judged, GeodeticCrs, items, id, found),
+        Class::GeographicCrs => judge_crs!(crs_judged, GeographicCrs, items, id, found),
+        Class::ProjectedCrs => judge_crs!(crs_judged, ProjectedCrs, items, id, found),
+        Class::VerticalCrs => judge_crs!(crs_judged, VerticalCrs, items, id, found),
+        Class::CompoundCrs => judged::<row!(CompoundCrs, chain, ())>(class, items, id, found),
         _ => unreachable!(),
     }
 }

@@ -10,14 +10,58 @@ ghost use Rattle.crs_value.specs.Reading.{item_at, Holds};
 use crs_shape::{Class, misplaced};
 use crs_text::{ItemId, Items, Refusal};
 
-// what a slot takes, as a type
+// what a slot takes, as a type: by the class's place among all and its row, or, where types would nest too deep, a type
+// of its own
 macro_rules! taken {
-    ($part:ident) => { $part };
-    ($part:ident, $($more:ident),+) => { Either<$part, taken!($($more),+)> };
+    (Number) => { Node<0, row!(Number, chain, ())> };
+    (Text) => { Node<1, row!(Text, chain, ())> };
+    (Word) => { Node<2, row!(Word, chain, ())> };
+    (GeodeticCrs) => { GeodeticCrs };
+    (GeographicCrs) => { GeographicCrs };
+    (ProjectedCrs) => { ProjectedCrs };
+    (VerticalCrs) => { VerticalCrs };
+    (BaseCrs) => { BaseCrs };
+    (Dynamic) => { Node<9, row!(Dynamic, chain, ())> };
+    (FrameEpoch) => { Node<10, row!(FrameEpoch, chain, ())> };
+    (DeformationModel) => { Node<11, row!(DeformationModel, chain, ())> };
+    (GeodeticFrame) => { GeodeticFrame };
+    (VerticalFrame) => { Node<13, row!(VerticalFrame, chain, ())> };
+    (GeodeticEnsemble) => { GeodeticEnsemble };
+    (VerticalEnsemble) => { Node<15, row!(VerticalEnsemble, chain, ())> };
+    (Member) => { Node<16, row!(Member, chain, ())> };
+    (EnsembleAccuracy) => { Node<17, row!(EnsembleAccuracy, chain, ())> };
+    (Anchor) => { Node<18, row!(Anchor, chain, ())> };
+    (AnchorEpoch) => { Node<19, row!(AnchorEpoch, chain, ())> };
+    (Ellipsoid) => { Node<20, row!(Ellipsoid, chain, ())> };
+    (PrimeMeridian) => { Node<21, row!(PrimeMeridian, chain, ())> };
+    (PlainUnit) => { Node<22, row!(PlainUnit, chain, ())> };
+    (LengthUnit) => { Node<23, row!(LengthUnit, chain, ())> };
+    (AngleUnit) => { Node<24, row!(AngleUnit, chain, ())> };
+    (ScaleUnit) => { Node<25, row!(ScaleUnit, chain, ())> };
+    (AxisUnit) => { Node<26, row!(AxisUnit, chain, ())> };
+    (CoordinateSystem) => { Node<27, row!(CoordinateSystem, chain, ())> };
+    (Axis) => { Node<28, row!(Axis, chain, ())> };
+    (AxisMeridian) => { Node<29, row!(AxisMeridian, chain, ())> };
+    (Order) => { Node<30, row!(Order, chain, ())> };
+    (Conversion) => { Node<31, row!(Conversion, chain, ())> };
+    (Method) => { Node<32, row!(Method, chain, ())> };
+    (Parameter) => { Parameter };
+    (GeoidModel) => { Node<34, row!(GeoidModel, chain, ())> };
+    (Usage) => { Node<35, row!(Usage, chain, ())> };
+    (Scope) => { Node<36, row!(Scope, chain, ())> };
+    (Area) => { Node<37, row!(Area, chain, ())> };
+    (BoundingBox) => { Node<38, row!(BoundingBox, chain, ())> };
+    (VerticalExtent) => { VerticalExtent };
+    (Identifier) => { Identifier };
+    (Citation) => { Node<41, row!(Citation, chain, ())> };
+    (Uri) => { Node<42, row!(Uri, chain, ())> };
+    (Remark) => { Node<43, row!(Remark, chain, ())> };
+    ($part:ident, $($more:ident),+) => { Either<taken!($part), taken!($($more),+)> };
 }
 
 // the slots of a class, as a type
 macro_rules! chain {
+    (() [$($keyword:ident),*] $($slots:tt)*) => { chain!($($slots)*) };
     () => { End };
     (one($($part:ident),+) $($slots:tt)*) => { Then<One<taken!($($part),+)>, chain!($($slots)*)> };
     (optional($($part:ident),+) $($slots:tt)*) => { Then<Optional<taken!($($part),+)>, chain!($($slots)*)> };
@@ -25,15 +69,9 @@ macro_rules! chain {
     (some($($part:ident),+) $($slots:tt)*) => { Then<OneOrMore<taken!($($part),+)>, chain!($($slots)*)> };
 }
 
-// an item as one of a class, by what the class's row says is given to a function
-macro_rules! judge {
-    (($how:ident, $class:ident, $($given:ident),+) [$($keyword:ident),*] $($slots:tt)*) => {
-        $how::<chain!($($slots)*)>(Class::$class, $($given),+)
-    };
-}
-
-// the same of a CRS with a coordinate system, whose slots before that are told apart
+// an item as a CRS with a coordinate system, by a function; its slots before that are told apart
 macro_rules! judge_crs {
+    ($how:ident, $class:ident, $($given:ident),+) => { row!($class, judge_crs, ($how, $class, $($given),+)) };
     ($with:tt [$($keyword:ident),*] $($slots:tt)*) => { judge_crs!(@ $with [] $($slots)*) };
     (@ ($how:ident, $class:ident, $($given:ident),+) [$($head:tt)*]
         one(CoordinateSystem) some(Axis) optional(AxisUnit) any($($part:ident),+)) => {
@@ -44,16 +82,7 @@ macro_rules! judge_crs {
     };
 }
 
-// an item as one of a class, by the class's row
-macro_rules! judge_as {
-    (crs, $class:ident, $($given:ident),+) => { row!($class, judge_crs, (crs, $class, $($given),+)) };
-    (crs_judged, $class:ident, $($given:ident),+) => { row!($class, judge_crs, (crs_judged, $class, $($given),+)) };
-    ($how:ident, $class:ident, $($given:ident),+) => { row!($class, judge, ($how, $class, $($given),+)) };
-}
-
 pub(crate) use chain;
-pub(crate) use judge;
-pub(crate) use judge_as;
 pub(crate) use judge_crs;
 pub(crate) use taken;
 
@@ -75,10 +104,14 @@ pub(crate) struct Parent<'i, 'a> {
 pub(crate) trait Part {
     ghost classes: { List Class };
 
+    // Each class within has the slots that it is judged by.
+    ghost fits: { Type 0 } = { Unit {0} };
+
     // Whether an argument has no fault of shape; what it breaks joins what was found. None where it is of none of
     // these classes.
     fn judge(items: &Items<'_>, id: ItemId, parent: Class, found: &mut Found) -> Option<bool>
         requires has { HasId items.now id }
+        requires fits { fits }
         ensures { Answers parent classes (item_at items.now id) found.old result found.new };
 }
 
@@ -86,9 +119,12 @@ pub(crate) trait Part {
 pub(crate) trait Slot {
     ghost slot: { SlotParts };
 
+    ghost fits: { Type 0 };
+
     // The arguments behind those of the slot; what these break joins what was found.
     fn pass(parent: Parent<'_, '_>, at: Option<ItemId>, found: &mut Found) -> Rest
-        requires { Holds parent.items.now at }
+        requires holds { Holds parent.items.now at }
+        requires fits { fits }
         ensures holds { IfSome result (λ next. Holds parent.entry.items.now next) }
         ensures leaves { IfSome result (λ next. Leaves parent.entry.items.now parent.entry.class slot at next) }
         ensures passed { Passed parent.entry.items.now parent.entry.class parent.entry.close slot at found.old
@@ -99,9 +135,12 @@ pub(crate) trait Slot {
 pub(crate) trait Slots {
     ghost slots: { List SlotParts };
 
+    ghost fits: { Type 0 } = { Unit {0} };
+
     // The arguments behind those of these slots, as `pass` of one slot.
     fn pass(parent: Parent<'_, '_>, at: Option<ItemId>, found: &mut Found) -> Rest
-        requires { Holds parent.items.now at }
+        requires holds { Holds parent.items.now at }
+        requires fits { fits }
         ensures holds { IfSome result (λ next. Holds parent.entry.items.now next) }
         ensures leaves { IfSome result (λ next. AllLeave parent.entry.items.now parent.entry.class slots at next) }
         ensures passed { AllPassed parent.entry.items.now parent.entry.class parent.entry.close slots at found.old
@@ -139,7 +178,8 @@ pub(crate) fn ends(parent: Parent<'_, '_>, at: Option<ItemId>, found: &mut Found
 // Whether the arguments have no fault of shape against these slots; what they break joins what was found.
 #[inline(always)]
 pub(crate) fn walk<S: Slots>(parent: Parent<'_, '_>, at: Option<ItemId>, found: &mut Found) -> bool
-    requires { Holds parent.items.now at }
+    requires holds { Holds parent.items.now at }
+    requires fits { S.fits }
     ensures { Walked parent.entry.items.now parent.entry.class parent.entry.close S.slots at found.old result
         found.new }
 {
@@ -156,6 +196,8 @@ pub(crate) struct One<P> {
 
 impl<P: Part> Slot for One<P> {
     ghost slot = { one_of P.classes };
+
+    ghost fits = { P.fits };
 
     #[inline(always)]
     fn pass(parent: Parent<'_, '_>, at: Option<ItemId>, found: &mut Found) -> Rest {
@@ -182,6 +224,8 @@ pub(crate) struct Optional<P> {
 impl<P: Part> Slot for Optional<P> {
     ghost slot = { optional_of P.classes };
 
+    ghost fits = { P.fits };
+
     #[inline(always)]
     fn pass(parent: Parent<'_, '_>, at: Option<ItemId>, found: &mut Found) -> Rest {
         let Some(id) = at else { return Some(None) };
@@ -200,6 +244,8 @@ pub(crate) struct Any<P> {
 
 impl<P: Part> Slot for Any<P> {
     ghost slot = { any_of P.classes };
+
+    ghost fits = { P.fits };
 
     #[inline(always)]
     fn pass(parent: Parent<'_, '_>, at: Option<ItemId>, found: &mut Found) -> Rest {
@@ -223,6 +269,8 @@ pub(crate) struct OneOrMore<P> {
 impl<P: Part> Slot for OneOrMore<P> {
     ghost slot = { some_of P.classes };
 
+    ghost fits = { P.fits };
+
     #[inline(always)]
     fn pass(parent: Parent<'_, '_>, at: Option<ItemId>, found: &mut Found) -> Rest {
         match One::<P>::pass(parent, at, found) {
@@ -240,6 +288,8 @@ pub(crate) struct Then<A, S> {
 
 impl<A: Slot, S: Slots> Slots for Then<A, S> {
     ghost slots = { A.slot ∷ S.slots };
+
+    ghost fits = { A.fits × S.fits };
 
     #[inline(always)]
     fn pass(parent: Parent<'_, '_>, at: Option<ItemId>, found: &mut Found) -> Rest {
@@ -270,6 +320,8 @@ pub(crate) struct Either<A, B> {
 
 impl<A: Part, B: Part> Part for Either<A, B> {
     ghost classes = { A.classes ++ B.classes };
+
+    ghost fits = { A.fits × B.fits };
 
     #[inline(always)]
     fn judge(items: &Items<'_>, id: ItemId, parent: Class, found: &mut Found) -> Option<bool> {

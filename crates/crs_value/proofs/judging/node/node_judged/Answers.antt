@@ -2,8 +2,8 @@ use Rattle.crs_value.proofs.found.ArgumentLemmas.{holds_at}
 use Rattle.crs_value.proofs.walk.JudgedLemmas.{shaped-by, walked-all, with-fault, with-own}
 use Rattle.crs_value.proofs.judging.node.node_judged.Goals as goal
 
-pub walk-requires : goal.walk-requires
-walk-requires g c = holds_at _ _ _ c.arg.ensures
+pub walk-requires-clause-holds : goal.walk-requires-clause-holds
+walk-requires-clause-holds g c = holds_at _ _ _ c.arg.ensures
 
 pub returns-then-not-walk : goal.returns-then-not-walk
 returns-then-not-walk g c =
