@@ -5,4 +5,3 @@ pub(crate) mod cursor;
 pub(crate) mod firsts;
 pub(crate) mod node;
 pub(crate) mod value;
-pub(crate) mod whole;

@@ -8,8 +8,7 @@ ghost use Rattle.crs_value.specs.SpellsText.{Spells, IsFaultOfText};
 
 use crate::judging::parts::root_judged;
 use crate::reading::cursor::Cursor;
-use crate::reading::whole::{kind_of_root, read_crs};
-use crate::values::crs::{Crs, Kind};
+use crate::values::crs::{Crs, Kind, kind_of_root, read_crs};
 use crs_shape::{Class, class_at_root, misplaced};
 use crs_text::{Fault, Items, Refusal, read_items};
 use std::alloc::Global;

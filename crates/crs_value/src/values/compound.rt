@@ -1,17 +1,16 @@
 //! Compound CRSs.
-ghost use Rattle.std.specs.Prelude.{IfOk};
+ghost use Rattle.std.specs.Prelude.{◌≡◌, IfOk};
+ghost use Rattle.crs_shape.specs.declared.class.Class.TheVariants as classes;
 ghost use Rattle.crs_value.specs.Cursor.{item};
 ghost use Rattle.crs_value.specs.Checks.{IsSound};
-ghost use Rattle.crs_value.specs.ReadsCrs.{ReadsHorizontal};
+ghost use Rattle.crs_value.specs.ReadsCrs.{ReadsCompound, ReadsHorizontal};
 
 use crate::reading::arguments::first;
 use crate::reading::cursor::Cursor;
 use crate::reading::firsts::firsts_of;
 use crate::reading::node::Node;
-use crate::values::geodetic::{Geodetic, read_geodetic};
-use crate::values::projected::Projected;
+use crate::values::single::{Geodetic, Projected, Vertical, read_geodetic};
 use crate::values::usage::{Tail, read_tail};
-use crate::values::vertical::Vertical;
 use crs_shape::{Class, laws};
 use std::alloc::{AllocError, Global};
 use std::marker::Model;
@@ -95,10 +94,6 @@ fn read_horizontal<'a>(alloc: Global, node: &Cursor<'_, 'a>) -> Result<Horizonta
 }
 
 impl<'a> Node<'a> for Compound<'a> {
-    ghost use Rattle.std.specs.Prelude.{◌≡◌};
-    ghost use Rattle.crs_shape.specs.declared.class.Class.TheVariants as classes;
-    ghost use Rattle.crs_value.specs.ReadsCrs.{ReadsCompound};
-
     ghost Suits = { λ c. c ≡ classes.CompoundCrs };
 
     ghost Reads = { λ c item parts. ReadsCompound c item parts };

@@ -1,12 +1,21 @@
-//! Coordinate reference systems.
-ghost use Rattle.std.specs.Prelude.{◌≡◌};
-ghost use Rattle.crs_value.specs.ReadsCrs.{kind_by, kind_of};
+//! Coordinate reference systems, and the reading of whole texts.
+ghost use Rattle.std.specs.Prelude.{◌≡◌, MatchResult};
+ghost use Rattle.crs_value.specs.ReadsCrs.{kind_by, kind_of, IsGeodeticClass, ReadsCrs};
+ghost use Rattle.crs_shape.specs.Keywords.{root_classes};
+ghost use Rattle.crs_value.specs.Cursor.{item};
+ghost use Rattle.crs_value.specs.Checks.{IsSound};
+ghost use Rattle.crs_value.specs.FoundArguments.{IsAmong};
+ghost use Rattle.crs_value.specs.Spells.{IsFaultOf};
+ghost use Rattle.crs_value.specs.declared.values.crs.Crs.{Crs};
 
+use crate::reading::cursor::Cursor;
+use crate::reading::node::Node;
 use crate::values::compound::Compound;
-use crate::values::geodetic::Geodetic;
-use crate::values::projected::Projected;
-use crate::values::vertical::Vertical;
-use crs_shape::SystemType;
+use crate::values::single::{Geodetic, Projected, Vertical, read_geodetic};
+use crate::values::system::system_type_of;
+use crs_shape::{Class, SystemType};
+use crs_text::Fault;
+use std::alloc::Global;
 
 /// A coordinate reference system. ISO 19162:2019, "Coordinate reference systems".
 pub enum Crs<'a> {
@@ -64,5 +73,89 @@ pub(crate) fn kind_by(system_type: SystemType) -> Kind
     match system_type {
         SystemType::Ellipsoidal => Kind::Geographic,
         SystemType::Cartesian | SystemType::Spherical | SystemType::Vertical => Kind::Geodetic,
+    }
+}
+
+// A function clears the memory of all its locals when it is entered. So each kind of CRS is read by a function of its
+// own, which isn't inlined, and its value goes at once to the place of the answer.
+
+#[inline(never)]
+fn geodetic<'a>(alloc: Global, node: &Cursor<'_, 'a>) -> Result<Crs<'a>, Fault>
+    requires sound { IsSound node.now.class (item node.now) }
+    requires class { IsGeodeticClass node.now.class }
+    ensures { MatchResult result (λ value. ReadsCrs node.now.class (item node.now) value) (IsFaultOf node.now.items.now) }
+{
+    match read_geodetic(alloc, node) {
+        Ok(value) => Ok(Crs::Geodetic(value)),
+        Err(error) => Err(Fault::Memory(error)),
+    }
+}
+
+#[inline(never)]
+fn projected<'a>(alloc: Global, node: &Cursor<'_, 'a>) -> Result<Crs<'a>, Fault>
+    requires sound { IsSound node.now.class (item node.now) }
+    requires class { node.now.class ≡ Class.ProjectedCrs }
+    ensures { MatchResult result (λ value. ReadsCrs node.now.class (item node.now) value)
+        (IsFaultOf node.now.items.now) }
+{
+    match Projected::read(alloc, node) {
+        Ok(value) => Ok(Crs::Projected(value)),
+        Err(error) => Err(Fault::Memory(error)),
+    }
+}
+
+#[inline(never)]
+fn vertical<'a>(alloc: Global, node: &Cursor<'_, 'a>) -> Result<Crs<'a>, Fault>
+    requires sound { IsSound node.now.class (item node.now) }
+    requires class { node.now.class ≡ Class.VerticalCrs }
+    ensures { MatchResult result (λ value. ReadsCrs node.now.class (item node.now) value)
+        (IsFaultOf node.now.items.now) }
+{
+    match Vertical::read(alloc, node) {
+        Ok(value) => Ok(Crs::Vertical(value)),
+        Err(error) => Err(Fault::Memory(error)),
+    }
+}
+
+#[inline(never)]
+fn compound<'a>(alloc: Global, node: &Cursor<'_, 'a>) -> Result<Crs<'a>, Fault>
+    requires sound { IsSound node.now.class (item node.now) }
+    requires class { node.now.class ≡ Class.CompoundCrs }
+    ensures { MatchResult result (λ value. ReadsCrs node.now.class (item node.now) value)
+        (IsFaultOf node.now.items.now) }
+{
+    match Compound::read(alloc, node) {
+        Ok(value) => Ok(Crs::Compound(value)),
+        Err(error) => Err(Fault::Memory(error)),
+    }
+}
+
+// The value of a whole text of this class; a fault is out of memory.
+pub(crate) fn read_crs<'a>(alloc: Global, node: &Cursor<'_, 'a>) -> Result<Crs<'a>, Fault>
+    requires sound { IsSound node.now.class (item node.now) }
+    requires root { IsAmong root_classes node.now.class }
+    ensures { MatchResult result (λ value. ReadsCrs node.now.class (item node.now) value) (IsFaultOf node.now.items.now) }
+{
+    match node.class {
+        Class::GeodeticCrs | Class::GeographicCrs => geodetic(alloc, node),
+        Class::ProjectedCrs => projected(alloc, node),
+        Class::VerticalCrs => vertical(alloc, node),
+        Class::CompoundCrs => compound(alloc, node),
+        _ => unreachable!(),
+    }
+}
+
+// The kind of a whole text of this class.
+pub(crate) fn kind_of_root(node: &Cursor<'_, '_>) -> Kind
+    requires sound { IsSound node.now.class (item node.now) }
+    requires root { IsAmong root_classes node.now.class }
+    ensures { (value : Crs) → ReadsCrs node.now.class (item node.now) value → result ≡ kind_of value }
+{
+    match node.class {
+        Class::GeodeticCrs | Class::GeographicCrs => kind_by(system_type_of(node)),
+        Class::ProjectedCrs => Kind::Projected,
+        Class::VerticalCrs => Kind::Vertical,
+        Class::CompoundCrs => Kind::Compound,
+        _ => unreachable!(),
     }
 }

@@ -1,12 +1,18 @@
 //! Reference frames and datum ensembles.
-ghost use Rattle.std.specs.Prelude.{◌≡◌};
-ghost use Rattle.crs_shape.specs.declared.class.Class.TheVariants as classes;
-ghost use Rattle.crs_value.specs.Reading.{Requires};
+ghost use Rattle.std.specs.Prelude.{◌≡◌, [], ◌∷◌, IfOk};
+ghost use Rattle.crs_value.specs.Reading.{Requires, RequiresOneOf};
 ghost use Rattle.crs_value.specs.EnsembleFrames.{datum_of, frame_of};
+ghost use Rattle.crs_value.specs.Checks.{IsSound};
+ghost use Rattle.crs_value.specs.Cursor.{item};
+ghost use Rattle.crs_value.specs.Reads.{ReadsDatum, ReadsEnsemble};
+ghost use Rattle.crs_value.specs.ReadsCrs.{ReadsFrame};
+ghost use Rattle.crs_value.specs.ReadsNamed.{ReadsNamed};
+ghost use Rattle.crs_shape.specs.declared.class.Class.TheVariants as classes;
 
+use crate::reading::arguments::first;
 use crate::reading::cursor::Cursor;
 use crate::reading::node::Node;
-use crate::values::ellipsoid::Ellipsoid;
+use crate::values::frame_parts::Ellipsoid;
 use crate::values::ident::Ident;
 use crate::values::key::{Keyed, key_of_named};
 use crate::values::level::Level;
@@ -199,8 +205,6 @@ impl<'a> Model for Member<'a> {
 }
 
 impl<'a> Node<'a> for Datum<'a> {
-    ghost use Rattle.crs_value.specs.Reads.{ReadsDatum};
-
     ghost Suits = { λ c. Requires c classes.Text 0 };
 
     ghost Reads = { λ c item parts. ReadsDatum c item parts };
@@ -217,8 +221,6 @@ impl<'a> Node<'a> for Datum<'a> {
 }
 
 impl<'a> Node<'a> for Ensemble<'a> {
-    ghost use Rattle.crs_value.specs.Reads.{ReadsEnsemble};
-
     ghost Suits = { λ c. Requires c classes.Text 0 × Requires c classes.Member 0
         × Requires c classes.EnsembleAccuracy 0 };
 
@@ -237,8 +239,6 @@ impl<'a> Node<'a> for Ensemble<'a> {
 }
 
 impl<'a> Node<'a> for Member<'a> {
-    ghost use Rattle.crs_value.specs.ReadsNamed.{ReadsNamed};
-
     ghost Suits = { λ c. Requires c classes.Text 0 };
 
     ghost Reads = { λ c item parts. ReadsNamed c item parts };
@@ -259,4 +259,32 @@ impl Keyed for Member<'_> {
     fn has_two_keys() -> bool {
         true
     }
+}
+
+// The frame of a CRS: its reference frame, of the one class, or where there is none its ensemble, of the
+// other.
+pub(crate) fn read_frame<'a>(
+    alloc: Global,
+    node: &Cursor<'_, 'a>,
+    frame: Class,
+    ensemble: Class,
+) -> Result<Frame<'a>, AllocError>
+    requires sound { IsSound node.now.class (item node.now) }
+    requires there { RequiresOneOf node.now.class (frame ∷ ensemble ∷ []) }
+    requires frame { Requires frame Class.Text 0 }
+    requires ensemble { Requires ensemble Class.Text 0 × Requires ensemble Class.Member 0
+        × Requires ensemble Class.EnsembleAccuracy 0 }
+    ensures { IfOk result (λ value. ReadsFrame frame ensemble node.now.class (item node.now) value) }
+{
+    laws::slots_count();
+    let items = node.items;
+    if let Some(id) = first(items, node.id, node.class, frame) {
+        let class = frame;
+        return Datum::read(alloc, &Cursor { items, id, class }).map(Frame::Datum);
+    }
+    let Some(id) = first(items, node.id, node.class, ensemble) else {
+        unreachable!()
+    };
+    let class = ensemble;
+    Ensemble::read(alloc, &Cursor { items, id, class }).map(Frame::Ensemble)
 }

@@ -13,9 +13,8 @@ ghost use Rattle.crs_value.specs.Values.{IdentParts};
 
 use crate::reading::cursor::Cursor;
 use crate::reading::node::Node;
-use crate::values::key::{Keyed, key_of_ident};
+use crate::values::key::{Keyed, Places, key_of_ident};
 use crate::values::level::Level;
-use crate::values::places::Places;
 use crs_shape::Class;
 use crs_text::ItemKind;
 use std::alloc::{AllocError, Global};

@@ -6,9 +6,8 @@ ghost use Rattle.std.specs.List.{swap};
 ghost use Rattle.crs_value.specs.Fronts.{AreFollowedByOnce, front};
 ghost use Rattle.crs_value.specs.Members.{HaveSameMembers};
 
-use crate::values::key::Keyed;
+use crate::values::key::{Guesses, Keyed, Places};
 use crate::values::level::Level;
-use crate::values::places::{Guesses, Places};
 use std::alloc::{AllocError, Global};
 use std::marker::Model;
 

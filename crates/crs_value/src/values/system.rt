@@ -1,27 +1,190 @@
-//! Coordinate systems.
-ghost use Rattle.std.specs.Prelude.{◌≡◌, IfOk};
-ghost use Rattle.std.specs.Option.{option_copied};
-ghost use Rattle.crs_text.specs.Items.{HasId, arguments};
+//! Units, axes and coordinate systems.
 ghost use Rattle.crs_value.specs.Cursor.{item};
 ghost use Rattle.crs_value.specs.Checks.{IsSound, HasSystem};
+ghost use Rattle.crs_value.specs.Reads.{ReadsKind, IsUnitClass, ReadsUnit, ReadsDirection, ReadsAxisMeridian};
+ghost use Rattle.crs_value.specs.Reads.{ReadsAxis, HasType, ReadsType, ReadsSystem};
+ghost use Rattle.crs_value.specs.Sound.{IsUnit, IsAxis, IsAxisMeridian};
+ghost use Rattle.crs_value.specs.Values.{UnitParts, AxisParts, AxisMeridianParts, SystemParts};
+ghost use Rattle.crs_value.specs.Reading.{Requires, those, ReadsFirst, item_at};
+ghost use Rattle.std.specs.Prelude.{◌≡◌, IfOk};
+ghost use Rattle.crs_text.specs.Items.{arguments, HasId};
+ghost use Rattle.std.specs.Option.{option_copied};
 ghost use Rattle.crs_value.specs.FirstArguments.{AreFirsts};
-ghost use Rattle.crs_value.specs.Reading.{item_at, those, Requires, ReadsFirst};
-ghost use Rattle.crs_value.specs.Reads.{HasType, ReadsType, ReadsSystem};
 ghost use Rattle.crs_value.specs.SoundSystem.{own_or, IsSystem};
-ghost use Rattle.crs_value.specs.Values.{SystemParts};
+ghost use Rattle.crs_shape.specs.declared.class.Class.TheVariants as classes;
 
 use crate::reading::cursor::Cursor;
 use crate::reading::firsts::Firsts;
 use crate::reading::node::{Node, required};
-use crate::values::axis::Axis;
 use crate::values::ident::Ident;
+use crate::values::key::Keyed;
+use crate::values::level::Level;
 use crate::values::list::List;
-use crate::values::unit::Unit;
 use crs_decimal::Decimal;
-use crs_shape::{Class, SystemType, laws};
+use crs_shape::{Class, Direction, SystemType, UnitKind, laws};
 use crs_text::{ItemId, Items};
 use std::alloc::{AllocError, Global};
 use std::marker::Model;
+
+/// A unit, `LENGTHUNIT[name, factor, id..]` or with another keyword of a unit.
+/// ISO 19162:2019, "Units".
+#[derive(Drop)]
+pub struct Unit<'a> {
+    /// The kind, as the keyword says it.
+    pub kind: UnitKind,
+    /// The name.
+    pub name: &'a [u8],
+    /// How many metres, radians or ones the unit has: above 0.
+    pub factor: Decimal,
+    /// The identifiers, as written.
+    pub identifiers: List<Ident<'a>>,
+}
+
+impl<'a> Model for Unit<'a> {
+    ghost Value = { UnitParts };
+
+    ghost view = { λ u. record { kind = u.kind; name = u.name.now; factor = u.factor; identifiers = u.identifiers } };
+
+    ghost invariant = { λ u. IsUnit (view u) };
+}
+
+fn kind(node: &Cursor<'_, '_>) -> UnitKind
+    requires class { IsUnitClass node.now.class }
+    requires sound { IsSound node.now.class (item node.now) }
+    ensures { ReadsKind (item node.now) result }
+{
+    match UnitKind::read(node.items.raw(node.id)) {
+        Some(kind) => kind,
+        None => unreachable!(),
+    }
+}
+
+impl<'a> Node<'a> for Unit<'a> {
+    ghost Suits = { λ c. IsUnitClass c × Requires c classes.Text 0 × Requires c classes.Number 0 };
+
+    ghost Reads = { λ c item parts. ReadsUnit c item parts };
+
+    fn read(alloc: Global, node: &Cursor<'_, 'a>) -> Result<Self, AllocError> {
+        Ok(Unit {
+            kind: kind(node),
+            name: node.text(),
+            factor: node.number(),
+            identifiers: node.many(alloc, Class::Identifier)?,
+        })
+    }
+}
+
+/// An axis, `AXIS[name, direction, (meridian), (order), (unit), id..]`.
+/// ISO 19162:2019, "Axis".
+pub struct Axis<'a> {
+    /// The name and abbreviation, unsplit.
+    pub name: &'a [u8],
+    /// The direction.
+    pub direction: Direction,
+    /// The meridian that the axis goes along, at a pole.
+    pub meridian: Option<AxisMeridian<'a>>,
+    /// The axis's number in the system: from 1 to the number of axes.
+    pub order: Option<Decimal>,
+    /// The axis's own unit; None where the axes share one.
+    pub unit: Option<Unit<'a>>,
+    /// The identifiers, as written.
+    pub identifiers: List<Ident<'a>>,
+}
+
+impl<'a> Model for Axis<'a> {
+    ghost Value = { AxisParts };
+
+    ghost view = { λ a. record {
+      name = a.name.now;
+      direction = a.direction;
+      meridian = a.meridian;
+      order = a.order;
+      unit = a.unit;
+      identifiers = a.identifiers;
+    } };
+
+    ghost invariant = { λ a. IsAxis (view a) };
+}
+
+impl Drop for Axis<'_> {
+    fn drop(self) {
+        let Axis {
+            name: _,
+            direction: _,
+            meridian: _,
+            order: _,
+            unit: _,
+            identifiers: _,
+        } = self;
+    }
+}
+
+/// The meridian of an axis at a pole, `MERIDIAN[longitude, unit]`.
+/// ISO 19162:2019, "Axis direction".
+#[derive(Drop)]
+pub struct AxisMeridian<'a> {
+    /// The longitude, in the unit.
+    pub longitude: Decimal,
+    /// The unit of the longitude, an angle.
+    pub unit: Unit<'a>,
+}
+
+impl<'a> Model for AxisMeridian<'a> {
+    ghost Value = { AxisMeridianParts };
+
+    ghost view = { λ m. record { longitude = m.longitude; unit = m.unit } };
+
+    ghost invariant = { λ m. IsAxisMeridian (view m) };
+}
+
+impl<'a> Node<'a> for AxisMeridian<'a> {
+    ghost Suits = { λ c. Requires c classes.Number 0 × Requires c classes.AngleUnit 0 };
+
+    ghost Reads = { λ c item parts. ReadsAxisMeridian c item parts };
+
+    fn read(alloc: Global, node: &Cursor<'_, 'a>) -> Result<Self, AllocError> {
+        Ok(AxisMeridian {
+            longitude: node.number(),
+            unit: node.one(alloc, Class::AngleUnit)?,
+        })
+    }
+}
+
+impl<'a> Node<'a> for Axis<'a> {
+    ghost Suits = { λ c. c ≡ classes.Axis };
+
+    ghost Reads = { λ c item parts. ReadsAxis c item parts };
+
+    fn read(alloc: Global, node: &Cursor<'_, 'a>) -> Result<Self, AllocError> {
+        Ok(Axis {
+            name: node.text(),
+            direction: direction(node),
+            meridian: node.optional(alloc, Class::AxisMeridian)?,
+            order: node.optional_number(Class::Order),
+            unit: node.optional(alloc, Class::AxisUnit)?,
+            identifiers: node.many(alloc, Class::Identifier)?,
+        })
+    }
+}
+
+// Axes are no set.
+impl Keyed for Axis<'_> {
+    fn key(&self, _level: Level) -> u128 {
+        0
+    }
+}
+
+fn direction(node: &Cursor<'_, '_>) -> Direction
+    requires sound { IsSound Class.Axis (item node.now) }
+    ensures { ReadsFirst ReadsDirection (those Class.Axis Class.Word (arguments (item node.now))) result }
+{
+    let items = node.items;
+    let word = required(items, node.id, Class::Axis, Class::Word);
+    match Direction::read(items.raw(word)) {
+        Some(direction) => direction,
+        None => unreachable!(),
+    }
+}
 
 /// A coordinate system: `CS[type, dimension, id..]`, the axes beside it, and their shared unit.
 /// ISO 19162:2019, "Coordinate system".

@@ -18,7 +18,7 @@ use crate::values::ident::Ident;
 use crate::values::key::{Key, Keyed};
 use crate::values::level::Level;
 use crate::values::list::List;
-use crate::values::unit::Unit;
+use crate::values::system::Unit;
 use crs_decimal::Decimal;
 use crs_shape::{Class, laws};
 use std::alloc::{AllocError, Global};
