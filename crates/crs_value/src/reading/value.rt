@@ -82,8 +82,5 @@ pub fn value_of<'a>(alloc: Global, items: &Items<'a>) -> Result<Crs<'a>, Fault>
 pub fn read<'a>(alloc: Global, bytes: &'a [u8]) -> Result<Crs<'a>, Fault>
     ensures { MatchResult result (Spells bytes.now) (IsFaultOfText bytes.now) }
 {
-    match read_items(alloc, bytes) {
-        Ok(items) => value_of(alloc, &items),
-        Err(fault) => Err(fault),
-    }
+    value_of(alloc, &read_items(alloc, bytes)?)
 }

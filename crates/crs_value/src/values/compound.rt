@@ -25,9 +25,7 @@ pub enum Horizontal<'a> {
 
 impl Drop for Horizontal<'_> {
     fn drop(self) {
-        match self {
-            Horizontal::Geodetic(_) | Horizontal::Projected(_) => {}
-        }
+        let (Horizontal::Geodetic(_) | Horizontal::Projected(_)) = self;
     }
 }
 

@@ -169,8 +169,4 @@ impl Keyed for Parameter<'_> {
         key.put_idents(&self.identifiers, level);
         key.finish()
     }
-
-    fn has_two_keys() -> bool {
-        true
-    }
 }

@@ -31,9 +31,7 @@ pub enum Crs<'a> {
 
 impl Drop for Crs<'_> {
     fn drop(self) {
-        match self {
-            Crs::Geodetic(_) | Crs::Projected(_) | Crs::Vertical(_) | Crs::Compound(_) => {}
-        }
+        let (Crs::Geodetic(_) | Crs::Projected(_) | Crs::Vertical(_) | Crs::Compound(_)) = self;
     }
 }
 
@@ -83,7 +81,7 @@ pub(crate) fn kind_by(system_type: SystemType) -> Kind
 fn geodetic<'a>(alloc: Global, node: &Cursor<'_, 'a>) -> Result<Crs<'a>, Fault>
     requires sound { IsSound node.now.class (item node.now) }
     requires class { IsGeodeticClass node.now.class }
-    ensures { MatchResult result (λ value. ReadsCrs node.now.class (item node.now) value) (IsFaultOf node.now.items.now) }
+    ensures { MatchResult result (ReadsCrs node.now.class (item node.now)) (IsFaultOf node.now.items.now) }
 {
     match read_geodetic(alloc, node) {
         Ok(value) => Ok(Crs::Geodetic(value)),
@@ -95,8 +93,7 @@ fn geodetic<'a>(alloc: Global, node: &Cursor<'_, 'a>) -> Result<Crs<'a>, Fault>
 fn projected<'a>(alloc: Global, node: &Cursor<'_, 'a>) -> Result<Crs<'a>, Fault>
     requires sound { IsSound node.now.class (item node.now) }
     requires class { node.now.class ≡ Class.ProjectedCrs }
-    ensures { MatchResult result (λ value. ReadsCrs node.now.class (item node.now) value)
-        (IsFaultOf node.now.items.now) }
+    ensures { MatchResult result (ReadsCrs node.now.class (item node.now)) (IsFaultOf node.now.items.now) }
 {
     match Projected::read(alloc, node) {
         Ok(value) => Ok(Crs::Projected(value)),
@@ -108,8 +105,7 @@ fn projected<'a>(alloc: Global, node: &Cursor<'_, 'a>) -> Result<Crs<'a>, Fault>
 fn vertical<'a>(alloc: Global, node: &Cursor<'_, 'a>) -> Result<Crs<'a>, Fault>
     requires sound { IsSound node.now.class (item node.now) }
     requires class { node.now.class ≡ Class.VerticalCrs }
-    ensures { MatchResult result (λ value. ReadsCrs node.now.class (item node.now) value)
-        (IsFaultOf node.now.items.now) }
+    ensures { MatchResult result (ReadsCrs node.now.class (item node.now)) (IsFaultOf node.now.items.now) }
 {
     match Vertical::read(alloc, node) {
         Ok(value) => Ok(Crs::Vertical(value)),
@@ -121,8 +117,7 @@ fn vertical<'a>(alloc: Global, node: &Cursor<'_, 'a>) -> Result<Crs<'a>, Fault>
 fn compound<'a>(alloc: Global, node: &Cursor<'_, 'a>) -> Result<Crs<'a>, Fault>
     requires sound { IsSound node.now.class (item node.now) }
     requires class { node.now.class ≡ Class.CompoundCrs }
-    ensures { MatchResult result (λ value. ReadsCrs node.now.class (item node.now) value)
-        (IsFaultOf node.now.items.now) }
+    ensures { MatchResult result (ReadsCrs node.now.class (item node.now)) (IsFaultOf node.now.items.now) }
 {
     match Compound::read(alloc, node) {
         Ok(value) => Ok(Crs::Compound(value)),
@@ -134,7 +129,7 @@ fn compound<'a>(alloc: Global, node: &Cursor<'_, 'a>) -> Result<Crs<'a>, Fault>
 pub(crate) fn read_crs<'a>(alloc: Global, node: &Cursor<'_, 'a>) -> Result<Crs<'a>, Fault>
     requires sound { IsSound node.now.class (item node.now) }
     requires root { IsAmong root_classes node.now.class }
-    ensures { MatchResult result (λ value. ReadsCrs node.now.class (item node.now) value) (IsFaultOf node.now.items.now) }
+    ensures { MatchResult result (ReadsCrs node.now.class (item node.now)) (IsFaultOf node.now.items.now) }
 {
     match node.class {
         Class::GeodeticCrs | Class::GeographicCrs => geodetic(alloc, node),

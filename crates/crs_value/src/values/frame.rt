@@ -33,9 +33,7 @@ pub enum Frame<'a> {
 
 impl Drop for Frame<'_> {
     fn drop(self) {
-        match self {
-            Frame::Datum(_) | Frame::Ensemble(_) => {}
-        }
+        let (Frame::Datum(_) | Frame::Ensemble(_)) = self;
     }
 }
 
@@ -254,10 +252,6 @@ impl<'a> Node<'a> for Member<'a> {
 impl Keyed for Member<'_> {
     fn key(&self, level: Level) -> u128 {
         key_of_named(self.name, &self.identifiers, level)
-    }
-
-    fn has_two_keys() -> bool {
-        true
     }
 }
 

@@ -94,6 +94,10 @@ impl Keyed for Ident<'_> {
         key_of_ident(self)
     }
 
+    fn has_two_keys() -> bool {
+        false
+    }
+
     fn once(
         alloc: Global,
         members: &[Self],

@@ -21,7 +21,7 @@ pub(crate) trait Keyed: Sized {
 
     // Whether the keys of the levels differ, where the values count at both.
     fn has_two_keys() -> bool {
-        false
+        true
     }
 
     // These members, each once, if some are repeated; None for all but identifiers, which other members of sets have.
@@ -121,7 +121,7 @@ impl Key {
         match unit {
             Some(unit) => self.put_unit(UnitKind::Length, unit, Level::Full),
             None => {
-                self.put_kind(UnitKind::Length);
+                self.put(UnitKind::Length as u64);
                 self.put_text(b"metre");
                 self.put_parts(false, 1, 0);
                 self.put_wide(SetKey::new().finish());
@@ -138,14 +138,10 @@ impl Key {
 
     // A unit where this kind is asked.
     fn put_unit(&mut self, asked: UnitKind, unit: &Unit<'_>, level: Level) {
-        self.put_kind(unit.kind.as_asked(asked));
+        self.put(unit.kind.as_asked(asked) as u64);
         self.put_text(unit.name);
         self.put_number(&unit.factor);
         self.put_idents(&unit.identifiers, level);
-    }
-
-    fn put_kind(&mut self, kind: UnitKind) {
-        self.put(kind as u64);
     }
 
     // The identifiers that the level keeps, in any order and however often.
@@ -281,10 +277,7 @@ impl Places {
     // The last place before this one that has its key.
     pub(crate) fn before_of(&self, at: usize) -> usize {
         match self.keys.get(at) {
-            Some(key) => match self.rank(*key, at).checked_sub(1) {
-                Some(rank) => self.place(rank, *key),
-                None => NOWHERE,
-            },
+            Some(key) => self.place(self.rank(*key, at).wrapping_sub(1), *key),
             None => NOWHERE,
         }
     }
@@ -342,21 +335,17 @@ impl<'b> Guesses<'b> {
     /// The guess for the member at this place.
     pub fn of(self, at: usize) -> Guess {
         match (self.own, self.others) {
-            (Some(own), Some(others)) => guessed(own, others, at),
+            (Some(own), Some(others)) => Guess {
+                other: match own.keys.get(at) {
+                    Some(key) => others.place(others.rank(*key, 0), *key),
+                    None => NOWHERE,
+                },
+                before: own.before_of(at),
+            },
             _ => Guess {
                 other: NOWHERE,
                 before: NOWHERE,
             },
         }
-    }
-}
-
-fn guessed(own: &Places, others: &Places, at: usize) -> Guess {
-    Guess {
-        other: match own.keys.get(at) {
-            Some(key) => others.place(others.rank(*key, 0), *key),
-            None => NOWHERE,
-        },
-        before: own.before_of(at),
     }
 }

@@ -91,13 +91,7 @@ impl<T> List<T> {
     }
 
     pub(crate) fn places(&self, level: Level) -> Option<&Places> {
-        match &self.lookup {
-            Some(lookup) => lookup.places.get(match level {
-                Level::Full => 0,
-                Level::Definition => 1,
-            }),
-            None => None,
-        }
+        self.lookup.as_ref()?.places.get(level as usize)
     }
 
     /// Changes each member. Profile.

@@ -324,8 +324,4 @@ impl Keyed for GeoidModel<'_> {
     fn key(&self, level: Level) -> u128 {
         key_of_named(self.name, &self.identifiers, level)
     }
-
-    fn has_two_keys() -> bool {
-        true
-    }
 }

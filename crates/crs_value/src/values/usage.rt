@@ -188,6 +188,10 @@ impl Keyed for Usage<'_> {
         key.put_extent(&self.extent);
         key.finish()
     }
+
+    fn has_two_keys() -> bool {
+        false
+    }
 }
 
 // Whether a usage of these parts has one at least.
