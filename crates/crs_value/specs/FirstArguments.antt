@@ -1,16 +1,31 @@
 -- A bridge: the first arguments of some classes, as one walk over a node finds them.
-use Rattle.std.specs.Prelude.{◌≡◌, ℕ, length, Bool, true, false, Option, Some, None}
+use Rattle.std.specs.Prelude.{◌≡◌, ◌+◌, ℕ, length, Bool, true, false, List, [], ◌∷◌, map, Option, Some}
+use Rattle.std.specs.Option.{option_or}
 use Rattle.crs_text.specs.Items.{Item, Siblings}
 use Rattle.crs_shape.specs.declared.class.Class.{Class}
 use Rattle.crs_shape.specs.declared.class.Class.TheVariants as class
+use Rattle.crs_shape.specs.Counts.{one_if}
 use Rattle.crs_value.specs.declared.reading.firsts.Firsts.{Firsts}
-use Rattle.crs_value.specs.Reading.{those, IsFound}
+use Rattle.crs_value.specs.Reading.{is_same, those, IsFound}
 
 -- the first one of a class, with one argument more, which is of the class or not
 abbrev pub first_with : Bool → Option ℕ → ℕ → Option ℕ
 first_with false old id = old
-first_with true None id = Some id
-first_with true (Some old) id = Some old
+first_with true old id = option_or old (Some id)
+
+-- the classes that are asked for, each with the first of it
+abbrev pub fields : Firsts → List (Class × Option ℕ)
+fields firsts =
+    (class.CoordinateSystem, firsts.system) ∷ (class.Axis, firsts.axis) ∷ (class.AxisUnit, firsts.unit)
+    ∷ (class.Scope, firsts.scope) ∷ (class.Area, firsts.area) ∷ (class.BoundingBox, firsts.bbox)
+    ∷ (class.VerticalExtent, firsts.extent) ∷ (class.Remark, firsts.remark) ∷ (class.Usage, firsts.usage)
+    ∷ (class.Identifier, firsts.identifier) ∷ (class.Dynamic, firsts.dynamic) ∷ []
+
+-- one argument more, of class d
+abbrev pub AreNoted : Firsts → Firsts → Class → ℕ → Type 0
+AreNoted old new d id =
+    (fields new ≡ map (λ f. (f.0, first_with (is_same f.0 d) f.1 id)) (fields old))
+    × (new.axes ≡ old.axes + one_if (is_same class.Axis d))
 
 -- the first one of a class among these arguments; none where there is none
 abbrev pub IsFirstOf : Item → Class → Siblings → Class → Option ℕ → Type 0

@@ -5,7 +5,7 @@ use Rattle.crs_shape.specs.declared.class.Class.{Class}
 use Rattle.crs_shape.specs.declared.class.Class.TheVariants as class
 use Rattle.crs_shape.specs.Prelude.{one_if, class_in, is_class}
 use Rattle.crs_value.specs.declared.reading.firsts.Firsts.{Firsts}
-use Rattle.crs_value.specs.FirstArguments.{first_with}
+use Rattle.crs_value.specs.FirstArguments.{AreNoted, fields, first_with}
 use Rattle.crs_value.specs.Reading.{Each, item_at, is_same, is_a, those, ahead, Holds, IsFound}
 use Rattle.crs_value.proofs.found.ArgumentLemmas.{ahead_at, each-as, holds_at, those-first, those-later}
 
@@ -40,23 +40,11 @@ one-more false tree parent c id at has e next =
     let behind = ap (λ xs. length (those parent c xs)) (ahead_at tree (rest_of (here tree id)) at next) in
     omega (arith, ap length (those-later parent c (here tree id) has e), behind)
 
--- the classes that are asked for, each with the first of it
-abbrev fields : Firsts → List (Class × Option ℕ)
-fields firsts =
-    (class.CoordinateSystem, firsts.system) ∷ (class.Axis, firsts.axis) ∷ (class.AxisUnit, firsts.unit) ∷ (class.Scope, firsts.scope)
-    ∷ (class.Area, firsts.area) ∷ (class.BoundingBox, firsts.bbox) ∷ (class.VerticalExtent, firsts.extent) ∷ (class.Remark, firsts.remark)
-    ∷ (class.Usage, firsts.usage) ∷ (class.Identifier, firsts.identifier) ∷ (class.Dynamic, firsts.dynamic) ∷ []
-
 -- those of all classes that are asked for
 pub record Seen (tree : Item) (parent : Class) (all : Siblings) (firsts : Firsts) (at : Option ℕ) : Type 0 where
   pub holds : Holds tree at
   pub are : Each (λ f. SeenOf tree parent f.0 all (ahead tree at) f.1) (fields firsts)
   pub axes : firsts.axes + length (those parent class.Axis (ahead tree at)) ≡ length (those parent class.Axis all)
-
--- one argument more, of class d
-abbrev pub AreNoted : Firsts → Firsts → Class → ℕ → Type 0
-AreNoted old new d id =
-    (fields new ≡ map (λ f. (f.0, first_with (is_same f.0 d) f.1 id)) (fields old)) × (new.axes ≡ old.axes + one_if (is_same class.Axis d))
 
 each-mapped : {V : Type 0} (P Q : V → Type 0) (step : V → V) → ((v : V) → P v → Q (step v)) → (vs : List V) → Each P vs → Each Q (map step vs)
 each-mapped P Q step on [] h = tt

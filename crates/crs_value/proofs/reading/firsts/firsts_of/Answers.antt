@@ -1,4 +1,4 @@
-use Rattle.std.proofs.Common.{[], ◌∷◌, sym, ◌∙◌, arith}
+use Rattle.std.proofs.Common.{sym, ◌∙◌, arith}
 use Rattle.crs_text.specs.Prelude.{arguments}
 use Rattle.crs_shape.specs.declared.class.Class.TheVariants as class
 use Rattle.crs_value.specs.Reading.{item_at}
@@ -17,11 +17,6 @@ pub loop-next-preserved : goal.loop-next-preserved
 loop-next-preserved c =
     let so = rw c.in-Some.is at c.loop-next.invariant in
     elim c.match-class_in.branch [
-      | in-Some-class_in w ↦ rw w.firsts-is (seen-on _ _ w.in-Some-class_in.class _ _ _ _ _ so (sym w.in-Some-class_in.ensures) (
-        λ i. (class.CoordinateSystem, w.note.ensures.system i) ∷ (class.Axis, w.note.ensures.axis i) ∷ (class.AxisUnit, w.note.ensures.unit i) ∷ (class.Scope, w.note.ensures.scope i)
-            ∷ (class.Area, w.note.ensures.area i) ∷ (class.BoundingBox, w.note.ensures.bbox i) ∷ (class.VerticalExtent, w.note.ensures.extent i) ∷ (class.Remark, w.note.ensures.remark i)
-            ∷ (class.Usage, w.note.ensures.usage i) ∷ (class.Identifier, w.note.ensures.identifier i) ∷ (class.Dynamic, w.note.ensures.dynamic i) ∷ [],
-        w.note.ensures.axes,
-      ) c.next-next.ensures)
+      | in-Some-class_in w ↦ rw w.firsts-is (seen-on _ _ w.in-Some-class_in.class _ _ _ _ _ so (sym w.in-Some-class_in.ensures) w.note.ensures c.next-next.ensures)
       | in_default-class_in w ↦ rw w.firsts-is (seen-past _ _ _ _ _ _ so (sym c.class_in.ensures ∙ w.in_default-class_in.is) c.next-next.ensures)
     ]
