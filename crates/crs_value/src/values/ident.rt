@@ -119,11 +119,7 @@ fn is_equal_text(a: &[u8], b: &[u8]) -> bool
 fn is_equal_if_any(a: Option<&[u8]>, b: Option<&[u8]>) -> bool
     ensures { IsTrue result → option_copied a.entry ≡ option_copied b.entry }
 {
-    match (a, b) {
-        (None, None) => true,
-        (Some(a), Some(b)) => a == b,
-        (None, Some(_)) | (Some(_), None) => false,
-    }
+    a == b
 }
 
 fn is_equal<'a>(a: &Ident<'a>, b: &Ident<'a>) -> bool
