@@ -1,5 +1,5 @@
 -- Whether all parts of two values are the same, from what a walk over them finds.
-use Rattle.std.proofs.Common.{◌≡◌, ◌↔◌, inl, inr, Some, None, List, [], Bool, IsTrue, refl, sym, subst, ◌∙◌}
+use Rattle.std.proofs.Common.{◌≡◌, ◌↔◌, inl, inr, Option, Some, None, List, [], Bool, IsTrue, refl, subst}
 use Rattle.crs_value.specs.declared.values.level.Level.{Level}
 use Rattle.crs_same.specs.declared.found.Found.{Found}
 use Rattle.crs_same.specs.declared.found.Found.TheVariants as found
@@ -35,24 +35,27 @@ all-first (these ⨾ others) same = (all-first these same.0, all-first others sa
 all-first (within Is parts) (x, is, same) = (x, is, all-first (parts x) same)
 
 -- whether a walk for the first part that differs found none
-found-none : {parts : Parts} {old new : Found} {result : Bool} → IsSettled parts → old ≡ found.First None →
-    Walked parts old new → (IsTrue result ↔ (new ≡ found.First None)) → (IsTrue result ↔ AllSame parts)
-found-none {parts} {old} {new} {result} settled begins walked is = decided (subst (λ f. Walks parts f new) begins walked.walks)
+found-none : {parts : Parts} {old new : Found} {result : Bool} → IsSettled parts → old ≡ found.First None → Walked parts old new →
+    ((path : Option (List Step)) → new ≡ found.First path → (IsTrue result ↔ (path ≡ None))) → (IsTrue result ↔ AllSame parts)
+found-none {parts} {old} {new} {result} settled begins walked is =
+    let (path, was, first) = subst (λ f. Walks parts f new) begins walked.walks in decided path first (is path was)
   where
-    never : (path : List Step) → found.First (Some path) ≡ found.First None → ⊥
+    never : (path : List Step) → Some path ≡ None → ⊥
     never path e = cc
 
-    decided : Walks parts (found.First None) new → (IsTrue result ↔ AllSame parts)
-    decided (None, was, first) = (λ true_is. none-found parts first, λ same. is.1 was)
-    decided (Some path, was, first) = (
-      λ true_is. absurd (never path (sym was ∙ is.0 true_is)),
+    decided : (path : Option (List Step)) → First parts path → (IsTrue result ↔ (path ≡ None)) → (IsTrue result ↔ AllSame parts)
+    decided None first is = (λ true_is. none-found parts first, λ same. is.1 refl)
+    decided (Some path) first is = (
+      λ true_is. absurd (never path (is.0 true_is)),
       λ same. absurd (some-found parts settled path first same),
     )
 
 -- whether such a walk over the parts of two values found none
 pub walked-same : {V : Type 0} (parts : PartsOf V) (level : Level) (a b : V) → IsSettled (parts [] level a b) →
-    {at : List Step} {old new : Found} {result : Bool} → at ≡ [] → old ≡ found.First None → Walked (parts at level a b) old new →
-    (IsTrue result ↔ (new ≡ found.First None)) → (IsTrue result ↔ AreSame parts level a b)
+    {at : List Step} {its : Level} {old new : Found} {result : Bool} → at ≡ [] → its ≡ level → old ≡ found.First None →
+    Walked (parts at its a b) old new → ((path : Option (List Step)) → new ≡ found.First path → (IsTrue result ↔ (path ≡ None))) →
+    (IsTrue result ↔ AreSame parts level a b)
 unfolding AreSame
-walked-same parts level a b settled {at} {old} {new} starts begins walked is =
-    found-none settled begins (subst (λ path. Walked (parts path level a b) old new) starts walked) is
+walked-same parts level a b settled {at} {its} {old} {new} starts is_level begins walked is =
+    found-none settled begins
+    (subst (λ l. Walked (parts [] l a b) old new) is_level (subst (λ path. Walked (parts path its a b) old new) starts walked)) is

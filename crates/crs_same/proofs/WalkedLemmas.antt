@@ -12,7 +12,7 @@ use Rattle.crs_same.specs.Parts.{◌▸◌, Parts, none, part, ◌⨾◌, within
 use Rattle.crs_same.specs.PartsOfFrames.{parts_of_given, or_greenwich}
 use Rattle.crs_same.specs.PartsOfSystems.{parts_at, parts_of_axes}
 use Rattle.crs_matching.specs.Prelude.{SameIdents, SameValue}
-use Rattle.crs_same.specs.Walked.{IsDone, IsRefused, Walks, TellsOf, Told, Walked}
+use Rattle.crs_same.specs.Walked.{IsDone, IsRefused, Walks, Walked}
 
 -- over parts of which none differs
 unchanged : {parts : Parts} {old : Found} → First parts None → Differences parts [] → Walked parts old old
@@ -33,20 +33,6 @@ done {old = found.First None} is = absurd is
 done {old = found.First (Some path)} is = record { walks = refl }
 done {old = found.All before} is = absurd is
 done {old = found.Refused error} is = record { walks = refl }
-
--- over one part that differs
-walks-told : (path : List Step) (Same : Type 0) (first second : Content) (old new : Found) → ¬ Same → ¬ IsDone old →
-    TellsOf (record { path = path; first = first; second = second }) old new → Walks (part path Same first second) old new
-walks-told path Same first second (found.First None) new differs more told = (Some path, told, (differs, refl))
-walks-told path Same first second (found.First (Some before)) new differs more told = absurd (more tt)
-walks-told path Same first second (found.All before) new differs more (inl refused) = inl refused
-walks-told path Same first second (found.All before) new differs more (inr told) =
-    inr (record { path = path; first = first; second = second } ∷ [], told, (differs, refl, refl))
-walks-told path Same first second (found.Refused error) new differs more told = absurd told
-
-pub told : {path : List Step} {Same : Type 0} {first second : Content} {old new : Found} → ¬ Same → Told path first second old new →
-    Walked (part path Same first second) old new
-told differs it = record { walks = walks-told _ _ _ _ _ _ differs it.more it.tells }
 
 -- over one part that differs, from what is found over one that is never the same
 walks-differing : (path : List Step) (Same : Type 0) (first second : Content) (old new : Found) → ¬ Same →
@@ -127,8 +113,6 @@ more-axes at level a b count {old} {between} {new} first second =
   where
     is : suc count ≡ count + 1
     is = omega arith
-
-pub ruleset walked_rules = (done, same, told)
 
 pub ruleset part_rules = (done, same, differing)
 

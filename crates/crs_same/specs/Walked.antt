@@ -1,6 +1,5 @@
 -- A bridge: what a walk over the parts of two values finds.
-use Rattle.std.specs.Prelude.{◌≡◌, Option, Some, None, List, [], ◌∷◌, ◌++◌, ◌⊎◌}
-use Rattle.crs_same.specs.declared.content.Content.{Content}
+use Rattle.std.specs.Prelude.{◌≡◌, Option, Some, None, List, ◌++◌, ◌⊎◌}
 use Rattle.crs_same.specs.declared.found.Found.{Found}
 use Rattle.crs_same.specs.declared.found.Found.TheVariants as found
 use Rattle.crs_same.specs.declared.step.Step.{Step}
@@ -36,14 +35,3 @@ Walks parts (found.Refused error) new = new ≡ found.Refused error
 -- what is found over these parts, as one fact
 pub record Walked (parts : Parts) (old new : Found) : Type 0 where
   pub walks : Walks parts old new
-
--- what is found with one part more, where more is looked for
-abbrev pub TellsOf : DifferenceParts → Found → Found → Type 0
-TellsOf one (found.First before) new = new ≡ found.First (Some one.path)
-TellsOf one (found.All before) new = IsRefused new ⊎ (new ≡ found.All (before ++ one ∷ []))
-TellsOf one (found.Refused error) new = ⊥
-
--- more was looked for, and this is found with one part more, which differs: its path and both values
-pub record Told (path : List Step) (first second : Content) (old new : Found) : Type 0 where
-  pub more : ¬ IsDone old
-  pub tells : TellsOf (record { path = path; first = first; second = second }) old new

@@ -14,7 +14,7 @@ use std::marker::Model;
 /// A word or the characters of a text. Profile.
 #[derive(Drop)]
 pub struct Text<'a> {
-    bytes: &'a [u8],
+    pub(crate) bytes: &'a [u8],
 }
 
 impl<'a> Model for Text<'a> {
@@ -26,12 +26,6 @@ impl<'a> Model for Text<'a> {
 }
 
 impl<'a> Text<'a> {
-    pub(crate) fn new(bytes: &'a [u8]) -> Text<'a>
-        ensures { result ≡ bytes.now }
-    {
-        Text { bytes }
-    }
-
     /// The bytes.
     pub fn as_bytes(&self) -> &'a [u8]
         ensures { result.now ≡ self.now }
@@ -43,7 +37,7 @@ impl<'a> Text<'a> {
 /// A part, borrowed from its CRS. Profile.
 #[derive(Drop)]
 pub struct Borrowed<'b, T> {
-    part: &'b T,
+    pub(crate) part: &'b T,
 }
 
 // With a `ghost use` of its own: without one the block takes those of the file, which lead back to this struct.
@@ -56,12 +50,6 @@ impl<'b, T> Model for Borrowed<'b, T> {
 }
 
 impl<'b, T> Borrowed<'b, T> {
-    pub(crate) fn new(part: &'b T) -> Borrowed<'b, T>
-        ensures { result ≡ part.now }
-    {
-        Borrowed { part }
-    }
-
     /// The part.
     pub fn get(&self) -> &'b T
         ensures { result.now ≡ self.now }
@@ -73,7 +61,7 @@ impl<'b, T> Borrowed<'b, T> {
 /// The members of a set, in the order in which they are written. Profile.
 #[derive(Drop)]
 pub struct Members<'b, T> {
-    members: &'b [T],
+    pub(crate) members: &'b [T],
 }
 
 impl<'b, T> Model for Members<'b, T> {
@@ -85,12 +73,6 @@ impl<'b, T> Model for Members<'b, T> {
 }
 
 impl<'b, T> Members<'b, T> {
-    pub(crate) fn new(members: &'b [T]) -> Members<'b, T>
-        ensures { result ≡ members.now }
-    {
-        Members { members }
-    }
-
     /// The members, in order.
     pub fn as_slice(&self) -> &'b [T]
         ensures { result.now ≡ self.now }
@@ -102,8 +84,8 @@ impl<'b, T> Members<'b, T> {
 /// The usages at the end of a CRS; the parts that are bare are together one. Profile.
 #[derive(Drop)]
 pub struct Usages<'b, 'a> {
-    bare: Option<&'b Usage<'a>>,
-    usages: &'b [Usage<'a>],
+    pub(crate) bare: Option<&'b Usage<'a>>,
+    pub(crate) usages: &'b [Usage<'a>],
 }
 
 impl<'b, 'a> Model for Usages<'b, 'a> {
@@ -118,12 +100,6 @@ impl<'b, 'a> Model for Usages<'b, 'a> {
 }
 
 impl<'b, 'a> Usages<'b, 'a> {
-    pub(crate) fn new(bare: Option<&'b Usage<'a>>, usages: &'b [Usage<'a>]) -> Usages<'b, 'a>
-        ensures { result ≡ with_bare (option_copied bare.entry) usages.now }
-    {
-        Usages { bare, usages }
-    }
-
     /// The one whose parts are bare, if there is one, and the others.
     pub fn parts(&self) -> (Option<&'b Usage<'a>>, &'b [Usage<'a>])
         ensures { with_bare (option_copied result.0) result.1.now ≡ self.now }
@@ -167,13 +143,15 @@ impl<'b, 'a> Content<'b, 'a> {
     pub(crate) fn word(word: &'static str) -> Content<'b, 'a>
         ensures { result ≡ content.Word word.now }
     {
-        Content::Word(Text::new(word.as_bytes()))
+        Content::Word(Text {
+            bytes: word.as_bytes(),
+        })
     }
 
     pub(crate) fn text(text: &'a [u8]) -> Content<'b, 'a>
         ensures { result ≡ content.Text text.now }
     {
-        Content::Text(Text::new(text))
+        Content::Text(Text { bytes: text })
     }
 
     pub(crate) fn optional_text(text: Option<&'a [u8]>) -> Content<'b, 'a>
@@ -200,7 +178,7 @@ impl<'b, 'a> Content<'b, 'a> {
     {
         match unit {
             None => Content::Nothing,
-            Some(unit) => Content::Unit(asked, Borrowed::new(unit)),
+            Some(unit) => Content::Unit(asked, Borrowed { part: unit }),
         }
     }
 
@@ -209,7 +187,7 @@ impl<'b, 'a> Content<'b, 'a> {
     {
         match unit {
             None => Content::Metre,
-            Some(unit) => Content::Unit(UnitKind::Length, Borrowed::new(unit)),
+            Some(unit) => Content::Unit(UnitKind::Length, Borrowed { part: unit }),
         }
     }
 
@@ -218,7 +196,7 @@ impl<'b, 'a> Content<'b, 'a> {
     {
         match meridian {
             None => Content::Nothing,
-            Some(meridian) => Content::Meridian(Borrowed::new(meridian)),
+            Some(meridian) => Content::Meridian(Borrowed { part: meridian }),
         }
     }
 
@@ -227,7 +205,7 @@ impl<'b, 'a> Content<'b, 'a> {
     {
         match model {
             None => Content::Nothing,
-            Some(model) => Content::Model(Borrowed::new(model)),
+            Some(model) => Content::Model(Borrowed { part: model }),
         }
     }
 }

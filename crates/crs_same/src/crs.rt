@@ -1,28 +1,27 @@
 //! Coordinate reference systems.
 ghost use Rattle.std.specs.Prelude.{◌≡◌, ◌<◌, ◌≤◌, ◌↔◌, [], IfOk, IfSome, IsTrue, None, length};
 ghost use Rattle.crs_value.specs.ReadsCrs.{kind_by, kind_of};
+ghost use Rattle.crs_same.specs.declared.content.Content.TheVariants as content;
 ghost use Rattle.crs_same.specs.declared.step.Step.TheVariants as step;
 ghost use Rattle.crs_same.specs.Parts.{◌▸◌, AreSame};
 ghost use Rattle.crs_same.specs.PartsOfCrs.{kind_word, horizontal_word, parts_of_geodetic, parts_of_base};
 ghost use Rattle.crs_same.specs.PartsOfCrs.{parts_of_projected, parts_of_vertical, parts_of_horizontal};
 ghost use Rattle.crs_same.specs.PartsOfCrs.{parts_of_compound, parts_of_crs, FirstInCrs, DifferencesInCrs};
-ghost use Rattle.crs_same.specs.SingleParts.{words, unlike};
+ghost use Rattle.crs_same.specs.SingleParts.{words, unlike, sets};
 ghost use Rattle.crs_same.specs.Walked.{Walked};
 ghost use Rattle.crs_same.specs.SameCrs.{SameCrs};
+ghost use Rattle.crs_matching.specs.SameConversions.{SameGeoidModel};
 
-use crate::conversions::{walk_conversion, walk_geoid_models};
-use crate::dynamic::walk_dynamic;
+use crate::content::{Content, Members};
 use crate::found::{Differences, Found};
-use crate::frames::{walk_frame, walk_meridian};
 use crate::laws;
-use crate::path::Path;
+use crate::path::{At, Path};
 use crate::step::Step;
-use crate::systems::walk_system;
-use crate::usages::walk_tail;
+use crs_matching::same_set;
 use crs_value::laws::crs_is_sound;
 use crs_value::{
-    Base, Compound, Crs, Geodetic, Horizontal, Kind, Level, Projected, SystemType, UnitKind,
-    Vertical,
+    Base, Compound, Crs, Geodetic, GeoidModel, Horizontal, Kind, Level, List, Projected,
+    SystemType, Vertical,
 };
 use std::alloc::{AllocError, Global};
 
@@ -49,140 +48,6 @@ fn geodetic_kind(system_type: SystemType) -> Kind
     }
 }
 
-#[tactic(auto, using(crate::proofs::WalkedLemmas::part_rules))]
-fn walk_kind<'b, 'a>(found: Found<'b, 'a>, at: &Path, a: SystemType, b: SystemType) -> Found<'b, 'a>
-    requires { length at.now < 5 }
-    ensures { Walked (words (at.now ▸ step.Kind) kind_word (kind_by a) (kind_by b)) found.entry result }
-{
-    let (a, b) = (geodetic_kind(a), geodetic_kind(b));
-    if a == b {
-        return found;
-    }
-    found.unlike(at, Step::Kind, kind_word(a), kind_word(b))
-}
-
-#[tactic(auto, unfolding(crate::specs::PartsOfCrs::parts_of_geodetic))]
-fn walk_geodetic<'b, 'a>(
-    found: Found<'b, 'a>,
-    at: Path,
-    a: &'b Geodetic<'a>,
-    b: &'b Geodetic<'a>,
-    level: Level,
-) -> Found<'b, 'a>
-    requires { length at ≤ 2 }
-    ensures { Walked (parts_of_geodetic at level a.now b.now) found.entry result }
-{
-    let found = walk_kind(found, &at, a.system.system_type, b.system.system_type);
-    let found = found.text(&at, Step::Name, a.name, b.name);
-    let found = walk_dynamic(found, at.then(Step::Dynamic), &a.dynamic, &b.dynamic, level);
-    let found = walk_frame(found, at.then(Step::Datum), &a.frame, &b.frame, level);
-    let meridian = at.then(Step::Meridian);
-    let found = walk_meridian(found, meridian, &a.meridian, &b.meridian, level);
-    let found = walk_system(found, at.then(Step::System), &a.system, &b.system, level);
-    walk_tail(found, at, &a.tail, &b.tail, level)
-}
-
-/// Whether two geodetic or geographic CRSs are the same: kind, name, dynamic part, frame, prime meridian, system and
-/// end. ISO 19162:2019, "Geodetic and geographic CRS".
-pub fn same_geodetic<'a>(a: &Geodetic<'a>, b: &Geodetic<'a>, level: Level) -> bool
-    ensures { IsTrue result ↔ AreSame parts_of_geodetic level a.now b.now }
-{
-    laws::one_axis_each();
-    let _name = a.name;
-    let _name = b.name;
-    walk_geodetic(Found::first(), Path::start(), a, b, level).is_same()
-}
-
-#[tactic(auto, unfolding(crate::specs::PartsOfCrs::parts_of_base))]
-fn walk_base<'b, 'a>(
-    found: Found<'b, 'a>,
-    at: Path,
-    a: &'b Base<'a>,
-    b: &'b Base<'a>,
-    level: Level,
-) -> Found<'b, 'a>
-    requires { length at ≤ 2 }
-    ensures { Walked (parts_of_base at level a.now b.now) found.entry result }
-{
-    let found = found.text(&at, Step::Name, a.name, b.name);
-    let found = walk_dynamic(found, at.then(Step::Dynamic), &a.dynamic, &b.dynamic, level);
-    let found = walk_frame(found, at.then(Step::Datum), &a.frame, &b.frame, level);
-    let meridian = at.then(Step::Meridian);
-    let found = walk_meridian(found, meridian, &a.meridian, &b.meridian, level);
-    let asked = (UnitKind::Angle, UnitKind::Angle);
-    let unit = at.then(Step::Unit);
-    let found = found.unit(unit, level, asked, a.unit.as_ref(), b.unit.as_ref());
-    found.identifiers(&at, Step::Id, level, &a.identifiers, &b.identifiers)
-}
-
-/// Whether two base CRSs are the same: name, dynamic part, frame, prime meridian, the units in both or in neither, and
-/// identifiers. ISO 19162:2019, "Base CRS"; units: profile.
-pub fn same_base<'a>(a: &Base<'a>, b: &Base<'a>, level: Level) -> bool
-    ensures { IsTrue result ↔ AreSame parts_of_base level a.now b.now }
-{
-    walk_base(Found::first(), Path::start(), a, b, level).is_same()
-}
-
-#[tactic(auto, unfolding(crate::specs::PartsOfCrs::parts_of_projected))]
-fn walk_projected<'b, 'a>(
-    found: Found<'b, 'a>,
-    at: Path,
-    a: &'b Projected<'a>,
-    b: &'b Projected<'a>,
-    level: Level,
-) -> Found<'b, 'a>
-    requires { length at ≤ 1 }
-    ensures { Walked (parts_of_projected at level a.now b.now) found.entry result }
-{
-    let found = found.text(&at, Step::Name, a.name, b.name);
-    let found = walk_base(found, at.then(Step::Base), &a.base, &b.base, level);
-    let conversion = at.then(Step::Conversion);
-    let found = walk_conversion(found, conversion, &a.conversion, &b.conversion, level);
-    let found = walk_system(found, at.then(Step::System), &a.system, &b.system, level);
-    walk_tail(found, at, &a.tail, &b.tail, level)
-}
-
-/// Whether two projected CRSs are the same: name, base, conversion, system and end. ISO 19162:2019, "Projected CRS".
-pub fn same_projected<'a>(a: &Projected<'a>, b: &Projected<'a>, level: Level) -> bool
-    ensures { IsTrue result ↔ AreSame parts_of_projected level a.now b.now }
-{
-    laws::one_axis_each();
-    let _name = a.name;
-    let _name = b.name;
-    walk_projected(Found::first(), Path::start(), a, b, level).is_same()
-}
-
-#[tactic(auto, unfolding(crate::specs::PartsOfCrs::parts_of_vertical))]
-fn walk_vertical<'b, 'a>(
-    found: Found<'b, 'a>,
-    at: Path,
-    a: &'b Vertical<'a>,
-    b: &'b Vertical<'a>,
-    level: Level,
-) -> Found<'b, 'a>
-    requires { length at ≤ 2 }
-    ensures { Walked (parts_of_vertical at level a.now b.now) found.entry result }
-{
-    let found = found.text(&at, Step::Name, a.name, b.name);
-    let found = walk_dynamic(found, at.then(Step::Dynamic), &a.dynamic, &b.dynamic, level);
-    let found = walk_frame(found, at.then(Step::Datum), &a.frame, &b.frame, level);
-    let found = walk_system(found, at.then(Step::System), &a.system, &b.system, level);
-    let geoid = at.then(Step::Geoid);
-    let found = walk_geoid_models(found, geoid, &a.geoid_models, &b.geoid_models, level);
-    walk_tail(found, at, &a.tail, &b.tail, level)
-}
-
-/// Whether two vertical CRSs are the same: name, dynamic part, frame, system, the set of geoid models, and end.
-/// ISO 19162:2019, "Vertical CRS".
-pub fn same_vertical<'a>(a: &Vertical<'a>, b: &Vertical<'a>, level: Level) -> bool
-    ensures { IsTrue result ↔ AreSame parts_of_vertical level a.now b.now }
-{
-    laws::one_axis_each();
-    let _name = a.name;
-    let _name = b.name;
-    walk_vertical(Found::first(), Path::start(), a, b, level).is_same()
-}
-
 // The keyword of the horizontal part of a compound CRS.
 fn horizontal_word(part: &Horizontal<'_>) -> &'static str
     ensures { result.now ≡ horizontal_word part.now }
@@ -193,30 +58,167 @@ fn horizontal_word(part: &Horizontal<'_>) -> &'static str
     }
 }
 
-#[tactic(auto, unfolding(crate::specs::PartsOfCrs::parts_of_horizontal))]
-fn walk_horizontal<'b, 'a>(
-    found: Found<'b, 'a>,
-    at: Path,
-    a: &'b Horizontal<'a>,
-    b: &'b Horizontal<'a>,
-    level: Level,
-) -> Found<'b, 'a>
-    requires { length at ≤ 1 }
-    ensures { Walked (parts_of_horizontal at level a.now b.now) found.entry result }
-{
-    match (a, b) {
-        (Horizontal::Geodetic(x), Horizontal::Geodetic(y)) => walk_geodetic(found, at, x, y, level),
-        (Horizontal::Projected(x), Horizontal::Projected(y)) => walk_projected(
-            found, at, x, y, level,
-        ),
-        (Horizontal::Geodetic(_), Horizontal::Projected(_))
-        | (Horizontal::Projected(_), Horizontal::Geodetic(_)) => found.unlike(
-            &at,
-            Step::Kind,
-            horizontal_word(a),
-            horizontal_word(b),
-        ),
+impl<'b, 'a> Found<'b, 'a> {
+    #[tactic(auto, using(crate::proofs::WalkedLemmas::part_rules))]
+    fn kind(self, at: &At, a: SystemType, b: SystemType) -> Self
+        requires { length at.now.path < 5 }
+        ensures { Walked (words (at.now.path ▸ step.Kind) kind_word (kind_by a) (kind_by b)) self.entry result }
+    {
+        let (a, b) = (geodetic_kind(a), geodetic_kind(b));
+        if a == b {
+            return self;
+        }
+        self.unlike(at, Step::Kind, kind_word(a), kind_word(b))
     }
+
+    #[tactic(auto, unfolding(crate::specs::PartsOfCrs::parts_of_geodetic))]
+    fn geodetic(self, at: At, a: &'b Geodetic<'a>, b: &'b Geodetic<'a>) -> Self
+        requires { length at.path ≤ 2 }
+        ensures { Walked (parts_of_geodetic at.path at.level a.now b.now) self.entry result }
+    {
+        let found = self.kind(&at, a.system.system_type, b.system.system_type);
+        let found = found.text(&at, Step::Name, a.name, b.name);
+        let found = found.dynamic(at.then(Step::Dynamic), &a.dynamic, &b.dynamic);
+        let found = found.frame(at.then(Step::Datum), &a.frame, &b.frame);
+        let found = found.meridian(at.then(Step::Meridian), &a.meridian, &b.meridian);
+        let found = found.system(at.then(Step::System), &a.system, &b.system);
+        found.tail(at, &a.tail, &b.tail)
+    }
+
+    #[tactic(auto, unfolding(crate::specs::PartsOfCrs::parts_of_base))]
+    fn base(self, at: At, a: &'b Base<'a>, b: &'b Base<'a>) -> Self
+        requires { length at.path ≤ 2 }
+        ensures { Walked (parts_of_base at.path at.level a.now b.now) self.entry result }
+    {
+        let found = self.text(&at, Step::Name, a.name, b.name);
+        let found = found.dynamic(at.then(Step::Dynamic), &a.dynamic, &b.dynamic);
+        let found = found.frame(at.then(Step::Datum), &a.frame, &b.frame);
+        let found = found.meridian(at.then(Step::Meridian), &a.meridian, &b.meridian);
+        let found = found.angle(&at, a.unit.as_ref(), b.unit.as_ref());
+        found.identifiers(&at, &a.identifiers, &b.identifiers)
+    }
+
+    #[tactic(auto, unfolding(crate::specs::PartsOfCrs::parts_of_projected))]
+    fn projected(self, at: At, a: &'b Projected<'a>, b: &'b Projected<'a>) -> Self
+        requires { length at.path ≤ 1 }
+        ensures { Walked (parts_of_projected at.path at.level a.now b.now) self.entry result }
+    {
+        let found = self.text(&at, Step::Name, a.name, b.name);
+        let found = found.base(at.then(Step::Base), &a.base, &b.base);
+        let found = found.conversion(at.then(Step::Conversion), &a.conversion, &b.conversion);
+        let found = found.system(at.then(Step::System), &a.system, &b.system);
+        found.tail(at, &a.tail, &b.tail)
+    }
+
+    #[tactic(auto, using(crate::proofs::WalkedLemmas::part_rules))]
+    fn geoids(self, at: &At, a: &'b List<GeoidModel<'a>>, b: &'b List<GeoidModel<'a>>) -> Self
+        requires { length at.now.path < 5 }
+        ensures { Walked (sets (at.now.path ▸ step.Geoid) (SameGeoidModel at.now.level) content.GeoidModels
+            a.now b.now) self.entry result }
+    {
+        walk_sets!(self, at, Geoid, a, b, GeoidModels)
+    }
+
+    #[tactic(auto, unfolding(crate::specs::PartsOfCrs::parts_of_vertical))]
+    fn vertical(self, at: At, a: &'b Vertical<'a>, b: &'b Vertical<'a>) -> Self
+        requires { length at.path ≤ 2 }
+        ensures { Walked (parts_of_vertical at.path at.level a.now b.now) self.entry result }
+    {
+        let found = self.text(&at, Step::Name, a.name, b.name);
+        let found = found.dynamic(at.then(Step::Dynamic), &a.dynamic, &b.dynamic);
+        let found = found.frame(at.then(Step::Datum), &a.frame, &b.frame);
+        let found = found.system(at.then(Step::System), &a.system, &b.system);
+        let found = found.geoids(&at, &a.geoid_models, &b.geoid_models);
+        found.tail(at, &a.tail, &b.tail)
+    }
+
+    #[tactic(auto, unfolding(crate::specs::PartsOfCrs::parts_of_horizontal))]
+    fn horizontal(self, at: At, a: &'b Horizontal<'a>, b: &'b Horizontal<'a>) -> Self
+        requires { length at.path ≤ 1 }
+        ensures { Walked (parts_of_horizontal at.path at.level a.now b.now) self.entry result }
+    {
+        match (a, b) {
+            (Horizontal::Geodetic(x), Horizontal::Geodetic(y)) => self.geodetic(at, x, y),
+            (Horizontal::Projected(x), Horizontal::Projected(y)) => self.projected(at, x, y),
+            (Horizontal::Geodetic(_), Horizontal::Projected(_))
+            | (Horizontal::Projected(_), Horizontal::Geodetic(_)) => {
+                self.unlike(&at, Step::Kind, horizontal_word(a), horizontal_word(b))
+            }
+        }
+    }
+
+    #[tactic(auto, unfolding(crate::specs::PartsOfCrs::parts_of_compound))]
+    fn compound(self, at: At, a: &'b Compound<'a>, b: &'b Compound<'a>) -> Self
+        requires { length at.path ≤ 0 }
+        ensures { Walked (parts_of_compound at.path at.level a.now b.now) self.entry result }
+    {
+        let found = self.text(&at, Step::Name, a.name, b.name);
+        let found = found.horizontal(at.then(Step::Horizontal), &a.horizontal, &b.horizontal);
+        let found = found.vertical(at.then(Step::Vertical), &a.vertical, &b.vertical);
+        found.tail(at, &a.tail, &b.tail)
+    }
+
+    // CRSs of which one is geodetic, projected, vertical or compound, and the other isn't.
+    fn kinds(self, a: &'b Crs<'a>, b: &'b Crs<'a>, level: Level) -> Self
+        ensures { Walked (unlike ([] ▸ step.Kind) (kind_word (kind_of a.now)) (kind_word (kind_of b.now)))
+            self.entry result }
+    {
+        let at = At::start(level);
+        self.unlike(&at, Step::Kind, kind_word(a.kind()), kind_word(b.kind()))
+    }
+
+    fn crs(self, a: &'b Crs<'a>, b: &'b Crs<'a>, level: Level) -> Self
+        ensures { Walked (parts_of_crs level a.now b.now) self.entry result }
+    {
+        let at = At::start(level);
+        match (a, b) {
+            (Crs::Geodetic(x), Crs::Geodetic(y)) => self.geodetic(at, x, y),
+            (Crs::Projected(x), Crs::Projected(y)) => self.projected(at, x, y),
+            (Crs::Vertical(x), Crs::Vertical(y)) => self.vertical(at, x, y),
+            (Crs::Compound(x), Crs::Compound(y)) => self.compound(at, x, y),
+            _ => self.kinds(a, b, level),
+        }
+    }
+}
+
+/// Whether two geodetic or geographic CRSs are the same: kind, name, dynamic part, frame, prime meridian, system and
+/// end. ISO 19162:2019, "Geodetic and geographic CRS".
+pub fn same_geodetic<'a>(a: &Geodetic<'a>, b: &Geodetic<'a>, level: Level) -> bool
+    ensures { IsTrue result ↔ AreSame parts_of_geodetic level a.now b.now }
+{
+    laws::one_axis_each();
+    let _name = a.name;
+    let _name = b.name;
+    Found::first().geodetic(At::start(level), a, b).is_same()
+}
+
+/// Whether two base CRSs are the same: name, dynamic part, frame, prime meridian, the units in both or in neither, and
+/// identifiers. ISO 19162:2019, "Base CRS"; units: profile.
+pub fn same_base<'a>(a: &Base<'a>, b: &Base<'a>, level: Level) -> bool
+    ensures { IsTrue result ↔ AreSame parts_of_base level a.now b.now }
+{
+    Found::first().base(At::start(level), a, b).is_same()
+}
+
+/// Whether two projected CRSs are the same: name, base, conversion, system and end. ISO 19162:2019, "Projected CRS".
+pub fn same_projected<'a>(a: &Projected<'a>, b: &Projected<'a>, level: Level) -> bool
+    ensures { IsTrue result ↔ AreSame parts_of_projected level a.now b.now }
+{
+    laws::one_axis_each();
+    let _name = a.name;
+    let _name = b.name;
+    Found::first().projected(At::start(level), a, b).is_same()
+}
+
+/// Whether two vertical CRSs are the same: name, dynamic part, frame, system, the set of geoid models, and end.
+/// ISO 19162:2019, "Vertical CRS".
+pub fn same_vertical<'a>(a: &Vertical<'a>, b: &Vertical<'a>, level: Level) -> bool
+    ensures { IsTrue result ↔ AreSame parts_of_vertical level a.now b.now }
+{
+    laws::one_axis_each();
+    let _name = a.name;
+    let _name = b.name;
+    Found::first().vertical(At::start(level), a, b).is_same()
 }
 
 /// Whether two horizontal parts of compound CRSs are the same: both geodetic or both projected, and the same as such.
@@ -233,25 +235,6 @@ pub fn same_horizontal<'a>(a: &Horizontal<'a>, b: &Horizontal<'a>, level: Level)
     }
 }
 
-#[tactic(auto, unfolding(crate::specs::PartsOfCrs::parts_of_compound))]
-fn walk_compound<'b, 'a>(
-    found: Found<'b, 'a>,
-    at: Path,
-    a: &'b Compound<'a>,
-    b: &'b Compound<'a>,
-    level: Level,
-) -> Found<'b, 'a>
-    requires { length at ≤ 0 }
-    ensures { Walked (parts_of_compound at level a.now b.now) found.entry result }
-{
-    let found = found.text(&at, Step::Name, a.name, b.name);
-    let horizontal = at.then(Step::Horizontal);
-    let found = walk_horizontal(found, horizontal, &a.horizontal, &b.horizontal, level);
-    let vertical = at.then(Step::Vertical);
-    let found = walk_vertical(found, vertical, &a.vertical, &b.vertical, level);
-    walk_tail(found, at, &a.tail, &b.tail, level)
-}
-
 /// Whether two compound CRSs are the same: name, horizontal part, vertical part and end. ISO 19162:2019, "Compound
 /// CRS".
 pub fn same_compound<'a>(a: &Compound<'a>, b: &Compound<'a>, level: Level) -> bool
@@ -260,34 +243,7 @@ pub fn same_compound<'a>(a: &Compound<'a>, b: &Compound<'a>, level: Level) -> bo
     laws::one_axis_each();
     let _name = a.name;
     let _name = b.name;
-    walk_compound(Found::first(), Path::start(), a, b, level).is_same()
-}
-
-// CRSs of which one is geodetic, projected, vertical or compound, and the other isn't.
-fn walk_kinds<'b, 'a>(found: Found<'b, 'a>, a: &'b Crs<'a>, b: &'b Crs<'a>) -> Found<'b, 'a>
-    ensures { Walked (unlike ([] ▸ step.Kind) (kind_word (kind_of a.now)) (kind_word (kind_of b.now)))
-        found.entry result }
-{
-    let at = Path::start();
-    found.unlike(&at, Step::Kind, kind_word(a.kind()), kind_word(b.kind()))
-}
-
-fn walk_crs<'b, 'a>(
-    found: Found<'b, 'a>,
-    a: &'b Crs<'a>,
-    b: &'b Crs<'a>,
-    level: Level,
-) -> Found<'b, 'a>
-    ensures { Walked (parts_of_crs level a.now b.now) found.entry result }
-{
-    let at = Path::start();
-    match (a, b) {
-        (Crs::Geodetic(x), Crs::Geodetic(y)) => walk_geodetic(found, at, x, y, level),
-        (Crs::Projected(x), Crs::Projected(y)) => walk_projected(found, at, x, y, level),
-        (Crs::Vertical(x), Crs::Vertical(y)) => walk_vertical(found, at, x, y, level),
-        (Crs::Compound(x), Crs::Compound(y)) => walk_compound(found, at, x, y, level),
-        _ => walk_kinds(found, a, b),
-    }
+    Found::first().compound(At::start(level), a, b).is_same()
 }
 
 /// The first part in which two CRSs differ, in the order of the canonical text, `kind` before all; None exactly where
@@ -301,7 +257,7 @@ pub fn first_part<'a>(a: &Crs<'a>, b: &Crs<'a>, level: Level) -> Option<Path>
     laws::no_part_differs_where_same();
     crs_is_sound(a);
     crs_is_sound(b);
-    walk_crs(Found::first(), a, b, level).into_first()
+    Found::first().crs(a, b, level).into_first()
 }
 
 /// All parts in which two CRSs differ, in the order of the canonical text, each with its value in either; none
@@ -316,7 +272,7 @@ pub fn differences<'b, 'a>(
 ) -> Result<Differences<'b, 'a>, AllocError>
     ensures { IfOk result (λ differences. DifferencesInCrs level a.now b.now differences) }
 {
-    walk_crs(Found::all(alloc), a, b, level).into_all()
+    Found::all(alloc).crs(a, b, level).into_all()
 }
 
 /// Whether two CRSs are the same at a level: of one kind, and with the same parts. Profile; the defaults of an

@@ -5,12 +5,14 @@ ghost use Rattle.std.specs.Option.{option_and_then, option_copied, option_map};
 ghost use Rattle.crs_same.specs.PartsOfCrs.{parts_of_dynamic};
 ghost use Rattle.crs_same.specs.SameCrs.{SameDynamic};
 ghost use Rattle.crs_matching.specs.SameDynamic.{SameDeformationModel};
+ghost use Rattle.crs_same.specs.declared.step.Step.TheVariants as step;
+ghost use Rattle.crs_same.specs.Parts.{◌▸◌};
 ghost use Rattle.crs_same.specs.SingleParts.{optional};
 ghost use Rattle.crs_same.specs.Walked.{Walked};
 
 use crate::content::Content;
 use crate::found::Found;
-use crate::path::Path;
+use crate::path::At;
 use crate::step::Step;
 use crs_decimal::Decimal;
 use crs_matching::{same_models, same_value};
@@ -23,23 +25,6 @@ pub fn same_dynamic<'a>(a: &Dynamic<'a>, b: &Dynamic<'a>, level: Level) -> bool
     ensures { IsTrue result ↔ SameDynamic level a.now b.now }
 {
     same_value(&a.epoch, &b.epoch) && same_models(a.model.as_ref(), b.model.as_ref(), level)
-}
-
-#[tactic(auto, using(crate::proofs::WalkedLemmas::walked_rules))]
-fn walk_models<'b, 'a>(
-    found: Found<'b, 'a>,
-    at: Path,
-    a: Option<&'b DeformationModel<'a>>,
-    b: Option<&'b DeformationModel<'a>>,
-    level: Level,
-) -> Found<'b, 'a>
-    ensures { Walked (optional at (SameDeformationModel level) content.Model
-        (option_copied a.entry) (option_copied b.entry)) found.entry result }
-{
-    if found.is_done() || same_models(a, b, level) {
-        return found;
-    }
-    found.with(at, Content::optional_model(a), Content::optional_model(b))
 }
 
 fn epoch_of(dynamic: &Option<Dynamic<'_>>) -> Option<Decimal>
@@ -60,17 +45,36 @@ fn model_of<'b, 'a>(dynamic: &'b Option<Dynamic<'a>>) -> Option<&'b DeformationM
     }
 }
 
-#[tactic(auto, unfolding(crate::specs::PartsOfCrs::parts_of_dynamic))]
-pub(crate) fn walk_dynamic<'b, 'a>(
-    found: Found<'b, 'a>,
-    at: Path,
-    a: &'b Option<Dynamic<'a>>,
-    b: &'b Option<Dynamic<'a>>,
-    level: Level,
-) -> Found<'b, 'a>
-    requires { length at ≤ 4 }
-    ensures { Walked (parts_of_dynamic at level a.now b.now) found.entry result }
-{
-    let found = found.optional_number(&at, Step::Epoch, &epoch_of(a), &epoch_of(b));
-    walk_models(found, at.then(Step::Model), model_of(a), model_of(b), level)
+impl<'b, 'a> Found<'b, 'a> {
+    #[tactic(auto, using(crate::proofs::WalkedLemmas::part_rules))]
+    fn models(
+        self,
+        at: &At,
+        a: Option<&'b DeformationModel<'a>>,
+        b: Option<&'b DeformationModel<'a>>,
+    ) -> Self
+        requires { length at.now.path < 5 }
+        ensures { Walked (optional (at.now.path ▸ step.Model) (SameDeformationModel at.now.level) content.Model
+            (option_copied a.entry) (option_copied b.entry)) self.entry result }
+    {
+        if self.is_done() || same_models(a, b, at.level) {
+            return self;
+        }
+        let (first, second) = (Content::optional_model(a), Content::optional_model(b));
+        self.alone(at, Step::Model, first, second)
+    }
+
+    #[tactic(auto, unfolding(crate::specs::PartsOfCrs::parts_of_dynamic))]
+    pub(crate) fn dynamic(
+        self,
+        at: At,
+        a: &'b Option<Dynamic<'a>>,
+        b: &'b Option<Dynamic<'a>>,
+    ) -> Self
+        requires { length at.path ≤ 4 }
+        ensures { Walked (parts_of_dynamic at.path at.level a.now b.now) self.entry result }
+    {
+        let found = self.optional_number(&at, Step::Epoch, &epoch_of(a), &epoch_of(b));
+        found.models(&at, model_of(a), model_of(b))
+    }
 }

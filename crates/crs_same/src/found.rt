@@ -3,24 +3,26 @@ ghost use Rattle.std.specs.Prelude.{◌≡◌, ◌<◌, ◌++◌, ◌∷◌, ◌
 ghost use Rattle.std.specs.Option.{option_copied};
 ghost use Rattle.crs_value.specs.Kept.{kept};
 ghost use Rattle.crs_same.specs.declared.content.Content.TheVariants as content;
+ghost use Rattle.crs_shape.specs.declared.unit_kind.UnitKind.TheVariants as kinds;
 ghost use Rattle.crs_same.specs.declared.step.Step.{Step};
+ghost use Rattle.crs_same.specs.declared.step.Step.TheVariants as step;
 ghost use Rattle.crs_same.specs.declared.found.Found.TheVariants as found;
 ghost use Rattle.crs_same.specs.Contents.{length_unit};
 ghost use Rattle.crs_same.specs.Parts.{◌▸◌, part};
 ghost use Rattle.crs_same.specs.SingleParts.{texts, optional_texts, unlike, numbers, optional_numbers, units};
 ghost use Rattle.crs_same.specs.SingleParts.{identifiers};
 ghost use Rattle.crs_matching.specs.SameUnits.{SameLength};
-ghost use Rattle.crs_same.specs.Walked.{IsDone, IsOfAll, Told, Walked};
+ghost use Rattle.crs_same.specs.Walked.{IsDone, IsOfAll, Walked};
 
 use crate::content::{Content, Members};
-use crate::path::Path;
+use crate::path::{At, Path};
 use crate::step::Step;
 use crs_decimal::Decimal;
 use crs_matching::{
     same_idents, same_kept_idents, same_length, same_optional_text, same_optional_value, same_text,
     same_units_asked, same_value,
 };
-use crs_value::{Guesses, Ident, Level, List, Unit, UnitKind};
+use crs_value::{Guesses, Ident, List, Unit, UnitKind};
 use std::alloc::{AllocError, Global};
 use std::marker::Model;
 
@@ -135,18 +137,6 @@ impl<'b, 'a> Found<'b, 'a> {
         }
     }
 
-    // Whether nothing was found.
-    pub(crate) fn is_same(self) -> bool
-        ensures { IsTrue result ↔ (self.entry ≡ found.First None) }
-    {
-        match self {
-            Found::First(None) => true,
-            Found::First(Some(_path)) => false,
-            Found::All(_differences) => false,
-            Found::Refused(_error) => false,
-        }
-    }
-
     // The first part that differs, where that was looked for.
     pub(crate) fn into_first(self) -> Option<Path>
         ensures { (path : Option (List Step)) → self.entry ≡ found.First path → result ≡ path }
@@ -156,6 +146,13 @@ impl<'b, 'a> Found<'b, 'a> {
             Found::All(_differences) => None,
             Found::Refused(_error) => None,
         }
+    }
+
+    // Whether nothing was found, where the first part that differs was looked for.
+    pub(crate) fn is_same(self) -> bool
+        ensures { (path : Option (List Step)) → self.entry ≡ found.First path → IsTrue result ↔ (path ≡ None) }
+    {
+        self.into_first().is_none()
     }
 
     // All parts that differ, where they were looked for.
@@ -170,18 +167,24 @@ impl<'b, 'a> Found<'b, 'a> {
         }
     }
 
-    // With one part more, which has these values.
-    pub(crate) fn with(
+    // ---- over the part that is this step further
+
+    // A part that is never the same, such as one that only one side has.
+    pub(crate) fn alone(
         self,
-        path: Path,
+        at: &At,
+        step: Step,
         first: Content<'b, 'a>,
         second: Content<'b, 'a>,
-    ) -> Found<'b, 'a>
-        requires { ¬ IsDone self }
-        ensures { Told path (first.entry) (second.entry) self.entry result }
+    ) -> Self
+        requires { length at.now.path < 5 }
+        ensures { Walked (part (at.now.path ▸ step) ⊥ (first.entry) (second.entry)) self.entry result }
     {
         match self {
+            Found::First(None) => Found::First(Some(at.path.then(step))),
+            Found::First(Some(path)) => Found::First(Some(path)),
             Found::All(differences) => {
+                let path = at.path.then(step);
                 let difference = Difference {
                     path,
                     first,
@@ -192,62 +195,22 @@ impl<'b, 'a> Found<'b, 'a> {
                     Err(error) => Found::Refused(error),
                 }
             }
-            Found::First(_before) => Found::First(Some(path)),
-            Found::Refused(_error) => unreachable!(),
+            Found::Refused(error) => Found::Refused(error),
         }
     }
-
-    // With one part more, which is never the same, unless nothing more is looked for.
-    #[tactic(auto, using(crate::proofs::WalkedLemmas::walked_rules))]
-    pub(crate) fn differing(
-        self,
-        at: Path,
-        first: Content<'b, 'a>,
-        second: Content<'b, 'a>,
-    ) -> Found<'b, 'a>
-        ensures { Walked (part at ⊥ (first.entry) (second.entry)) self.entry result }
-    {
-        if self.is_done() {
-            return self;
-        }
-        self.with(at, first, second)
-    }
-
-    // ---- over the part that is this step further
 
     // Two things that are never the same, with their words.
-    #[tactic(auto, using(crate::proofs::WalkedLemmas::walked_rules))]
-    pub(crate) fn unlike(
-        self,
-        at: &Path,
-        step: Step,
-        first: &'static str,
-        second: &'static str,
-    ) -> Found<'b, 'a>
-        requires { length at.now < 5 }
-        ensures { Walked (unlike (at.now ▸ step) first.now second.now) self.entry result }
+    pub(crate) fn unlike(self, at: &At, step: Step, a: &'static str, b: &'static str) -> Self
+        requires { length at.now.path < 5 }
+        ensures { Walked (unlike (at.now.path ▸ step) a.now b.now) self.entry result }
     {
-        self.alone(at, step, Content::word(first), Content::word(second))
-    }
-
-    // A part that is never the same, such as one that only one side has.
-    pub(crate) fn alone(
-        self,
-        at: &Path,
-        step: Step,
-        first: Content<'b, 'a>,
-        second: Content<'b, 'a>,
-    ) -> Found<'b, 'a>
-        requires { length at.now < 5 }
-        ensures { Walked (part (at.now ▸ step) ⊥ (first.entry) (second.entry)) self.entry result }
-    {
-        self.differing(at.then(step), first, second)
+        self.alone(at, step, Content::word(a), Content::word(b))
     }
 
     #[tactic(auto, using(crate::proofs::WalkedLemmas::part_rules))]
-    pub(crate) fn text(self, at: &Path, step: Step, a: &'a [u8], b: &'a [u8]) -> Found<'b, 'a>
-        requires { length at.now < 5 }
-        ensures { Walked (texts (at.now ▸ step) a.now b.now) self.entry result }
+    pub(crate) fn text(self, at: &At, step: Step, a: &'a [u8], b: &'a [u8]) -> Self
+        requires { length at.now.path < 5 }
+        ensures { Walked (texts (at.now.path ▸ step) a.now b.now) self.entry result }
     {
         if same_text(a, b) {
             return self;
@@ -258,29 +221,26 @@ impl<'b, 'a> Found<'b, 'a> {
     #[tactic(auto, using(crate::proofs::WalkedLemmas::part_rules))]
     pub(crate) fn optional_text(
         self,
-        at: &Path,
+        at: &At,
         step: Step,
         a: Option<&'a [u8]>,
         b: Option<&'a [u8]>,
-    ) -> Found<'b, 'a>
-        requires { length at.now < 5 }
-        ensures { Walked (optional_texts (at.now ▸ step) (option_copied a.entry) (option_copied b.entry)) self.entry result }
+    ) -> Self
+        requires { length at.now.path < 5 }
+        ensures { Walked (optional_texts (at.now.path ▸ step) (option_copied a.entry) (option_copied b.entry))
+            self.entry result }
     {
         if same_optional_text(a, b) {
             return self;
         }
-        self.alone(
-            at,
-            step,
-            Content::optional_text(a),
-            Content::optional_text(b),
-        )
+        let (first, second) = (Content::optional_text(a), Content::optional_text(b));
+        self.alone(at, step, first, second)
     }
 
     #[tactic(auto, using(crate::proofs::WalkedLemmas::part_rules))]
-    pub(crate) fn number(self, at: &Path, step: Step, a: &Decimal, b: &Decimal) -> Found<'b, 'a>
-        requires { length at.now < 5 }
-        ensures { Walked (numbers (at.now ▸ step) a.now b.now) self.entry result }
+    pub(crate) fn number(self, at: &At, step: Step, a: &Decimal, b: &Decimal) -> Self
+        requires { length at.now.path < 5 }
+        ensures { Walked (numbers (at.now.path ▸ step) a.now b.now) self.entry result }
     {
         if same_value(a, b) {
             return self;
@@ -291,129 +251,98 @@ impl<'b, 'a> Found<'b, 'a> {
     #[tactic(auto, using(crate::proofs::WalkedLemmas::part_rules))]
     pub(crate) fn optional_number(
         self,
-        at: &Path,
+        at: &At,
         step: Step,
         a: &Option<Decimal>,
         b: &Option<Decimal>,
-    ) -> Found<'b, 'a>
-        requires { length at.now < 5 }
-        ensures { Walked (optional_numbers (at.now ▸ step) a.now b.now) self.entry result }
+    ) -> Self
+        requires { length at.now.path < 5 }
+        ensures { Walked (optional_numbers (at.now.path ▸ step) a.now b.now) self.entry result }
     {
         if same_optional_value(*a, *b) {
             return self;
         }
-        self.alone(
-            at,
-            step,
-            Content::optional_number(*a),
-            Content::optional_number(*b),
-        )
+        let (first, second) = (Content::optional_number(*a), Content::optional_number(*b));
+        self.alone(at, step, first, second)
     }
 
     #[tactic(auto, using(crate::proofs::WalkedLemmas::part_rules))]
-    pub(crate) fn length(
-        self,
-        at: &Path,
-        step: Step,
-        level: Level,
-        a: &'b Option<Unit<'a>>,
-        b: &'b Option<Unit<'a>>,
-    ) -> Found<'b, 'a>
-        requires { length at.now < 5 }
-        ensures { Walked (part (at.now ▸ step) (SameLength level a.now b.now) (length_unit a.now) (length_unit b.now)) self.entry result }
+    pub(crate) fn length(self, at: &At, a: &'b Option<Unit<'a>>, b: &'b Option<Unit<'a>>) -> Self
+        requires { length at.now.path < 5 }
+        ensures { Walked (part (at.now.path ▸ step.Unit) (SameLength at.now.level a.now b.now)
+            (length_unit a.now) (length_unit b.now)) self.entry result }
     {
-        if same_length(a, b, level) {
+        if same_length(a, b, at.level) {
             return self;
         }
-        self.alone(
-            at,
-            step,
-            Content::length(a.as_ref()),
-            Content::length(b.as_ref()),
-        )
+        let (first, second) = (Content::length(a.as_ref()), Content::length(b.as_ref()));
+        self.alone(at, Step::Unit, first, second)
     }
 
     // Units, each where a kind is asked.
-    #[tactic(auto, using(crate::proofs::WalkedLemmas::walked_rules))]
+    #[tactic(auto, using(crate::proofs::WalkedLemmas::part_rules))]
     pub(crate) fn unit(
         self,
-        at: Path,
-        level: Level,
+        at: &At,
         asked: (UnitKind, UnitKind),
         a: Option<&'b Unit<'a>>,
         b: Option<&'b Unit<'a>>,
-    ) -> Found<'b, 'a>
-        ensures { Walked (units at level asked.0 asked.1 (option_copied a.entry) (option_copied b.entry))
-            self.entry result }
+    ) -> Self
+        requires { length at.now.path < 5 }
+        ensures { Walked (units (at.now.path ▸ step.Unit) at.now.level asked.0 asked.1
+            (option_copied a.entry) (option_copied b.entry)) self.entry result }
     {
-        if self.is_done() || same_units_asked(asked, a, b, level) {
+        if self.is_done() || same_units_asked(asked, a, b, at.level) {
             return self;
         }
-        self.with(
-            at,
-            Content::optional_unit(asked.0, a),
-            Content::optional_unit(asked.1, b),
-        )
+        let first = Content::optional_unit(asked.0, a);
+        let second = Content::optional_unit(asked.1, b);
+        self.alone(at, Step::Unit, first, second)
+    }
+
+    // Units of which an angle's is asked.
+    pub(crate) fn angle(self, at: &At, a: Option<&'b Unit<'a>>, b: Option<&'b Unit<'a>>) -> Self
+        requires { length at.now.path < 5 }
+        ensures { Walked (units (at.now.path ▸ step.Unit) at.now.level kinds.Angle kinds.Angle
+            (option_copied a.entry) (option_copied b.entry)) self.entry result }
+    {
+        self.unit(at, (UnitKind::Angle, UnitKind::Angle), a, b)
     }
 
     // The identifiers that the level keeps.
     #[tactic(auto, using(crate::proofs::WalkedLemmas::part_rules))]
-    pub(crate) fn identifiers(
-        self,
-        at: &Path,
-        step: Step,
-        level: Level,
-        a: &'b List<Ident<'a>>,
-        b: &'b List<Ident<'a>>,
-    ) -> Found<'b, 'a>
-        requires { length at.now < 5 }
-        ensures { Walked (identifiers (at.now ▸ step) level a.now b.now) self.entry result }
+    pub(crate) fn identifiers(self, at: &At, a: &'b List<Ident<'a>>, b: &'b List<Ident<'a>>) -> Self
+        requires { length at.now.path < 5 }
+        ensures { Walked (identifiers (at.now.path ▸ step.Id) at.now.level a.now b.now) self.entry result }
     {
-        if self.is_done() || same_idents(a, b, level) {
+        if self.is_done() || same_idents(a, b, at.level) {
             return self;
         }
-        self.unlike_identifiers(at, step, level, a.as_slice(), b.as_slice())
+        self.unlike_identifiers(at, a.as_slice(), b.as_slice())
     }
 
     // Of slices, of which one is empty.
     #[tactic(auto, using(crate::proofs::WalkedLemmas::part_rules))]
-    pub(crate) fn identifiers_of(
-        self,
-        at: &Path,
-        step: Step,
-        level: Level,
-        a: &'b [Ident<'a>],
-        b: &'b [Ident<'a>],
-    ) -> Found<'b, 'a>
-        requires { length at.now < 5 }
-        ensures { Walked (identifiers (at.now ▸ step) level a.now b.now) self.entry result }
+    pub(crate) fn identifiers_of(self, at: &At, a: &'b [Ident<'a>], b: &'b [Ident<'a>]) -> Self
+        requires { length at.now.path < 5 }
+        ensures { Walked (identifiers (at.now.path ▸ step.Id) at.now.level a.now b.now) self.entry result }
     {
-        if self.is_done() || same_kept_idents(a, b, Guesses::none(), level) {
+        if self.is_done() || same_kept_idents(a, b, Guesses::none(), at.level) {
             return self;
         }
-        self.unlike_identifiers(at, step, level, a, b)
+        self.unlike_identifiers(at, a, b)
     }
 
     // Those that the level keeps, which aren't the same.
-    fn unlike_identifiers(
-        self,
-        at: &Path,
-        step: Step,
-        level: Level,
-        a: &'b [Ident<'a>],
-        b: &'b [Ident<'a>],
-    ) -> Found<'b, 'a>
-        requires { length at.now < 5 }
-        ensures { Walked (part (at.now ▸ step) ⊥ (content.Identifiers (kept level a.now) (kept level b.now))
-            (content.Identifiers (kept level b.now) (kept level a.now))) self.entry result }
+    fn unlike_identifiers(self, at: &At, a: &'b [Ident<'a>], b: &'b [Ident<'a>]) -> Self
+        requires { length at.now.path < 5 }
+        ensures { Walked (part (at.now.path ▸ step.Id) ⊥
+            (content.Identifiers (kept at.now.level a.now) (kept at.now.level b.now))
+            (content.Identifiers (kept at.now.level b.now) (kept at.now.level a.now))) self.entry result }
     {
-        let these = level.kept(a);
-        let others = level.kept(b);
-        self.alone(
-            at,
-            step,
-            Content::Identifiers(Members::new(these), Members::new(others)),
-            Content::Identifiers(Members::new(others), Members::new(these)),
-        )
+        let (a, b) = (at.level.kept(a), at.level.kept(b));
+        let first = Content::Identifiers(Members { members: a }, Members { members: b });
+        let second = Content::Identifiers(Members { members: b }, Members { members: a });
+        self.alone(at, Step::Id, first, second)
     }
 }

@@ -4,16 +4,14 @@
 
 // A walk over two lists that are taken as sets: where they aren't the same, with one part more.
 macro_rules! walk_sets {
-    ($found:ident, $at:ident, $a:ident, $b:ident, $level:ident, $same:ident, $content:ident) => {{
-        let (these, others) = ($a.as_slice(), $b.as_slice());
-        if $found.is_done() || $same(these, others, $a.guesses($b, $level), $level) {
+    ($found:ident, $at:ident, $step:ident, $a:ident, $b:ident, $content:ident) => {{
+        let (a, b) = ($a.as_slice(), $b.as_slice());
+        if $found.is_done() || same_set(a, b, $a.guesses($b, $at.level), $at.level) {
             return $found;
         }
-        $found.differing(
-            $at,
-            Content::$content(Members::new(these), Members::new(others)),
-            Content::$content(Members::new(others), Members::new(these)),
-        )
+        let first = Content::$content(Members { members: a }, Members { members: b });
+        let second = Content::$content(Members { members: b }, Members { members: a });
+        $found.alone($at, Step::$step, first, second)
     }};
 }
 

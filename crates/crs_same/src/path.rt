@@ -3,6 +3,7 @@ ghost use Rattle.std.specs.Prelude.{◌≡◌, ◌<◌, ◌≤◌, ◌++◌, ◌
 ghost use Rattle.crs_same.specs.Paths.{further_text, path_text};
 
 use crate::step::Step;
+use crs_value::Level;
 use std::alloc::AllocError;
 use std::marker::Model;
 
@@ -28,26 +29,6 @@ impl Model for Path {
 }
 
 impl Path {
-    // The path to the whole.
-    pub(crate) fn start() -> Path
-        ensures { result ≡ [] }
-    {
-        Path {
-            steps: [Step::Kind; MOST],
-            len: 0,
-        }
-    }
-
-    // A path equal to this one.
-    pub(crate) fn copied(&self) -> Path
-        ensures { result ≡ self.now }
-    {
-        Path {
-            steps: self.steps,
-            len: self.len,
-        }
-    }
-
     // One step further.
     pub(crate) fn then(&self, step: Step) -> Path
         requires { length self.now < 5 }
@@ -108,4 +89,37 @@ fn write_further(steps: &[Step], out: &mut Vec<u8>) -> Result<(), AllocError>
         step.write(out)?;
     }
     Ok(())
+}
+
+// Where a part is, and the level at which it is compared.
+#[derive(Drop)]
+pub(crate) struct At {
+    pub(crate) path: Path,
+    pub(crate) level: Level,
+}
+
+impl At {
+    // Where the whole is.
+    pub(crate) fn start(level: Level) -> At
+        ensures path { result.path ≡ [] }
+        ensures level { result.level ≡ level }
+    {
+        let steps = [Step::Kind; MOST];
+        At {
+            path: Path { steps, len: 0 },
+            level,
+        }
+    }
+
+    // One step further.
+    pub(crate) fn then(&self, step: Step) -> At
+        requires { length self.now.path < 5 }
+        ensures path { result.path ≡ self.now.path ++ step ∷ [] }
+        ensures level { result.level ≡ self.now.level }
+    {
+        At {
+            path: self.path.then(step),
+            level: self.level,
+        }
+    }
 }

@@ -4,13 +4,15 @@ ghost use Rattle.crs_value.specs.declared.values.level.Level.{Level};
 ghost use Rattle.crs_value.specs.Kept.{kept};
 ghost use Rattle.crs_same.specs.declared.content.Content.TheVariants as content;
 ghost use Rattle.crs_same.specs.PartsOfCrs.{parts_of_tail};
+ghost use Rattle.crs_same.specs.declared.step.Step.TheVariants as step;
+ghost use Rattle.crs_same.specs.Parts.{◌▸◌};
 ghost use Rattle.crs_same.specs.SingleParts.{sets};
 ghost use Rattle.crs_same.specs.Walked.{Walked};
 ghost use Rattle.crs_matching.specs.SameUsages.{SameUsage, usages_of, SameUsages};
 
 use crate::content::{Content, Usages};
 use crate::found::Found;
-use crate::path::Path;
+use crate::path::At;
 use crate::step::Step;
 use crs_matching::same_usage_set;
 use crs_value::{Level, Tail, Usage};
@@ -34,53 +36,38 @@ fn same_usages<'a>(a: &Tail<'a>, b: &Tail<'a>, level: Level) -> bool
 fn usages_of<'b, 'a>(tail: &'b Tail<'a>, level: Level) -> Usages<'b, 'a>
     ensures { result ≡ kept level (usages_of tail.now) }
 {
-    Usages::new(
-        level.kept_one(tail.bare_parts.as_ref()),
-        level.kept(tail.usages.as_slice()),
-    )
+    Usages {
+        bare: level.kept_one(tail.bare_parts.as_ref()),
+        usages: level.kept(tail.usages.as_slice()),
+    }
 }
 
-#[tactic(auto, using(crate::proofs::WalkedLemmas::part_rules))]
-fn walk_usages<'b, 'a>(
-    found: Found<'b, 'a>,
-    at: Path,
-    a: &'b Tail<'a>,
-    b: &'b Tail<'a>,
-    level: Level,
-) -> Found<'b, 'a>
-    ensures { Walked (sets at SameUsage content.Usages
-        (kept level (usages_of a.now)) (kept level (usages_of b.now))) found.entry result }
-{
-    if same_usages(a, b, level) {
-        return found;
+impl<'b, 'a> Found<'b, 'a> {
+    #[tactic(auto, using(crate::proofs::WalkedLemmas::part_rules))]
+    fn usages(self, at: &At, a: &'b Tail<'a>, b: &'b Tail<'a>) -> Self
+        requires { length at.now.path < 5 }
+        ensures { Walked (sets (at.now.path ▸ step.Usage) SameUsage content.Usages
+            (kept at.now.level (usages_of a.now)) (kept at.now.level (usages_of b.now))) self.entry result }
+    {
+        if same_usages(a, b, at.level) {
+            return self;
+        }
+        let first = Content::Usages(usages_of(a, at.level), usages_of(b, at.level));
+        let second = Content::Usages(usages_of(b, at.level), usages_of(a, at.level));
+        self.alone(at, Step::Usage, first, second)
     }
-    found.differing(
-        at,
-        Content::Usages(usages_of(a, level), usages_of(b, level)),
-        Content::Usages(usages_of(b, level), usages_of(a, level)),
-    )
-}
 
-#[tactic(auto, unfolding(crate::specs::PartsOfCrs::parts_of_tail))]
-pub(crate) fn walk_tail<'b, 'a>(
-    found: Found<'b, 'a>,
-    at: Path,
-    a: &'b Tail<'a>,
-    b: &'b Tail<'a>,
-    level: Level,
-) -> Found<'b, 'a>
-    requires { length at ≤ 4 }
-    ensures { Walked (parts_of_tail at level a.now b.now) found.entry result }
-{
-    if found.is_done() {
-        return found;
+    #[tactic(auto, unfolding(crate::specs::PartsOfCrs::parts_of_tail))]
+    pub(crate) fn tail(self, at: At, a: &'b Tail<'a>, b: &'b Tail<'a>) -> Self
+        requires { length at.path ≤ 4 }
+        ensures { Walked (parts_of_tail at.path at.level a.now b.now) self.entry result }
+    {
+        if self.is_done() {
+            return self;
+        }
+        let found = self.usages(&at, a, b);
+        let found = found.identifiers(&at, &a.identifiers, &b.identifiers);
+        let (first, second) = (at.level.kept_text(a.remark), at.level.kept_text(b.remark));
+        found.optional_text(&at, Step::Remark, first, second)
     }
-    let found = walk_usages(found, at.then(Step::Usage), a, b, level);
-    let found = found.identifiers(&at, Step::Id, level, &a.identifiers, &b.identifiers);
-    found.optional_text(
-        &at,
-        Step::Remark,
-        level.kept_text(a.remark),
-        level.kept_text(b.remark),
-    )
 }

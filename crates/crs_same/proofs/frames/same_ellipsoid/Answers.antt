@@ -5,4 +5,4 @@ use Rattle.crs_same.proofs.SettledLemmas.{without}
 use Rattle.crs_same.proofs.frames.same_ellipsoid.Goals as goal
 
 pub returns : goal.returns
-returns c = walked-same _ _ _ _ (ellipsoid (without c.args.level) [] c.args.a.now c.args.b.now tt) c.start.ensures c.first.ensures c.walk_ellipsoid.ensures c.is_same.ensures
+returns c = walked-same _ _ _ _ (ellipsoid (without c.args.level) [] c.args.a.now c.args.b.now tt) c.start.ensures.path c.start.ensures.level c.first.ensures c.ellipsoid.ensures c.is_same.ensures

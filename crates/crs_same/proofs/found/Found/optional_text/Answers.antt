@@ -3,4 +3,4 @@ use Rattle.crs_same.proofs.WalkedLemmas.{differing}
 use Rattle.crs_same.proofs.found.Found.optional_text.Goals as goal
 
 pub returns : goal.returns
-returns c = differing (search rules) (rw (← c.optional_text.ensures, ← c.optional_text-2.ensures) c.alone.ensures)
+returns c = differing (search rules) (rw (← c.optional_text-first.ensures, ← c.optional_text-second.ensures) c.alone.ensures)

@@ -1,0 +1,15 @@
+use Rattle.std.proofs.Common.{rules}
+use Rattle.crs_same.specs.PartsOfCrs.{parts_of_base}
+use Rattle.crs_same.proofs.WalkedLemmas.{via}
+use Rattle.crs_same.proofs.found.Found.base.Goals as goal
+
+pub returns : goal.returns
+unfolding parts_of_base
+returns c =
+    rw (← c.a.view_is, ← c.b.view_is) (
+    via c.text-found.result c.text-found.ensures (
+    via c.dynamic-found.result (rw (← c.then.ensures.path, ← c.then.ensures.level) c.dynamic-found.ensures) (
+    via c.frame-found.result (rw (← c.then-2.ensures.path, ← c.then-2.ensures.level) c.frame-found.ensures) (
+    via c.meridian-found.result (rw (← c.then-3.ensures.path, ← c.then-3.ensures.level) c.meridian-found.ensures) (
+    via c.angle-found.result (search rules) (
+    c.identifiers.ensures))))))

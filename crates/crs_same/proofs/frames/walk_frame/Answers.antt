@@ -1,6 +1,0 @@
-use Rattle.std.proofs.Common.{rules}
-use Rattle.crs_same.proofs.WalkedLemmas.{done}
-use Rattle.crs_same.proofs.frames.walk_frame.Goals as goal
-
-pub returns-then-is_done : goal.returns-then-is_done
-returns-then-is_done c = done (search rules)
