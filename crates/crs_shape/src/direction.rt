@@ -97,24 +97,15 @@ fn if_spelled(word: &[u8], direction: Direction) -> Option<Direction>
 fn common(word: &[u8]) -> Option<Direction>
     ensures { IfSome result (λ value. SpellsWord word.now (direction_word value)) }
 {
-    match word.first()? {
-        b'n' | b'N' => if_spelled(word, Direction::North),
-        b'e' | b'E' => if_spelled(word, Direction::East),
-        b'u' | b'U' => if_spelled(word, Direction::Up),
-        b's' | b'S' => if_spelled(word, Direction::South),
-        b'w' | b'W' => if_spelled(word, Direction::West),
-        b'd' | b'D' => if_spelled(word, Direction::Down),
-        _ => geocentric(word),
-    }
-}
-
-// The geocentric direction that a word spells.
-fn geocentric(word: &[u8]) -> Option<Direction>
-    ensures { IfSome result (λ value. SpellsWord word.now (direction_word value)) }
-{
-    match word.last()? {
-        b'x' | b'X' => if_spelled(word, Direction::GeocentricX),
-        b'y' | b'Y' => if_spelled(word, Direction::GeocentricY),
+    match word {
+        [b'n' | b'N', ..] => if_spelled(word, Direction::North),
+        [b'e' | b'E', ..] => if_spelled(word, Direction::East),
+        [b'u' | b'U', ..] => if_spelled(word, Direction::Up),
+        [b's' | b'S', ..] => if_spelled(word, Direction::South),
+        [b'w' | b'W', ..] => if_spelled(word, Direction::West),
+        [b'd' | b'D', ..] => if_spelled(word, Direction::Down),
+        [.., b'x' | b'X'] => if_spelled(word, Direction::GeocentricX),
+        [.., b'y' | b'Y'] => if_spelled(word, Direction::GeocentricY),
         _ => if_spelled(word, Direction::GeocentricZ),
     }
 }
@@ -139,16 +130,9 @@ impl Direction {
     pub fn read(word: &[u8]) -> Option<Direction>
         ensures { IsReading (λ value. SpellsWord word.now (direction_word value)) result }
     {
-        match common(word) {
-            Some(direction) => Some(direction),
-            None => Direction::sought(word),
+        if let Some(direction) = common(word) {
+            return Some(direction);
         }
-    }
-
-    // the same, each direction being compared
-    fn sought(word: &[u8]) -> Option<Direction>
-        ensures { IsReading (λ value. SpellsWord word.now (direction_word value)) result }
-    {
         for direction in DIRECTIONS {
             if direction.word().as_bytes().eq_ignore_ascii_case(word) {
                 return Some(direction);

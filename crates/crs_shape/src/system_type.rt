@@ -121,16 +121,9 @@ impl SystemType {
     pub fn read(word: &[u8]) -> Option<SystemType>
         ensures { IsReading (λ value. SpellsWord word.now (system_word value)) result }
     {
-        match by_letter(word) {
-            Some(system_type) => Some(system_type),
-            None => SystemType::sought(word),
+        if let Some(system_type) = by_letter(word) {
+            return Some(system_type);
         }
-    }
-
-    // the same, each type being compared
-    fn sought(word: &[u8]) -> Option<SystemType>
-        ensures { IsReading (λ value. SpellsWord word.now (system_word value)) result }
-    {
         for system_type in SYSTEM_TYPES {
             if is_spelled(system_type.word().as_bytes(), word) {
                 return Some(system_type);
