@@ -2,7 +2,7 @@
 ghost use Rattle.std.specs.Prelude.{◌≡◌, Some, None};
 ghost use Rattle.crs_shape.specs.Keywords.{every_class};
 ghost use Rattle.crs_shape.specs.Expected.{may_come, ExpectedParts};
-ghost use Rattle.crs_shape.specs.Left.{may_go, slots_left, classes_left, end_left};
+ghost use Rattle.crs_shape.specs.Left.{classes_left, end_left};
 
 use crate::class::Class;
 use crate::fitting::Walk;
@@ -68,7 +68,7 @@ impl Expected {
     {
         match self.parent {
             None => is_root(class),
-            Some(parent) => may_go(self.walk, parent, class),
+            Some(parent) => self.walk.after(row(parent), class).is_some(),
         }
     }
 
@@ -81,13 +81,6 @@ impl Expected {
             Some(parent) => self.walk.may_end(row(parent)),
         }
     }
-}
-
-// Whether an argument of this class may come where this walk is.
-fn may_go(walk: Walk, parent: Class, class: Class) -> bool
-    ensures { result ≡ may_go (slots_left parent walk) class }
-{
-    walk.after(row(parent), class).is_some()
 }
 
 // these classes

@@ -1,6 +1,5 @@
 //! Whether items have the shape of a class, and what could come where they don't.
-ghost use Rattle.std.specs.Prelude.{◌≡◌, ◌+◌, ◌^◌, ◌<◌, ◌&&◌, not, true, false, Some, IsTrue, IsFalse, MatchResult};
-ghost use Rattle.std.specs.Prelude.{All, MatchOption, option_map};
+ghost use Rattle.std.specs.Prelude.{◌≡◌, ◌&&◌, not, Some, IsTrue, MatchResult, All, MatchOption, option_map};
 ghost use Rattle.crs_text.specs.Items.{first_of, kind_of_item, raw_of, here, HasId};
 ghost use Rattle.crs_shape.specs.Keywords.{is_known};
 ghost use Rattle.crs_text.specs.Refusal.{is_refusal};
@@ -223,7 +222,11 @@ impl Walk {
         for at in self.at..row.len() {
             let slot = &row[at];
             if slot.takes(class) {
-                return Some(filled_by_one(slot, at));
+                let next = if slot.many { at } else { at + 1 };
+                return Some(Walk {
+                    at: next,
+                    filled: slot.many,
+                });
             }
             if waits(slot, filled) {
                 return None;
@@ -252,20 +255,4 @@ fn waits(slot: &Slot, filled: bool) -> bool
     ensures { result ≡ (slot.now.required && not filled) }
 {
     slot.required && !filled
-}
-
-// The walk after an argument in this slot.
-fn filled_by_one(slot: &Slot, at: usize) -> Walk
-    requires { at + 1 < 2 ^ 64 }
-    ensures many { IsTrue slot.now.many → result ≡ record { at = at; filled = true } }
-    ensures few { IsFalse slot.now.many → result ≡ record { at = at + 1; filled = false } }
-{
-    if slot.many {
-        Walk { at, filled: true }
-    } else {
-        Walk {
-            at: at + 1,
-            filled: false,
-        }
-    }
 }

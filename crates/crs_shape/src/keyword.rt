@@ -71,30 +71,12 @@ pub fn known(keyword: &[u8]) -> bool
 pub(crate) fn known_by(keyword: Option<Keyword>) -> bool
     ensures { result ≡ has_class (classes_by keyword) }
 {
-    has_class(classes_by(keyword))
+    matches!(classes_by(keyword), [_, ..])
 }
 
-fn has_class(classes: &[Class]) -> bool
-    ensures { result ≡ has_class classes.now }
-{
-    !classes.is_empty()
-}
-
-// Whether a class has this keyword.
+// Whether a class has this keyword. Mostly its first class is meant, so `any` is quicker than `contains`.
 pub(crate) fn has_keyword(class: Class, keyword: Option<Keyword>) -> bool
     ensures { result ≡ is_among class (classes_by keyword) }
 {
-    has(classes_by(keyword), class)
-}
-
-// Whether a class is one of these. Mostly it is the first, so a plain loop is quicker than `contains`.
-fn has(classes: &[Class], class: Class) -> bool
-    ensures { result ≡ is_among class classes.now }
-{
-    for own in classes {
-        if *own == class {
-            return true;
-        }
-    }
-    false
+    classes_by(keyword).iter().any(|own| *own == class)
 }

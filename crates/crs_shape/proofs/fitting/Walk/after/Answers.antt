@@ -1,11 +1,14 @@
-use Rattle.std.proofs.Common.{◌∙◌}
+use Rattle.std.proofs.Common.{◌∙◌, refl}
 use Rattle.crs_shape.proofs.WalkLemmas.{stands_here, passes_by, goes_nowhere}
 use Rattle.crs_shape.proofs.fitting.Walk.after.Goals as goal
+use Rattle.crs_shape.proofs.fitting.Walk.after.Goals.{then-slot, else-slot}
 
 pub returns-then-takes : goal.returns-then-takes
 returns-then-takes c =
-    stands_here _ _ _ c.loop-at.filled _ _ c.filled_by_one.result c.loop-at-test.true c.takes.ensures c.if-takes.true c.filled_by_one.ensures.many c.filled_by_one.ensures.few
-    ∙ c.loop-at.invariant
+    elim c.if-slot.branch [
+      | then-slot w ↦ stands_here _ _ _ c.loop-at.filled _ _ _ c.loop-at-test.true c.takes.ensures c.if-takes.true (λ m. rw (w.next-is, m) refl) (λ m. absurd cc) ∙ c.loop-at.invariant
+      | else-slot w ↦ stands_here _ _ _ c.loop-at.filled _ _ _ c.loop-at-test.true c.takes.ensures c.if-takes.true (λ m. absurd cc) (λ m. rw (w.next-is, m) refl) ∙ c.loop-at.invariant
+    ]
 
 pub returns-then-waits : goal.returns-then-waits
 returns-then-waits c =
