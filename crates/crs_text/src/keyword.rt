@@ -249,13 +249,14 @@ struct Suspect {
     keyword: Option<Keyword>,
 }
 
-// a word with the keyword that it is, its length and its letters; `_` is `ID`
+// a word: the keyword that it is, or `None`, its length and its letters; `_` is `ID`
 macro_rules! suspect {
-    (_) => {
-        Suspect { letters: b"ID              ", length: 2, keyword: Some(Keyword::Id) }
+    (_) => { suspect!((Id 2 b"ID              ")) };
+    ((None $length:literal $letters:literal)) => {
+        Suspect { letters: $letters, length: $length, keyword: None }
     };
-    (($keyword:expr => $length:literal $letters:literal)) => {
-        Suspect { letters: $letters, length: $length, keyword: $keyword }
+    (($keyword:ident $length:literal $letters:literal)) => {
+        Suspect { letters: $letters, length: $length, keyword: Some(Keyword::$keyword) }
     };
 }
 
@@ -274,68 +275,36 @@ fn suspects() -> &'static [Suspect]
     ensures count { length result.now ≡ 128 }
 {
     by_fingerprint! {
-        _ _ _ _ (Some(Keyword::LengthUnit) => 10 b"LENGTHUNIT      ")
-        _ _ (Some(Keyword::BaseGeogCrs) => 11 b"BASEGEOGCRS     ")
-        _ (Some(Keyword::ProjectedCrs) => 12 b"PROJECTEDCRS    ")
-        (None => 11 b"GEOCENTRICX     ")
-        _ _ _ _ _ (None => 8 b"VERTICAL        ")
-        _ (Some(Keyword::BaseGeodCrs) => 11 b"BASEGEODCRS     ")
-        _ (Some(Keyword::AnchorEpoch) => 11 b"ANCHOREPOCH     ")
-        (Some(Keyword::BBox) => 4 b"BBOX            ")
-        (Some(Keyword::GeodCrs) => 7 b"GEODCRS         ")
-        (Some(Keyword::VerticalCrs) => 11 b"VERTICALCRS     ")
-        (Some(Keyword::VelocityGrid) => 12 b"VELOCITYGRID    ")
-        _ _ _ (Some(Keyword::CompoundCrs) => 11 b"COMPOUNDCRS     ")
-        (None => 4 b"WEST            ")
-        _ (Some(Keyword::VerticalExtent) => 14 b"VERTICALEXTENT  ")
-        (Some(Keyword::Projection) => 10 b"PROJECTION      ")
-        (Some(Keyword::GeogCrs) => 7 b"GEOGCRS         ")
-        _ (Some(Keyword::Trf) => 3 b"TRF             ")
-        _ (None => 11 b"ELLIPSOIDAL     ")
-        _ (Some(Keyword::Method) => 6 b"METHOD          ")
-        _ _ _ _ (None => 9 b"SPHERICAL       ")
-        (Some(Keyword::Parameter) => 9 b"PARAMETER       ")
-        (Some(Keyword::Usage) => 5 b"USAGE           ")
-        _ (Some(Keyword::GeodeticCrs) => 11 b"GEODETICCRS     ")
-        _ (Some(Keyword::GeographicCrs) => 13 b"GEOGRAPHICCRS   ")
-        (Some(Keyword::FrameEpoch) => 10 b"FRAMEEPOCH      ")
-        _ _ (Some(Keyword::Ensemble) => 8 b"ENSEMBLE        ")
-        _ (Some(Keyword::Member) => 6 b"MEMBER          ")
-        _ _ _ (Some(Keyword::Datum) => 5 b"DATUM           ")
-        (None => 2 b"UP              ")
-        _ _ _ (None => 9 b"CARTESIAN       ")
-        (Some(Keyword::ScaleUnit) => 9 b"SCALEUNIT       ")
-        (Some(Keyword::VDatum) => 6 b"VDATUM          ")
-        (Some(Keyword::Scope) => 5 b"SCOPE           ")
-        (Some(Keyword::Spheroid) => 8 b"SPHEROID        ")
-        _ (Some(Keyword::VerticalDatum) => 13 b"VERTICALDATUM   ")
-        _ (Some(Keyword::Conversion) => 10 b"CONVERSION      ")
-        (Some(Keyword::PrimeMeridian) => 13 b"PRIMEMERIDIAN   ")
-        (Some(Keyword::ProjCrs) => 7 b"PROJCRS         ")
-        (Some(Keyword::Axis) => 4 b"AXIS            ")
-        (Some(Keyword::Citation) => 8 b"CITATION        ")
-        (None => 4 b"DOWN            ")
-        _ (Some(Keyword::PrimeM) => 6 b"PRIMEM          ")
-        (None => 5 b"NORTH           ")
-        (Some(Keyword::Vrf) => 3 b"VRF             ")
-        _ _ _ (Some(Keyword::Area) => 4 b"AREA            ")
-        _ _ _ (None => 4 b"EAST            ")
-        _ _ _ _ _ (Some(Keyword::GeodeticDatum) => 13 b"GEODETICDATUM   ")
-        _ (Some(Keyword::Cs) => 2 b"CS              ")
-        (Some(Keyword::VertCrs) => 7 b"VERTCRS         ")
-        _ _ _ _ (Some(Keyword::Uri) => 3 b"URI             ")
-        _ _ (Some(Keyword::Dynamic) => 7 b"DYNAMIC         ")
-        _ (Some(Keyword::Anchor) => 6 b"ANCHOR          ")
-        _ (Some(Keyword::AngleUnit) => 9 b"ANGLEUNIT       ")
-        _ _ (Some(Keyword::Model) => 5 b"MODEL           ")
-        (Some(Keyword::PlainUnit) => 4 b"UNIT            ")
-        (Some(Keyword::EnsembleAccuracy) => 16 b"ENSEMBLEACCURACY")
-        (None => 5 b"SOUTH           ")
-        (Some(Keyword::Ellipsoid) => 9 b"ELLIPSOID       ")
-        (Some(Keyword::Remark) => 6 b"REMARK          ")
-        (Some(Keyword::Meridian) => 8 b"MERIDIAN        ")
-        _ (Some(Keyword::Order) => 5 b"ORDER           ")
-        _ _ _ _ (Some(Keyword::GeoidModel) => 10 b"GEOIDMODEL      ")
+        _ _ _ _ (LengthUnit 10 b"LENGTHUNIT      ") _ _ (BaseGeogCrs 11 b"BASEGEOGCRS     ") _
+        (ProjectedCrs 12 b"PROJECTEDCRS    ") (None 11 b"GEOCENTRICX     ") _ _ _ _ _
+        (None 8 b"VERTICAL        ") _ (BaseGeodCrs 11 b"BASEGEODCRS     ") _
+        (AnchorEpoch 11 b"ANCHOREPOCH     ") (BBox 4 b"BBOX            ")
+        (GeodCrs 7 b"GEODCRS         ") (VerticalCrs 11 b"VERTICALCRS     ")
+        (VelocityGrid 12 b"VELOCITYGRID    ") _ _ _ (CompoundCrs 11 b"COMPOUNDCRS     ")
+        (None 4 b"WEST            ") _ (VerticalExtent 14 b"VERTICALEXTENT  ")
+        (Projection 10 b"PROJECTION      ") (GeogCrs 7 b"GEOGCRS         ") _
+        (Trf 3 b"TRF             ") _ (None 11 b"ELLIPSOIDAL     ") _
+        (Method 6 b"METHOD          ") _ _ _ _ (None 9 b"SPHERICAL       ")
+        (Parameter 9 b"PARAMETER       ") (Usage 5 b"USAGE           ") _
+        (GeodeticCrs 11 b"GEODETICCRS     ") _ (GeographicCrs 13 b"GEOGRAPHICCRS   ")
+        (FrameEpoch 10 b"FRAMEEPOCH      ") _ _ (Ensemble 8 b"ENSEMBLE        ") _
+        (Member 6 b"MEMBER          ") _ _ _ (Datum 5 b"DATUM           ")
+        (None 2 b"UP              ") _ _ _ (None 9 b"CARTESIAN       ")
+        (ScaleUnit 9 b"SCALEUNIT       ") (VDatum 6 b"VDATUM          ")
+        (Scope 5 b"SCOPE           ") (Spheroid 8 b"SPHEROID        ") _
+        (VerticalDatum 13 b"VERTICALDATUM   ") _ (Conversion 10 b"CONVERSION      ")
+        (PrimeMeridian 13 b"PRIMEMERIDIAN   ") (ProjCrs 7 b"PROJCRS         ")
+        (Axis 4 b"AXIS            ") (Citation 8 b"CITATION        ") (None 4 b"DOWN            ")
+        _ (PrimeM 6 b"PRIMEM          ") (None 5 b"NORTH           ") (Vrf 3 b"VRF             ") _
+        _ _ (Area 4 b"AREA            ") _ _ _ (None 4 b"EAST            ") _ _ _ _ _
+        (GeodeticDatum 13 b"GEODETICDATUM   ") _ (Cs 2 b"CS              ")
+        (VertCrs 7 b"VERTCRS         ") _ _ _ _ (Uri 3 b"URI             ") _ _
+        (Dynamic 7 b"DYNAMIC         ") _ (Anchor 6 b"ANCHOR          ") _
+        (AngleUnit 9 b"ANGLEUNIT       ") _ _ (Model 5 b"MODEL           ")
+        (PlainUnit 4 b"UNIT            ") (EnsembleAccuracy 16 b"ENSEMBLEACCURACY")
+        (None 5 b"SOUTH           ") (Ellipsoid 9 b"ELLIPSOID       ")
+        (Remark 6 b"REMARK          ") (Meridian 8 b"MERIDIAN        ") _
+        (Order 5 b"ORDER           ") _ _ _ _ (GeoidModel 10 b"GEOIDMODEL      ")
     }
 }
 
@@ -390,10 +359,7 @@ fn is_suspect(suspect: &Suspect, left: &[u8], count: usize) -> bool
 fn suspected(left: &[u8], count: usize) -> Option<Option<Keyword>>
     ensures { IfSome result (λ found. keyword_of (take count left.now) ≡ found) }
 {
-    if left.len() < LANES {
-        return None;
-    }
-    if count > LANES {
+    if left.len() < LANES || count > LANES {
         return None;
     }
     let suspect = &suspects()[fingerprint(left, count)];
