@@ -1,6 +1,6 @@
 //! A place of a text as a person counts it: its line and its column.
-ghost use Rattle.std.specs.Prelude.{◌≡◌, ◌≤◌, not, length, take, drop};
-ghost use Rattle.crs_text.specs.Position.{feeds, continues, characters, BeginsLine, EndsLine, IsPosition};
+ghost use Rattle.std.specs.Prelude.{◌≡◌, ◌≤◌, length, take, drop};
+ghost use Rattle.crs_text.specs.Position.{feeds, characters, BeginsLine, EndsLine, IsPosition};
 
 use crate::lexing::{front_of, rest_of};
 use bstr::ByteSlice;
@@ -22,18 +22,11 @@ fn feeds(bytes: &[u8]) -> usize
     bytes.iter().filter(|b| **b == b'\n').count()
 }
 
-// Whether a character begins with this byte.
-fn begins_character(byte: u8) -> bool
-    ensures { result ≡ not (continues byte) }
-{
-    !matches!(byte, 0x80..=0xBF)
-}
-
 // How many characters the bytes begin.
 fn characters(bytes: &[u8]) -> usize
     ensures { result ≡ characters bytes.now }
 {
-    bytes.iter().filter(|b| begins_character(**b)).count()
+    bytes.iter().filter(|b| !matches!(**b, 0x80..=0xBF)).count()
 }
 
 // Where the last line of these bytes begins.

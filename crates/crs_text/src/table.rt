@@ -1,6 +1,6 @@
 ghost use Rattle.std.specs.Prelude.{◌≡◌, ◌+◌, ◌-◌, ◌<◌, ◌≤◌, ◌&&◌, true, IsSome, IfOk, OnOk, OnErr, MatchBool};
 ghost use Rattle.std.specs.Prelude.{[], length};
-ghost use Rattle.crs_text.specs.Table.{position_after, may_begin, with_first, with_opened};
+ghost use Rattle.crs_text.specs.Table.{may_begin, with_first, with_opened};
 ghost use Rattle.crs_text.specs.Table.{flat_single, may_go_on, flat_comma, has_square};
 ghost use Rattle.crs_text.specs.Table.{flat_close, IsStep, IsOpened, IsNodeBegun, is_whole};
 ghost use Rattle.crs_text.specs.Items.{keyword_at};
@@ -70,15 +70,6 @@ pub(crate) struct Table {
     position: Position,
 }
 
-fn position_after(kind: ItemKind) -> Position
-    ensures { result ≡ position_after kind }
-{
-    match kind {
-        ItemKind::Word => Position::AfterWord,
-        ItemKind::Number | ItemKind::Text | ItemKind::Node => Position::AfterItem,
-    }
-}
-
 impl Model for Table {
     ghost use Rattle.std.specs.Prelude.{◌≤◌};
     ghost use Rattle.crs_text.specs.Table.{Flat, held, IsRoomy};
@@ -112,10 +103,7 @@ impl Table {
     fn may_begin(&self, kind: ItemKind) -> bool
         ensures { result ≡ may_begin self.now.position self.now.opens kind }
     {
-        match self.position {
-            Position::BeforeItem => self.depth > 0 || kind == ItemKind::Word,
-            Position::AfterWord | Position::AfterItem => false,
-        }
+        self.position == Position::BeforeItem && (self.depth > 0 || kind == ItemKind::Word)
     }
 
     // A number, a text, a word, or a node by its word and its delimiter.
@@ -148,7 +136,10 @@ impl Table {
         if depth > 0 {
             self.opens[depth - 1].count += 1;
         }
-        self.position = position_after(kind);
+        self.position = match kind {
+            ItemKind::Word => Position::AfterWord,
+            ItemKind::Number | ItemKind::Text | ItemKind::Node => Position::AfterItem,
+        };
         Ok(())
     }
 
@@ -175,10 +166,7 @@ impl Table {
     fn may_go_on(&self) -> bool
         ensures { result ≡ may_go_on self.now.position self.now.opens }
     {
-        match self.position {
-            Position::BeforeItem => false,
-            Position::AfterWord | Position::AfterItem => self.depth > 0,
-        }
+        self.position != Position::BeforeItem && self.depth > 0
     }
 
     /// A comma: whether it is allowed.
@@ -246,10 +234,7 @@ impl Table {
         ensures { IfOk result (λ taken. MatchBool taken (IsNodeBegun self.old place raw.now self.new)
             (self.new ≡ self.old)) }
     {
-        if self.position != Position::BeforeItem {
-            return Ok(false);
-        }
-        if self.depth == LIMIT {
+        if self.position != Position::BeforeItem || self.depth == LIMIT {
             return Ok(false);
         }
         let row = self.rows.len();
@@ -296,24 +281,13 @@ impl Table {
     {
         let mut rows = Vec::new(alloc);
         rows.extend_from_slice(&self.rows)?;
-        Ok(Table {
-            rows,
-            opens: self.opens,
-            depth: self.depth,
-            position: self.position,
-        })
+        Ok(Table { rows, ..*self })
     }
 
     /// The rows alone.
     pub(crate) fn into_rows(self) -> Vec<Row>
         ensures { result.items ≡ self.rows }
     {
-        let Table {
-            rows,
-            opens: _,
-            depth: _,
-            position: _,
-        } = self;
-        rows
+        self.rows
     }
 }
