@@ -10,7 +10,7 @@ ghost use Rattle.crs_text.specs.Feeding.{StaysPending, IsInsideTo, IsOpenTo};
 use crate::fault::Fault;
 use crate::lexing::{Lexed, closing_quote, rest_of, token_at};
 use crate::refusal::Reason;
-use crate::runs::{run_length, word_length};
+use crate::runs::{Bytes, RunBytes, WordBytes};
 use crate::scanning::{after_white, take_lexed};
 use crate::table::Table;
 use crate::utf8::valid_length;
@@ -41,7 +41,7 @@ fn is_settled_flaw(left: &[u8], reason: Reason) -> bool
 {
     match reason {
         Reason::BadCharacter | Reason::NotUtf8 => true,
-        Reason::BadNumber | Reason::NumberRange => run_length(left) < left.len(),
+        Reason::BadNumber | Reason::NumberRange => RunBytes::length(left) < left.len(),
         Reason::OpenText | Reason::Unexpected | Reason::UnexpectedEnd | Reason::TooDeep => false,
     }
 }
@@ -123,8 +123,8 @@ fn stays(left: &[u8], piece: &[u8], pending: Pending) -> Option<Pending>
     ensures { IfSome result (StaysPending left.now) }
 {
     match pending {
-        Pending::Word if word_length(piece) == piece.len() => Some(pending),
-        Pending::Run if run_length(piece) == piece.len() => Some(pending),
+        Pending::Word if WordBytes::length(piece) == piece.len() => Some(pending),
+        Pending::Run if RunBytes::length(piece) == piece.len() => Some(pending),
         Pending::Text { inside, valid } => stays_open(left, inside, valid),
         Pending::Unknown | Pending::Word | Pending::Run => None,
     }
@@ -135,8 +135,9 @@ fn pending_of(left: &[u8]) -> Pending
     ensures { IsPendingIn left.now result }
 {
     match left {
-        [b'A'..=b'Z' | b'a'..=b'z', ..] if word_length(left) == left.len() => Pending::Word,
-        [b'0'..=b'9' | b'+' | b'-' | b'.', ..] if run_length(left) == left.len() => Pending::Run,
+        [b'A'..=b'Z' | b'a'..=b'z', ..] if WordBytes::length(left) == left.len() => Pending::Word,
+        [b'0'..=b'9' | b'+' | b'-' | b'.', ..] if RunBytes::length(left) == left.len() =>
+            Pending::Run,
         [b'"', ..] => Pending::Text {
             inside: 0,
             valid: 0,

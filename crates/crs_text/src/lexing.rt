@@ -2,13 +2,12 @@
 ghost use Rattle.std.specs.Prelude.{◌≡◌, ◌+◌, ◌≤◌, ◌<◌, length, take, drop, MatchOption, MatchBool, IsTrue, IfSome, ◌∷◌};
 ghost use Rattle.std.specs.List.{prefix_len};
 ghost use Rattle.crs_text.specs.Quoted.{BeginsWith, IsInside, IsShutAt, StopsAt, is_plain, is_quote};
-ghost use Rattle.crs_text.specs.Tokens as tokens;
 ghost use Rattle.crs_decimal.specs.Spelling as spelling;
 ghost use Rattle.crs_text.specs.Lexing.{IsLexed};
 ghost use Rattle.crs_text.specs.Runs.{IsClosing, IsOneDigit, IsSigned, IsFractional};
 
 use crate::refusal::Reason;
-use crate::runs::{digit_length, ends_run, is_digit, plain_ascii_length, run_length, word_length};
+use crate::runs::{Bytes, Digits, PlainAscii, RunBytes, WordBytes, ends_run};
 use crate::utf8::valid_length;
 use bstr::ByteSlice;
 use crs_decimal::{Decimal, NumberFault};
@@ -86,10 +85,7 @@ pub(crate) fn closing_quote(after: &[u8]) -> Option<usize>
 fn is_closing(bytes: &[u8]) -> bool
     ensures { IsTrue result → IsClosing bytes.now }
 {
-    if !begins_with_quote(bytes) {
-        return false;
-    }
-    !begins_with_quote(rest_of(bytes, 1))
+    begins_with_quote(bytes) && !begins_with_quote(rest_of(bytes, 1))
 }
 
 /// The quoted text that begins what is left, if it is ASCII with no quote inside, as most are.
@@ -99,23 +95,11 @@ pub(crate) fn plain_text(left: &[u8]) -> Option<Lexed>
     ensures { IfSome result (IsLexed left.now) }
 {
     let after = rest_of(left, 1);
-    let length = plain_ascii_length(after);
+    let length = PlainAscii::length(after);
     if is_closing(rest_of(after, length)) {
         Some(Lexed::Text { length })
     } else {
         None
-    }
-}
-
-// The quoted text that begins what is left.
-#[inline(always)]
-fn quoted(left: &[u8]) -> Lexed
-    requires { left.now ≡ 34 ∷ drop 1 left.now }
-    ensures { IsLexed left.now result }
-{
-    match plain_text(left) {
-        Some(lexed) => lexed,
-        None => any_quoted(left),
     }
 }
 
@@ -145,7 +129,7 @@ fn run(left: &[u8]) -> Lexed
     requires { BeginsWith spelling.is_run_start left.now }
     ensures { IsLexed left.now result }
 {
-    let length = run_length(left);
+    let length = RunBytes::length(left);
     match Decimal::parse(front_of(left, length)) {
         Ok(_) => Lexed::Number { length },
         Err(NumberFault::Malformed) => flaw(Reason::BadNumber, 0),
@@ -174,7 +158,7 @@ fn fraction_length(left: &[u8]) -> usize
     ensures within { result ≤ length left.now }
 {
     match left {
-        [b'.', ..] => 1 + digit_length(rest_of(left, 1)),
+        [b'.', ..] => 1 + Digits::length(rest_of(left, 1)),
         _ => 0,
     }
 }
@@ -185,7 +169,7 @@ fn is_one_digit(left: &[u8]) -> bool
     ensures { IsTrue result → IsOneDigit left.now }
 {
     match left {
-        [digit, b',' | b']', ..] => is_digit(*digit),
+        [digit, b',' | b']', ..] => Digits::has(*digit),
         _ => false,
     }
 }
@@ -203,7 +187,7 @@ pub(crate) fn plain_number(left: &[u8]) -> Option<Lexed>
     }
     let start = sign_length(left);
     let unsigned = rest_of(left, start);
-    let whole = digit_length(unsigned);
+    let whole = Digits::length(unsigned);
     if whole == 0 {
         return None;
     }
@@ -229,10 +213,13 @@ pub(crate) fn token_at(left: &[u8]) -> Lexed
 {
     match left[0] {
         b'A'..=b'Z' | b'a'..=b'z' => Lexed::Word {
-            length: word_length(left),
+            length: WordBytes::length(left),
         },
         b'0'..=b'9' | b'+' | b'-' | b'.' => run(left),
-        b'"' => quoted(left),
+        b'"' => match plain_text(left) {
+            Some(lexed) => lexed,
+            None => any_quoted(left),
+        },
         b',' => Lexed::Comma,
         b'[' => Lexed::Opening { square: true },
         b'(' => Lexed::Opening { square: false },

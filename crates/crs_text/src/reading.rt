@@ -1,5 +1,5 @@
 //! From a text to its items.
-ghost use Rattle.std.specs.Prelude.{◌≡◌, MatchResult};
+ghost use Rattle.std.specs.Prelude.{MatchResult};
 ghost use Rattle.crs_text.specs.Scan.{IsReached};
 ghost use Rattle.crs_text.specs.TextFault.{IsTextFault, SpellsNode};
 

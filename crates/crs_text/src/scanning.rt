@@ -15,7 +15,7 @@ use crate::items::ItemKind;
 use crate::keyword::{Keyword, front_keyword};
 use crate::lexing::{Lexed, front_of, plain_number, plain_text, rest_of, token_at};
 use crate::refusal::Reason;
-use crate::runs::{is_digit, is_letter, is_white, letters_length};
+use crate::runs::{Bytes, Digits, is_letter, is_white, letters_length};
 use crate::table::{Opened, Table};
 
 fn unexpected(at: usize) -> Fault
@@ -186,14 +186,10 @@ fn pass(table: &mut Table, text: &[u8], at: &mut usize, lexed: Lexed) -> Result<
     ensures { MatchResult result (λ _. IsFurther text.now at.old table.new at.new) (IsTextFault text.now) }
 {
     let mut taken = 0;
-    match take_lexed(table, text, *at, lexed, &mut taken) {
-        Ok(()) => {
-            let end = past_comma(table, text, *at + taken);
-            *at = after_white(text, end);
-            Ok(())
-        }
-        Err(fault) => Err(fault),
-    }
+    take_lexed(table, text, *at, lexed, &mut taken)?;
+    let end = past_comma(table, text, *at + taken);
+    *at = after_white(text, end);
+    Ok(())
 }
 
 // Whatever is here.
@@ -215,13 +211,9 @@ fn pass_else(table: &mut Table, text: &[u8], at: &mut usize) -> Result<(), Fault
     ensures { MatchResult result (λ _. IsFurther text.now at.old table.new at.new) (IsTextFault text.now) }
 {
     let mut place = *at;
-    match pass_any(table, text, &mut place) {
-        Ok(()) => {
-            *at = place;
-            Ok(())
-        }
-        Err(fault) => Err(fault),
-    }
+    pass_any(table, text, &mut place)?;
+    *at = place;
+    Ok(())
 }
 
 // The token here, if it is seen by a quick look.
@@ -245,10 +237,7 @@ fn is_opening(text: &[u8], at: usize) -> bool
     ensures { IsTrue result → (at < length text.now)
         × Forms (length text.now) (opening true) (drop at text.now) (drop (at + 1) text.now) }
 {
-    if at == text.len() {
-        return false;
-    }
-    text[at] == b'['
+    at < text.len() && text[at] == b'['
 }
 
 // A word of so many bytes at this place with the square delimiter right behind it.
@@ -264,29 +253,14 @@ fn pass_node(table: &mut Table, text: &[u8], at: &mut usize, count: usize) -> Re
     let start = *at;
     let left = rest_of(text, start);
     let keyword = front_keyword(left, count);
-    match table.node(start, front_of(left, count), keyword) {
-        Ok(true) => {
-            *at = after_white(text, start + count + 1);
-            Ok(())
-        }
-        Ok(false) => pass_else(table, text, at),
-        Err(refused) => Err(Fault::Memory(refused)),
+    if !table
+        .node(start, front_of(left, count), keyword)
+        .map_err(Fault::Memory)?
+    {
+        return pass_else(table, text, at);
     }
-}
-
-// A word of so many bytes at this place.
-#[inline(always)]
-fn pass_letters(table: &mut Table, text: &[u8], at: &mut usize, count: usize) -> Result<(), Fault>
-    requires more { at.old < length text.now }
-    requires reached { IsReached text.now table.old at.old }
-    requires lexed { IsLexed (drop at.old text.now) (Lexed.Word count) }
-    ensures { MatchResult result (λ _. IsFurther text.now at.old table.new at.new) (IsTextFault text.now) }
-{
-    if is_opening(text, *at + count) {
-        pass_node(table, text, at, count)
-    } else {
-        pass(table, text, at, Lexed::Word { length: count })
-    }
+    *at = after_white(text, start + count + 1);
+    Ok(())
 }
 
 // A word at this place: most are of fewer than sixteen letters alone, and begin a node.
@@ -298,7 +272,8 @@ fn pass_word(table: &mut Table, text: &[u8], at: &mut usize) -> Result<(), Fault
     ensures { MatchResult result (λ _. IsFurther text.now at.old table.new at.new) (IsTextFault text.now) }
 {
     match letters_length(rest_of(text, *at)) {
-        Some(length) => pass_letters(table, text, at, length),
+        Some(length) if is_opening(text, *at + length) => pass_node(table, text, at, length),
+        Some(length) => pass(table, text, at, Lexed::Word { length }),
         None => pass_else(table, text, at),
     }
 }
@@ -313,30 +288,24 @@ fn advance(table: &mut Table, text: &[u8], at: &mut usize) -> Result<(), Fault>
 {
     let first = text[*at];
     if first == b'"' {
-        return pass_if(table, text, at, plain_text(rest_of(text, *at)));
+        pass_if(table, text, at, plain_text(rest_of(text, *at)))
+    } else if first == b']' {
+        pass(table, text, at, Lexed::Closing { square: true })
+    } else if is_letter(first) {
+        pass_word(table, text, at)
+    } else if Digits::has(first) {
+        pass_if(table, text, at, plain_number(rest_of(text, *at)))
+    } else if first == b',' {
+        pass(table, text, at, Lexed::Comma)
+    } else if first == b'(' {
+        pass(table, text, at, Lexed::Opening { square: false })
+    } else if first == b')' {
+        pass(table, text, at, Lexed::Closing { square: false })
+    } else if first == b'[' {
+        pass(table, text, at, Lexed::Opening { square: true })
+    } else {
+        pass_if(table, text, at, plain_number(rest_of(text, *at)))
     }
-    if first == b']' {
-        return pass(table, text, at, Lexed::Closing { square: true });
-    }
-    if is_letter(first) {
-        return pass_word(table, text, at);
-    }
-    if is_digit(first) {
-        return pass_if(table, text, at, plain_number(rest_of(text, *at)));
-    }
-    if first == b',' {
-        return pass(table, text, at, Lexed::Comma);
-    }
-    if first == b'(' {
-        return pass(table, text, at, Lexed::Opening { square: false });
-    }
-    if first == b')' {
-        return pass(table, text, at, Lexed::Closing { square: false });
-    }
-    if first == b'[' {
-        return pass(table, text, at, Lexed::Opening { square: true });
-    }
-    pass_if(table, text, at, plain_number(rest_of(text, *at)))
 }
 
 // Reads the last bytes of the text, from this place on: Ok where all tokens are one whole node. `advance` is called in

@@ -6,8 +6,8 @@ use Rattle.crs_text.proofs.feeding.pending_of.Goals as goal
 
 pub returns-in-65-to-90 : goal.returns-in-65-to-90
 returns-in-65-to-90 c =
-    (search rules, all_full is_word_byte c.args.left.now (omega (arith, c.word_length.ensures, c.if-word_length-left.true)))
+    (search rules, all_full is_word_byte c.args.left.now (omega (arith, c.length.ensures.value, c.if-length-left.true)))
 
 pub returns-in-48-to-57 : goal.returns-in-48-to-57
 returns-in-48-to-57 c =
-    (search rules, all_full is_run_byte c.args.left.now (omega (arith, c.run_length.ensures, c.if-run_length-left.true)))
+    (search rules, all_full is_run_byte c.args.left.now (omega (arith, c.length-2.ensures.value, c.if-length-left-2.true)))

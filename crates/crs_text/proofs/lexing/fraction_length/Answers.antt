@@ -6,7 +6,7 @@ use Rattle.crs_text.proofs.lexing.fraction_length.Goals as goal
 
 pub returns-in-46-clause-fraction : goal.returns-in-46-clause-fraction
 returns-in-46-clause-fraction c =
-    fraction_front c.args.left.now c.digit_length.result (search rules) (c.digit_length.ensures.value ∙ ap (prefix_len is_digit) c.rest_of.ensures)
+    fraction_front c.args.left.now c.length.result (search rules) (c.length.ensures.value ∙ ap (prefix_len is_digit) c.rest_of.ensures)
 
 pub returns-in_default-clause-fraction : goal.returns-in_default-clause-fraction
 returns-in_default-clause-fraction c = (None, refl, refl, refl)

@@ -3,7 +3,7 @@ use Rattle.std.proofs.lemmas.List.{map-id}
 use Rattle.std.proofs.lemmas.Simd.{zip2_splat, zip2_of_maps, splat_is_map}
 use Rattle.crs_text.specs.Runs.{is_plain_ascii}
 use Rattle.crs_text.proofs.tokens.RunLemmas.{counted}
-use Rattle.crs_text.proofs.runs.plain_ascii_lanes.Goals as goal
+use Rattle.crs_text.proofs.runs.PlainAsciiBytes.lanes.Goals as goal
 
 pub returns : goal.returns
 returns c =
