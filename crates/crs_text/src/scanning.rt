@@ -1,85 +1,24 @@
 //! One pass over the text: each token is found, and the table takes it or refuses it.
-ghost use Rattle.std.specs.Prelude.{◌≡◌, ◌+◌, ◌≤◌, ◌<◌, List, ◌∷◌, length, drop, true, MatchResult, MatchBool, IfSome, IsTrue};
-ghost use Rattle.crs_text.specs.Tokens.{Token, Forms, comma, opening, is_letter, is_white};
-ghost use Rattle.crs_text.specs.Quoted.{BeginsWith};
+ghost use Rattle.std.specs.Prelude.{◌≡◌, ◌+◌, ◌≤◌, ◌<◌, length, drop, true, MatchResult, IfSome, IsTrue};
 ghost use Rattle.std.specs.List.{prefix_len};
-ghost use Rattle.crs_text.specs.TextFault.{reason_number, IsFlaw, IsTextFault, IsTooDeep};
-ghost use Rattle.crs_text.specs.Scan.{IsReached, IsFurther, IsPassed, IsTaken, IsStoppedBy, IsSingleAt, IsScanned};
-ghost use Rattle.crs_text.specs.Items.{keyword_at};
-ghost use Rattle.crs_text.specs.Rows.{Shows};
-ghost use Rattle.crs_text.specs.Table.{Flat, flat_step, IsStep};
+ghost use Rattle.crs_text.specs.Tokens.{Forms, opening, is_letter, is_white};
+ghost use Rattle.crs_text.specs.Quoted.{BeginsWith};
+ghost use Rattle.crs_text.specs.TextFault.{IsTextFault};
+ghost use Rattle.crs_text.specs.Scan.{IsReached, IsFurther, IsPassed, IsTaken, IsStoppedBy, IsScanned};
 ghost use Rattle.crs_text.specs.Lexing.{IsLexed};
 
 use crate::fault::Fault;
 use crate::items::ItemKind;
-use crate::keyword::{Keyword, front_keyword};
+use crate::keyword::front_keyword;
 use crate::lexing::{Lexed, front_of, plain_number, plain_text, rest_of, token_at};
 use crate::refusal::Reason;
 use crate::runs::{Bytes, Digits, is_letter, is_white, letters_length};
 use crate::table::{Opened, Table};
 
-fn unexpected(at: usize) -> Fault
-    ensures { result ≡ Fault.Refused (record { number = reason_number Reason.Unexpected; place = at }) }
-{
-    Fault::Refused(Reason::Unexpected.at(at))
-}
-
-// How many bytes were taken comes back by reference, as does the place that is reached: a count and a fault that
-// share the room of one answer are kept byte by byte, which costs some four instructions a token.
-
-// A number, text or word of `size` bytes, which has these raw bytes.
-#[inline(always)]
-fn take_single(
-    table: &mut Table,
-    text: &[u8],
-    at: usize,
-    kind: ItemKind,
-    raw: &[u8],
-    keyword: Option<Keyword>,
-    size: usize,
-    taken: &mut usize,
-) -> Result<(), Fault>
-    requires single { IsSingleAt text.now at kind raw.now size }
-    requires keyword { keyword ≡ keyword_at kind raw.now }
-    ensures { MatchResult result (λ _. IsTaken text.now at table.old table.new taken.new)
-        (IsStoppedBy text.now at table.old) }
-{
-    match table.single(kind, at, raw, keyword) {
-        Ok(true) => {
-            *taken = size;
-            Ok(())
-        }
-        Ok(false) => Err(unexpected(at)),
-        Err(refused) => Err(Fault::Memory(refused)),
-    }
-}
-
-// A comma or a delimiter, which has one byte, where this says whether the table took it.
-#[inline(always)]
-fn take_mark(text: &[u8], at: usize, was_taken: bool, taken: &mut usize) -> Result<(), Fault>
-    requires { at < length text.now }
-    ensures { (before behind : Flat) (token : Token) → IsStep (flat_step before token) was_taken before behind →
-        Forms (length text.now) token (drop at text.now) (drop (at + 1) text.now) →
-        ((tokens : List Token) → Shows tokens before → ¬ (IsTooDeep tokens token)) →
-        MatchResult result (λ _. IsTaken text.now at before behind taken.new) (IsStoppedBy text.now at before) }
-{
-    if was_taken {
-        *taken = 1;
-        Ok(())
-    } else {
-        Err(unexpected(at))
-    }
-}
-
-fn flawed(text: &[u8], at: usize, reason: Reason, skip: usize) -> Fault
-    requires within { at ≤ length text.now }
-    requires flaw { IsFlaw reason (drop at text.now) skip }
-    ensures { (table : Flat) → IsStoppedBy text.now at table result }
-{
-    Fault::Refused(reason.at(at + skip))
-}
-
 /// What begins at this place, if it is a token that the table takes; `taken` is how many bytes it has.
+///
+/// That count comes back by reference, as does the place that is reached: a count and a fault that share the room of
+/// one answer are kept byte by byte, which costs some four instructions a token.
 #[inline(always)]
 pub(crate) fn take_lexed(
     table: &mut Table,
@@ -93,42 +32,50 @@ pub(crate) fn take_lexed(
     ensures { MatchResult result (λ _. IsTaken text.now at table.old table.new taken.new)
         (IsStoppedBy text.now at table.old) }
 {
-    match lexed {
+    let left = rest_of(text, at);
+    let (was_taken, size) = match lexed {
         Lexed::Number { length } => {
-            let raw = front_of(rest_of(text, at), length);
-            take_single(table, text, at, ItemKind::Number, raw, None, length, taken)
+            let raw = front_of(left, length);
+            (
+                table
+                    .single(ItemKind::Number, at, raw, None)
+                    .map_err(Fault::Memory)?,
+                length,
+            )
         }
         Lexed::Text { length } => {
-            let raw = front_of(rest_of(rest_of(text, at), 1), length);
-            take_single(
-                table,
-                text,
-                at,
-                ItemKind::Text,
-                raw,
-                None,
+            let raw = front_of(rest_of(left, 1), length);
+            (
+                table
+                    .single(ItemKind::Text, at, raw, None)
+                    .map_err(Fault::Memory)?,
                 length + 2,
-                taken,
             )
         }
         Lexed::Word { length } => {
-            let left = rest_of(text, at);
             let keyword = front_keyword(left, length);
             let raw = front_of(left, length);
-            take_single(table, text, at, ItemKind::Word, raw, keyword, length, taken)
+            (
+                table
+                    .single(ItemKind::Word, at, raw, keyword)
+                    .map_err(Fault::Memory)?,
+                length,
+            )
         }
-        Lexed::Comma => take_mark(text, at, table.comma(), taken),
-        Lexed::Closing { square } => take_mark(text, at, table.close(at, square), taken),
+        Lexed::Comma => (table.comma(), 1),
+        Lexed::Closing { square } => (table.close(at, square), 1),
         Lexed::Opening { square } => match table.open(square) {
-            Opened::Taken => {
-                *taken = 1;
-                Ok(())
-            }
-            Opened::TooDeep => Err(Fault::Refused(Reason::TooDeep.at(at))),
-            Opened::Refused => Err(unexpected(at)),
+            Opened::Taken => (true, 1),
+            Opened::TooDeep => return Err(Fault::Refused(Reason::TooDeep.at(at))),
+            Opened::Refused => (false, 1),
         },
-        Lexed::Flaw { reason, skip } => Err(flawed(text, at, reason, skip)),
+        Lexed::Flaw { reason, skip } => return Err(Fault::Refused(reason.at(at + skip))),
+    };
+    if !was_taken {
+        return Err(Fault::Refused(Reason::Unexpected.at(at)));
     }
+    *taken = size;
+    Ok(())
 }
 
 /// Where the white space that begins at `end` has an end.
@@ -147,15 +94,6 @@ pub(crate) fn after_white(text: &[u8], end: usize) -> usize
     at
 }
 
-#[inline(always)]
-fn takes_comma(table: &mut Table, text: &[u8], at: usize) -> bool
-    requires within { at < length text.now }
-    requires forms { Forms (length text.now) comma (drop at text.now) (drop (at + 1) text.now) }
-    ensures { MatchBool result (IsTaken text.now at table.old table.new 1) (table.new ≡ table.old) }
-{
-    table.comma()
-}
-
 // The place behind a comma that comes here, if the table takes it.
 #[inline(always)]
 fn past_comma(table: &mut Table, text: &[u8], at: usize) -> usize
@@ -163,13 +101,7 @@ fn past_comma(table: &mut Table, text: &[u8], at: usize) -> usize
     ensures passed { IsPassed text.now table.new result }
     ensures further { at ≤ result }
 {
-    if at == text.len() {
-        return at;
-    }
-    if text[at] != b',' {
-        return at;
-    }
-    if takes_comma(table, text, at) {
+    if at < text.len() && text[at] == b',' && table.comma() {
         at + 1
     } else {
         at

@@ -7,7 +7,7 @@ use Rattle.crs_text.specs.Tokens as tokens
 use Rattle.crs_text.specs.Tokens.{Kind, Token, single, comma, opening, closing, opening_byte, closing_byte, is_white, Forms, Fronts, IsAfterWhite}
 use Rattle.crs_text.specs.Items.{Item}
 use Rattle.crs_text.specs.TextFault.{reason_number, IsFlaw, IsTooDeep, IsStop, IsTextFault, RefusesText, SpellsNode}
-use Rattle.crs_text.specs.Table.{Flat, item_kind, flat_step, with_leaf, IsStep, IsOpened, IsNodeBegun, is_whole}
+use Rattle.crs_text.specs.Table.{Flat, item_kind, flat_single, flat_step, with_leaf, IsStep, IsOpened, IsNodeBegun, is_whole}
 use Rattle.crs_text.specs.Rows.{Shows, flat}
 use Rattle.crs_text.specs.State.{start, after}
 use Rattle.crs_text.specs.Lexing.{IsLexed, StandsBefore}
@@ -17,6 +17,7 @@ use Rattle.crs_text.specs.declared.fault.Fault.{Fault}
 use Rattle.crs_text.specs.declared.fault.Fault.TheVariants as faults
 use Rattle.crs_text.specs.declared.refusal.Reason.{Reason}
 use Rattle.crs_text.specs.declared.refusal.Reason.TheVariants.{BadCharacter, NotUtf8, Unexpected, UnexpectedEnd, TooDeep}
+use Rattle.crs_text.specs.declared.items.ItemKind.{ItemKind}
 use Rattle.crs_text.specs.declared.items.ItemKind.TheVariants as kinds
 use Rattle.crs_text.specs.declared.lexing.Lexed.TheVariants as lexed
 use Rattle.crs_text.specs.declared.table.Opened.TheVariants as opened
@@ -164,6 +165,26 @@ was_taken (Some next) taken before behind s e = ap Some (sym s.1)
 pub not_taken : (o : Option Flat) (taken : Bool) (before behind : Flat) → IsStep o taken before behind → taken ≡ false → o ≡ None
 not_taken None taken before behind s e = refl
 not_taken (Some next) taken before behind s e = let h : true ≡ false = sym s.0 ∙ e in absurd cc
+
+-- a token that the table was asked for is taken, or nothing goes on with it
+module _ (text : List ℕ) (at n : ℕ) (before behind : Flat) (taken : Bool) where
+  pub taken_by : (t : Token) → at + n ≤ length text → Forms (length text) t (drop at text) (drop (at + n) text) → IsStep (flat_step before t) taken before behind → taken ≡ true
+      → IsTaken text at before behind n
+  taken_by t within f s e = record { token = t; forms = f; step = was_taken _ taken before behind s e; within = within }
+
+  pub stopped_by : (t : Token) (r : RefusedAt) → r.place ≡ at → r.number ≡ reason_number Unexpected → Forms (length text) t (drop at text) (drop (at + n) text) → IsStep (flat_step before t) taken before behind → taken ≡ false
+      → ((ts : List Token) → Shows ts before → ¬ (IsTooDeep ts t)) → IsStopped text at before r
+  stopped_by t r p k f s e few = stopped_token text at before r p t _ k f (not_taken _ taken before behind s e) few
+
+  module _ (kind : ItemKind) (raw : List ℕ) (single_here : IsSingleAt text at kind raw n) (s : IsStep (flat_single before kind at raw) taken before behind) where
+    of_single : IsStep (flat_step before (single single_here.of_kind at raw)) taken before behind
+    of_single = subst (λ z. IsStep (flat_single before z at raw) taken before behind) single_here.is_kind s
+
+    pub single_taken : taken ≡ true → IsTaken text at before behind n
+    single_taken e = taken_by (single single_here.of_kind at raw) single_here.within single_here.forms of_single e
+
+    pub single_stopped : (r : RefusedAt) → r.place ≡ at → r.number ≡ reason_number Unexpected → taken ≡ false → IsStopped text at before r
+    single_stopped r p k e = stopped_by (single single_here.of_kind at raw) r p k single_here.forms of_single e (λ ts shows deep. deep)
 
 -- a flaw lies within what is left
 pub flaw_within : (r : Reason) (left : List ℕ) (skip : ℕ) → IsFlaw r left skip → skip ≤ length left
