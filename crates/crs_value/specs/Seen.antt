@@ -9,7 +9,7 @@ use Rattle.crs_shape.specs.declared.class.Class.TheVariants as class
 use Rattle.crs_shape.specs.declared.system_type.SystemType.{SystemType}
 use Rattle.crs_shape.specs.declared.unit_kind.UnitKind.TheVariants as kinds
 use Rattle.crs_shape.specs.Shaped.{Shaped}
-use Rattle.crs_shape.specs.Slots.{SlotParts, one, optional, some, takes, is_class}
+use Rattle.crs_shape.specs.Slots.{SlotParts, one, optional, some, takes}
 use Rattle.crs_shape.specs.Dimensions.{dimensions_of}
 use Rattle.crs_shape.specs.UnitKinds.{asked_kind}
 use Rattle.crs_value.specs.declared.judging.axes.Axes.{Axes}
@@ -160,10 +160,8 @@ rank other = 0
 
 -- the highest rank isn't lower with one argument more; and where
 -- this one has a rank, that is above the rank so far, and is reached
-abbrev pub Climbs : ℕ → Option Class → ℕ → Type 0
-Climbs last found next =
-    (last ≤ next)
-    × ((d : Class) → 1 ≤ rank d → is_class d found ≡ true → (last < rank d) × (rank d ≤ next))
+abbrev pub Climbs : ℕ → ℕ → ℕ → Type 0
+Climbs last found next = (last ≤ next) × (1 ≤ found → (last < found) × (found ≤ next))
 
 -- where the parts of a CRS begin that its checks ask for: from there on are all of their class,
 -- and behind them none

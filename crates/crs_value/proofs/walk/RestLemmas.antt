@@ -1,15 +1,14 @@
 -- What is checked of a CRS as a whole: orders, units, dimensions and repeated parts.
 use Rattle.std.proofs.Common.{◌≡◌, ℕ, ◌+◌, ◌<◌, ◌≤◌, length, drop, Bool, true, false, inl, inr, ◌⊎◌, ⊎_elim, Option, Some, None, List, [], ◌∷◌, ◌++◌, refl, sym, ◌∙◌, ap, subst, arith}
-use denote.Enum.Bare.{true_same}
+use Rattle.std.proofs.lemmas.Option.{same_Some}
 use Rattle.crs_decimal.specs.Prelude.{SameNumber, whole_number, Value, exact}
 use Rattle.crs_text.specs.Prelude.{Item, Siblings, arguments, rest_of, here, HasId, IsAt, RefusedAt}
-use Rattle.crs_shape.specs.contracts.class.Class.{the_type}
 use Rattle.crs_shape.specs.declared.class.Class.{Class}
 use Rattle.crs_shape.specs.declared.class.Class.TheVariants as class
 use Rattle.crs_shape.specs.declared.system_type.SystemType.{SystemType}
 use Rattle.crs_shape.specs.declared.unit_kind.UnitKind.{UnitKind}
 use Rattle.crs_shape.specs.declared.unit_kind.UnitKind.TheVariants as kinds
-use Rattle.crs_shape.specs.Prelude.{IsOneOf, class_in, is_class}
+use Rattle.crs_shape.specs.Prelude.{IsOneOf, class_in}
 use Rattle.crs_value.specs.declared.judging.axes.Axes.{Axes}
 use Rattle.crs_value.specs.declared.judging.axes.Places.{Places}
 use Rattle.crs_value.specs.BadDynamic.{BadDynamic}
@@ -149,8 +148,8 @@ pub climbing-first : (c : Class) (items : Siblings) → Climbing c items items 0
 climbing-first c items = record { unseen = λ d high below. omega arith; few = λ d high. omega arith }
 
 -- an argument of a class is of no other
-pub once-some : (p : Class) (item : Item) (c : Class) → is_a p c item ≡ true → (d : Class) → 1 ≤ rank d → is_a p d item ≡ true → Some c ≡ Some d
-once-some p item c is d high also = sym (class-is c (class_in p item) is) ∙ class-is d (class_in p item) also
+pub once-some : (p : Class) (item : Item) (c : Class) → is_a p c item ≡ true → (d : Class) → 1 ≤ rank d → is_a p d item ≡ true → rank c ≡ rank d
+once-some p item c is d high also = ap rank (same_Some c d (sym (class-is c (class_in p item) is) ∙ class-is d (class_in p item) also))
 
 -- one of none of the classes that may stand but once
 pub once-none : (p : Class) (item : Item) → is_a p class.Scope item ≡ false → is_a p class.Area item ≡ false → is_a p class.BoundingBox item ≡ false →
@@ -163,8 +162,8 @@ once-none p item a b e f g class.Remark high is = cc
 once-none p item a b e f g other high is = absurd (omega (arith, high))
 
 -- one argument more
-pub climbing-on : (tree : Item) (c : Class) (from : Siblings) (at : Option ℕ) (id : ℕ) (next : Option ℕ) (last now : ℕ) (found : Option Class) → at ≡ Some id → HasId tree id →
-    IsAt tree (rest_of (here tree id)) next → ((d : Class) → 1 ≤ rank d → is_a c d (item_at tree id) ≡ true → found ≡ Some d) → Climbs last found now → Climbing c from (ahead tree at) last →
+pub climbing-on : (tree : Item) (c : Class) (from : Siblings) (at : Option ℕ) (id : ℕ) (next : Option ℕ) (last now found : ℕ) → at ≡ Some id → HasId tree id →
+    IsAt tree (rest_of (here tree id)) next → ((d : Class) → 1 ≤ rank d → is_a c d (item_at tree id) ≡ true → found ≡ rank d) → Climbs last found now → Climbing c from (ahead tree at) last →
     Climbing c from (ahead tree next) now
 climbing-on tree c from at id next last now found same has is named climbs h = record {
   unseen = λ d high below. omega (arith, h.unseen d high, step d high, climbs.0);
@@ -178,7 +177,7 @@ climbing-on tree c from at id next last now found same has is named climbs h = r
         by : (b : Bool) → is_a c d (item_at tree id) ≡ b → (length (those c d (ahead tree at)) ≡ length (those c d (ahead tree next)))
             ⊎ ((length (those c d (ahead tree at)) ≡ 1 + length (those c d (ahead tree next))) × ((last < rank d) × (rank d ≤ now)))
         by false e = inl (rw same (omega (arith, one-more false tree c d id next has e is)))
-        by true e = inr (rw same (one-more true tree c d id next has e is), climbs.1 d high (ap (is_class d) (named d high e) ∙ true_same the_type d d refl))
+        by true e = inr (rw same (one-more true tree c d id next has e is), let P : ℕ → Type 0 = λ r. 1 ≤ r → (last < r) × (r ≤ now) in subst P (named d high e) climbs.1 high)
 
 -- ---- a whole CRS
 

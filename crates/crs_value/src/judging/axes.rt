@@ -96,44 +96,25 @@ fn word_behind_name(items: &Items<'_>, axis: ItemId) -> Option<ItemId>
     Some(word)
 }
 
-// Whether there is none.
-pub(crate) fn is_none(at: Option<ItemId>) -> bool
-    ensures { IsTrue result → at ≡ None }
-{
-    at.is_none()
-}
-
-// Whether this is still so with one axis more.
-#[inline(always)]
-fn still(before: bool, now: bool) -> bool
-    ensures { IsTrue result → IsTrue before × IsTrue now }
-{
-    before && now
-}
-
 // One order more; None where it is none of 1 to 3, or is among the others.
 fn with_place(places: Places, place: u64) -> Option<Places>
     ensures { IfSome result (λ more. IsMarked place places more) }
 {
-    if place == 1 && !places.first {
-        return Some(Places {
+    match place {
+        1 if !places.first => Some(Places {
             first: true,
             ..places
-        });
-    }
-    if place == 2 && !places.second {
-        return Some(Places {
+        }),
+        2 if !places.second => Some(Places {
             second: true,
             ..places
-        });
-    }
-    if place == 3 && !places.third {
-        return Some(Places {
+        }),
+        3 if !places.third => Some(Places {
             third: true,
             ..places
-        });
+        }),
+        _ => None,
     }
-    None
 }
 
 // The orders with that of one axis more.
@@ -141,9 +122,7 @@ fn placed(items: &Items<'_>, places: Option<Places>, order: Option<ItemId>) -> O
     requires { IsShaped items.now Class.Order order }
     ensures { ArePlaced items.now order places result }
 {
-    let Some(old) = places else { return None };
-    let Some(order) = order else { return None };
-    with_place(old, whole_of(items, order, Class::Order)?)
+    with_place(places?, whole_of(items, order?, Class::Order)?)
 }
 
 // Whether the unit of an axis fits where this kind is asked.
@@ -169,10 +148,10 @@ pub(crate) fn noted(items: &Items<'_>, system_type: SystemType, seen: Seen, axes
     Axes {
         count: axes.count + 1,
         places: placed(items, axes.places, seen.order),
-        orderless: still(axes.orderless, is_none(seen.order)),
-        own: still(axes.own, fits_own(items, seen.unit, kind)),
-        alone: still(axes.alone, is_none(seen.unit)),
-        lengths: still(axes.lengths, same_kind(kind, UnitKind::Length)),
-        angles: still(axes.angles, same_kind(kind, UnitKind::Angle)),
+        orderless: axes.orderless & seen.order.is_none(),
+        own: axes.own & fits_own(items, seen.unit, kind),
+        alone: axes.alone & seen.unit.is_none(),
+        lengths: axes.lengths & same_kind(kind, UnitKind::Length),
+        angles: axes.angles & same_kind(kind, UnitKind::Angle),
     }
 }

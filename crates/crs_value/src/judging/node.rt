@@ -20,7 +20,6 @@ use crate::judging::parts::Identifier;
 use crate::judging::quiet::{Layout, NOWHERE, is_quiet};
 use crate::judging::slots::{
     Any, End, Found, One, OneOrMore, Optional, Parent, Part, Slot, Slots, Then, chain, ends, taken,
-    walk,
 };
 use crate::reading::arguments::first_before;
 use crate::reading::cursor::Cursor;
@@ -62,7 +61,10 @@ fn node_judged<S: Slots>(
         class,
         close,
     };
-    if !walk::<S>(parent, items.arg(id, 0), found) {
+    let Some(end) = S::pass(parent, items.arg(id, 0), found) else {
+        return false
+    };
+    if !ends(parent, end, found) {
         return false;
     }
     join(found, own_of_part(items, id, class));
@@ -238,9 +240,7 @@ fn class_at(place: u8) -> Class
 }
 
 // An item of the class at this place, without a coordinate system, which has these slots.
-pub(crate) struct Node<const PLACE: u8, S> {
-    _slots: S,
-}
+pub(crate) struct Node<const PLACE: u8, S>(S);
 
 impl<const PLACE: u8, S: Slots> Part for Node<PLACE, S> {
     ghost classes = { class_at PLACE ∷ [] };

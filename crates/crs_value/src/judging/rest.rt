@@ -1,5 +1,5 @@
 //! What is checked of a CRS as a whole, where its parts were found.
-ghost use Rattle.std.specs.Prelude.{◌≡◌, ◌≤◌, ℕ, IfSome, IsTrue, None, Some, true, length, List};
+ghost use Rattle.std.specs.Prelude.{◌≡◌, ◌≤◌, ℕ, IfSome, IsTrue, None, true, length, List};
 ghost use Rattle.crs_text.specs.Items.{Item, HasId};
 ghost use Rattle.crs_shape.specs.declared.class.Class.{Class};
 ghost use Rattle.crs_shape.specs.Dimensions.{dimensions_of};
@@ -99,58 +99,36 @@ pub(crate) fn units_fit(items: &Items<'_>, axes: Axes, shared: Option<ItemId>) -
         || fits_all(items, unit, axes.angles, UnitKind::Angle)
 }
 
-// The place of a class among those that may stand but once at a CRS's end, in their usual order; 0 for others.
+// The highest rank with one argument more, of this rank; None where it doesn't follow the others by rank.
 #[inline(always)]
-fn rank(class: Class) -> u8
-    ensures { result ≡ rank class }
+fn climbed(last: u8, next: u8) -> Option<u8>
+    ensures { IfSome result (λ highest. Climbs last next highest) }
 {
-    match class {
-        Class::Scope => 1,
-        Class::Area => 2,
-        Class::BoundingBox => 3,
-        Class::VerticalExtent => 4,
-        Class::Remark => 5,
-        _ => 0,
-    }
-}
-
-// The highest rank with one argument more, of this class; None where it doesn't follow the others by rank.
-#[inline(always)]
-fn climbed(last: u8, class: Option<Class>) -> Option<u8>
-    ensures { IfSome result (λ next. Climbs last class next) }
-{
-    let Some(class) = class else {
-        return Some(last)
-    };
-    let next = rank(class);
     if next == 0 {
         return Some(last);
     }
     if next <= last { None } else { Some(next) }
 }
 
-// The class of an argument, if it is one that may stand but once at a CRS's end.
+// The rank of an argument among those that may stand but once at a CRS's end, in their usual order; 0 of others.
 #[inline(always)]
-fn once_in(items: &Items<'_>, id: ItemId, parent: Class) -> Option<Class>
+fn rank_of(items: &Items<'_>, id: ItemId, parent: Class) -> u8
     requires { HasId items.now id }
-    ensures { (d : Class) → 1 ≤ rank d → is_a parent d (item_at items.now id) ≡ true → result ≡ Some d }
+    ensures { (d : Class) → 1 ≤ rank d → is_a parent d (item_at items.now id) ≡ true → result ≡ rank d }
 {
     if stands_as(items, id, parent, Class::Scope) {
-        return Some(Class::Scope);
+        1
+    } else if stands_as(items, id, parent, Class::Area) {
+        2
+    } else if stands_as(items, id, parent, Class::BoundingBox) {
+        3
+    } else if stands_as(items, id, parent, Class::VerticalExtent) {
+        4
+    } else if stands_as(items, id, parent, Class::Remark) {
+        5
+    } else {
+        0
     }
-    if stands_as(items, id, parent, Class::Area) {
-        return Some(Class::Area);
-    }
-    if stands_as(items, id, parent, Class::BoundingBox) {
-        return Some(Class::BoundingBox);
-    }
-    if stands_as(items, id, parent, Class::VerticalExtent) {
-        return Some(Class::VerticalExtent);
-    }
-    if stands_as(items, id, parent, Class::Remark) {
-        return Some(Class::Remark);
-    }
-    None
 }
 
 // Whether the arguments that may stand but once ascend by rank, so that none is repeated.
@@ -161,7 +139,7 @@ pub(crate) fn is_ascending(items: &Items<'_>, from: Option<ItemId>, parent: Clas
     let mut last = 0;
     let mut at = from;
     while let Some(id) = at {
-        match climbed(last, once_in(items, id, parent)) {
+        match climbed(last, rank_of(items, id, parent)) {
             None => return false,
             Some(next) => last = next,
         }

@@ -175,24 +175,8 @@ pub(crate) fn ends(parent: Parent<'_, '_>, at: Option<ItemId>, found: &mut Found
     false
 }
 
-// Whether the arguments have no fault of shape against these slots; what they break joins what was found.
-#[inline(always)]
-pub(crate) fn walk<S: Slots>(parent: Parent<'_, '_>, at: Option<ItemId>, found: &mut Found) -> bool
-    requires holds { Holds parent.items.now at }
-    requires fits { S.fits }
-    ensures { Walked parent.entry.items.now parent.entry.class parent.entry.close S.slots at found.old result
-        found.new }
-{
-    match S::pass(parent, at, found) {
-        None => false,
-        Some(next) => ends(parent, next, found),
-    }
-}
-
 // One argument.
-pub(crate) struct One<P> {
-    _part: P,
-}
+pub(crate) struct One<P>(P);
 
 impl<P: Part> Slot for One<P> {
     ghost slot = { one_of P.classes };
@@ -217,9 +201,7 @@ impl<P: Part> Slot for One<P> {
 }
 
 // None or one argument.
-pub(crate) struct Optional<P> {
-    _part: P,
-}
+pub(crate) struct Optional<P>(P);
 
 impl<P: Part> Slot for Optional<P> {
     ghost slot = { optional_of P.classes };
@@ -238,9 +220,7 @@ impl<P: Part> Slot for Optional<P> {
 }
 
 // Any number of arguments.
-pub(crate) struct Any<P> {
-    _part: P,
-}
+pub(crate) struct Any<P>(P);
 
 impl<P: Part> Slot for Any<P> {
     ghost slot = { any_of P.classes };
@@ -262,9 +242,7 @@ impl<P: Part> Slot for Any<P> {
 }
 
 // One argument or more.
-pub(crate) struct OneOrMore<P> {
-    _part: P,
-}
+pub(crate) struct OneOrMore<P>(P);
 
 impl<P: Part> Slot for OneOrMore<P> {
     ghost slot = { some_of P.classes };
@@ -281,10 +259,7 @@ impl<P: Part> Slot for OneOrMore<P> {
 }
 
 // A slot before others.
-pub(crate) struct Then<A, S> {
-    _slot: A,
-    _slots: S,
-}
+pub(crate) struct Then<A, S>(A, S);
 
 impl<A: Slot, S: Slots> Slots for Then<A, S> {
     ghost slots = { A.slot ∷ S.slots };
@@ -313,10 +288,7 @@ impl Slots for End {
 }
 
 // An argument of one of two sets of classes.
-pub(crate) struct Either<A, B> {
-    _first: A,
-    _second: B,
-}
+pub(crate) struct Either<A, B>(A, B);
 
 impl<A: Part, B: Part> Part for Either<A, B> {
     ghost classes = { A.classes ++ B.classes };

@@ -9,6 +9,6 @@ loop-at-init c = record { holds = c.requires; climbing = climbing-first c.args.p
 pub loop-at-preserved : goal.loop-at-preserved
 loop-at-preserved c = record {
   holds = holds_at _ _ _ c.next-at.ensures;
-  climbing = climbing-on c.args.items.now _ _ _ c.in-Some.id c.next-at.result _ c.in-Some-climbed.next c.once_in.result c.in-Some.is
-      (has-some _ _ _ c.in-Some.is c.loop-at.invariant.holds) c.next-at.ensures c.once_in.ensures c.in-Some-climbed.ensures c.loop-at.invariant.climbing;
+  climbing = climbing-on c.args.items.now _ _ _ c.in-Some.id c.next-at.result _ c.in-Some-climbed.next c.rank_of.result c.in-Some.is
+      (has-some _ _ _ c.in-Some.is c.loop-at.invariant.holds) c.next-at.ensures c.rank_of.ensures c.in-Some-climbed.ensures c.loop-at.invariant.climbing;
 }
