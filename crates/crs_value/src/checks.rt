@@ -18,7 +18,7 @@ ghost use Rattle.crs_value.specs.Break.{at, AnyOf, IsLeast};
 ghost use Rattle.crs_value.specs.Cursor.{args, item};
 ghost use Rattle.crs_value.specs.FoundArguments.{from_found, AllShaped};
 ghost use Rattle.crs_value.specs.Least.{lesser};
-ghost use Rattle.crs_value.specs.Reading.{item_at, Holds, IsFound, TakesOne};
+ghost use Rattle.crs_value.specs.Reading.{item_at, Holds, TakesOne};
 
 use crate::reading::arguments::{first, later};
 use crate::reading::cursor::Cursor;
@@ -79,28 +79,7 @@ pub(crate) fn any_from<C: Check>(
     least
 }
 
-// The break of a node's argument of a class that it may have once, which was found where there is one.
-#[inline(always)]
-pub(crate) fn only_from<C: Check>(
-    check: &C,
-    node: &Cursor<'_, '_>,
-    class: Class,
-    found: Option<ItemId>,
-) -> Option<Refusal>
-    requires fits { C.Fits check.now node.now.items.now class }
-    requires shaped { Shaped node.now.class (item node.now) }
-    requires once { TakesOne node.now.class class }
-    requires found { IsFound node.now.items.now node.now.class class (args class node.now) found }
-    ensures { IsLeast (AnyOf (C.Broken check.now node.now.items.now) (args class node.now)) result }
-{
-    laws::slots_count();
-    match found {
-        None => None,
-        Some(found) => check.check(node.items, found, class),
-    }
-}
-
-// The break of a node's argument of a class that it may have once, which is looked for here.
+// The break of a node's argument of a class that it may have once.
 #[inline(always)]
 pub(crate) fn only_of<C: Check>(check: &C, node: &Cursor<'_, '_>, class: Class) -> Option<Refusal>
     requires fits { C.Fits check.now node.now.items.now class }
@@ -108,10 +87,9 @@ pub(crate) fn only_of<C: Check>(check: &C, node: &Cursor<'_, '_>, class: Class) 
     requires once { TakesOne node.now.class class }
     ensures { IsLeast (AnyOf (C.Broken check.now node.now.items.now) (args class node.now)) result }
 {
-    only_from(
-        check,
-        node,
-        class,
-        first(node.items, node.id, node.class, class),
-    )
+    laws::slots_count();
+    match first(node.items, node.id, node.class, class) {
+        None => None,
+        Some(found) => check.check(node.items, found, class),
+    }
 }

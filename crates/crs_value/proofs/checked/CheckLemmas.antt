@@ -1,5 +1,5 @@
 -- A check over the items of one class, one after another.
-use Rattle.std.proofs.Common.{◌≡◌, ℕ, ◌≤◌, length, true, false, Option, Some, None, take, drop, List, [], ◌∷◌, ◌++◌, sym, ◌∙◌, ap, subst, arith, append_assoc}
+use Rattle.std.proofs.Common.{◌≡◌, ℕ, length, true, false, Option, Some, None, take, drop, List, [], ◌∷◌, ◌++◌, sym, ◌∙◌, ap, subst, arith, append_assoc}
 use Rattle.crs_decimal.specs.Prelude.{Denotes, Value, IsNormal, exact}
 use Rattle.crs_text.specs.Prelude.{Item, arguments, rest_of, raw_of, here, RefusedAt}
 use Rattle.crs_shape.specs.declared.class.Class.{Class}
@@ -8,9 +8,9 @@ use Rattle.crs_value.specs.BadValue.{IsAboveZero, NotAbove, IsNegative}
 use Rattle.crs_value.specs.Break.{AnyOf, IsLeast}
 use Rattle.crs_value.specs.FoundArguments.{from_found, AllShaped}
 use Rattle.crs_value.specs.Least.{lesser}
-use Rattle.crs_value.specs.Reading.{item_at, those, Holds, IsFound}
+use Rattle.crs_value.specs.Reading.{item_at, those, Holds, IsFound, TakesOne}
 use Rattle.crs_value.specs.Reads.{ReadsNumber}
-use Rattle.crs_value.proofs.found.ArgumentLemmas.{found-is, found-holds, all-shaped, found-shaped, nothing}
+use Rattle.crs_value.proofs.found.ArgumentLemmas.{SlotsBound, arguments-few, found-is, found-holds, all-shaped, found-shaped, nothing}
 use Rattle.crs_value.proofs.checked.LeastLemmas.{least-more, least-single}
 
 -- the first break among those before
@@ -67,12 +67,16 @@ pub any-first : (B : Item → RefusedAt → Type 0) (tree : Item) (parent c : Cl
     IsFound tree parent c items (Some id) → IsLeast (B (item_at tree id)) o → IsLeast (λ f. AnyOf B (take 1 items) f) o
 any-first B tree parent c items id o found h = rw found.0 (least-single B (item_at tree id) o h)
 
--- where there is no more than the one
-pub only-one : (B : Item → RefusedAt → Type 0) (tree : Item) (parent c : Class) (items : List Item) (id : ℕ) (o : Option RefusedAt) → length items ≤ 1 →
-    IsFound tree parent c items (Some id) → IsLeast (B (item_at tree id)) o → IsLeast (AnyOf B items) o
-only-one B tree parent c items id o few found h =
+pub none-of : (B : Item → RefusedAt → Type 0) (items : List Item) → items ≡ [] → IsLeast (AnyOf B items) None
+none-of B items e = rw e (λ f h. h)
+
+-- the only argument of a class that a node takes one of at most
+pub only-of : SlotsBound → (B : Item → RefusedAt → Type 0) (tree item : Item) (parent c : Class) (id : ℕ) (o : Option RefusedAt) → TakesOne parent c → Shaped parent item →
+    IsFound tree parent c (those parent c (arguments item)) (Some id) → IsLeast (B (item_at tree id)) o → IsLeast (AnyOf B (those parent c (arguments item))) o
+only-of law B tree item parent c id o once shaped found h =
     let rest = those parent c (rest_of (here tree id)) in
-    let none : rest ≡ [] = nothing rest (omega (arith, few, ap length found.0)) in
+    let few = arguments-few law parent c item once.0 shaped in
+    let none : rest ≡ [] = nothing rest (omega (arith, few, once.1, ap length found.0)) in
     rw (found.0, none) (least-single B (item_at tree id) o h)
 
 -- those from the first found one on are all of the class

@@ -1,10 +1,15 @@
--- The dimension of a compound's horizontal part.
-use Rattle.std.proofs.Common.{◌≡◌, Bool, true, false, not, IsTrue, ◌↔◌, refl, subst}
+-- A compound's horizontal part, and its dimension.
+use Rattle.std.proofs.Common.{◌≡◌, ℕ, Bool, true, false, not, Some, None, List, IsTrue, ◌↔◌, refl, sym, subst}
 use Rattle.crs_decimal.specs.Prelude.{SameNumber, whole_number, Value, exact}
-use Rattle.crs_text.specs.Prelude.{Item}
-use Rattle.crs_value.specs.BadComponent.{IsNotPlane}
+use Rattle.crs_text.specs.Prelude.{Item, arguments, RefusedAt}
+use Rattle.crs_shape.specs.declared.class.Class.{Class}
+use Rattle.crs_shape.specs.declared.class.Class.TheVariants as class
+use Rattle.crs_value.specs.BadComponent.{IsNotPlane, IsNotHorizontal, BadComponent}
+use Rattle.crs_value.specs.Break.{at, FirstIs, IsLeast}
+use Rattle.crs_value.specs.Reading.{item_at, those, IsFound}
 use Rattle.crs_value.specs.Reads.{HasDimension}
 use Rattle.crs_value.proofs.checked.CheckLemmas.{DenotesOne}
+use Rattle.crs_value.proofs.checked.LeastLemmas.{least-at}
 use Rattle.crs_value.proofs.checked.SystemLemmas.{dimension-is-one}
 
 abbrev IsTwo : Value → Type 0
@@ -23,3 +28,14 @@ plane-test law cs v b has test = (λ e. (v, (has, λ two. true-not b e (test.1 t
   where
     two-of : (w : Value) → HasDimension cs w → IsTwo v → IsTwo w
     two-of w other two = subst IsTwo (dimension-is-one law cs v w has other) two
+
+-- a part is refused where its first node `CS` is one that it may not have
+pub part-bad : (tree part : Item) (c : Class) (cs : ℕ) (r : RefusedAt) → IsFound tree c class.CoordinateSystem (those c class.CoordinateSystem (arguments part)) (Some cs) → r ≡ at 24 part →
+    IsNotHorizontal c (item_at tree cs) → IsLeast (BadComponent c part) (Some r)
+part-bad tree part c cs r found e bad =
+    let Is : List Item → Type 0 = λ xs. FirstIs (IsNotHorizontal c) xs in
+    least-at (at 24 part) r (Is (those c class.CoordinateSystem (arguments part))) e (subst Is (sym found.0) bad)
+
+pub part-fine : (tree part : Item) (c : Class) (cs : ℕ) → IsFound tree c class.CoordinateSystem (those c class.CoordinateSystem (arguments part)) (Some cs) →
+    (IsNotHorizontal c (item_at tree cs) → ⊥) → IsLeast (BadComponent c part) None
+part-fine tree part c cs found fine = λ f h. let Is : List Item → Type 0 = λ xs. FirstIs (IsNotHorizontal c) xs in fine (subst Is found.0 h.1)

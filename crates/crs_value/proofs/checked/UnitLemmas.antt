@@ -1,5 +1,5 @@
 -- The checks of the units of a coordinate system.
-use Rattle.std.proofs.Common.{◌≡◌, ℕ, inl, inr, ⊎_elim, Option, Some, None, List, [], ◌∷◌, sym, ◌∙◌, ap, subst}
+use Rattle.std.proofs.Common.{◌≡◌, ℕ, inl, inr, ⊎_elim, Option, Some, None, List, [], ◌∷◌, refl, sym, ◌∙◌, ap, subst, arith}
 use Rattle.crs_text.specs.Prelude.{Item, leaf, node, arguments, keyword_in, raw_of, rest_of, here, number, text, word, keyword_of, RefusedAt}
 use Rattle.crs_text.specs.declared.keyword.Keyword.{Keyword}
 use Rattle.crs_shape.specs.declared.class.Class.{Class}
@@ -13,7 +13,8 @@ use Rattle.crs_value.specs.FoundArguments.{from_found, AllShaped}
 use Rattle.crs_value.specs.Least.{lesser}
 use Rattle.crs_value.specs.Reading.{item_at, those, Holds, IsFound, IsReading}
 use Rattle.crs_value.specs.Reads.{ReadsDirection, ReadsKind}
-use Rattle.crs_value.proofs.found.ArgumentLemmas.{found-is, found-holds, found-shaped}
+use Rattle.crs_value.proofs.found.ArgumentLemmas.{SlotsBound, found-is, found-holds, found-shaped}
+use Rattle.crs_value.proofs.checked.CheckLemmas.{only-of}
 use Rattle.crs_value.proofs.checked.LeastLemmas.{least-same, either-is}
 use Rattle.crs_value.proofs.checked.SystemLemmas.{first-one, type-is-one}
 use Rattle.crs_value.proofs.one.WordLemmas.{direction-one}
@@ -72,11 +73,13 @@ asking-first tree parent cs item kind at shaped found =
       shaped = found-shaped tree parent class.Axis item at shaped found;
     }
 
-pub own-some : (tree cs axis : Item) (id : ℕ) (o : Option RefusedAt) → IsFound tree class.Axis class.AxisUnit (units_in axis) (Some id) →
-    IsLeast (AnyOf (Misfits cs axis) (units_in axis)) o → IsLeast (BadOwnUnit cs axis) o
-own-some tree cs axis id o found h =
+-- an axis with a unit
+pub own-some : SlotsBound → (tree cs axis : Item) (unit : ℕ) (o : Option RefusedAt) → Shaped class.Axis axis → IsFound tree class.Axis class.AxisUnit (units_in axis) (Some unit) →
+    IsLeast (Misfits cs axis (item_at tree unit)) o → IsLeast (BadOwnUnit cs axis) o
+own-some law tree cs axis unit o shaped found h =
     least-same (AnyOf (Misfits cs axis) (units_in axis)) (BadOwnUnit cs axis) o (λ f k. inr k)
-    (λ f. ⊎_elim (λ k. let e : [] ≡ item_at tree id ∷ those class.Axis class.AxisUnit (rest_of (here tree id)) = sym k.1 ∙ found.0 in absurd cc) (λ k. k)) h
+    (λ f. ⊎_elim (λ k. let e : [] ≡ item_at tree unit ∷ those class.Axis class.AxisUnit (rest_of (here tree unit)) = sym k.1 ∙ found.0 in absurd cc) (λ k. k))
+    (only-of law (Misfits cs axis) tree axis class.Axis class.AxisUnit unit o (refl, omega arith) shaped found h)
 
 pub unit-none : (axes units : List Item) (cs : Item) (o : Option RefusedAt) → units ≡ [] → IsLeast (AnyOf (BadOwnUnit cs) axes) o → IsLeast (BadUnit axes units cs) o
 unit-none axes units cs o e h = let P : List Item → Type 0 = λ us. IsLeast (BadUnit axes us cs) o in subst P (sym e) h

@@ -1,19 +1,19 @@
 //! The checks of a compound CRS.
-ghost use Rattle.std.specs.Prelude.{◌↔◌, IsTrue, ◌≡◌};
+ghost use Rattle.std.specs.Prelude.{◌↔◌, IsTrue};
 ghost use Rattle.crs_text.specs.Items.{HasId, arguments};
 ghost use Rattle.crs_shape.specs.Shaped.{Shaped};
 ghost use Rattle.crs_value.specs.BadComponent.{IsNotEllipsoidal, IsNotPlane, IsNotHorizontal, BadComponent};
-ghost use Rattle.crs_value.specs.Break.{AnyOf, IsLeast, FirstIs};
+ghost use Rattle.crs_value.specs.Break.{AnyOf, IsLeast};
 ghost use Rattle.crs_value.specs.Checks.{OfCompound, once};
 ghost use Rattle.crs_value.specs.Cursor.{args, item};
 ghost use Rattle.crs_value.specs.RepeatedPart.{RepeatsAny};
-ghost use Rattle.crs_value.specs.Reading.{item_at, those, Requires, TakesOne};
-ghost use Rattle.crs_shape.specs.declared.class.Class.TheVariants as classes;
+ghost use Rattle.crs_value.specs.Reading.{item_at, Requires, TakesOne};
 
 use crate::checks::repeats::repeats_once;
 use crate::checks::system::type_of;
-use crate::checks::{Check, lesser, only_of, refusal_at};
+use crate::checks::{lesser, refusal_at};
 use crate::judging::rest::is_ascending;
+use crate::reading::arguments::first;
 use crate::reading::cursor::Cursor;
 use crate::reading::firsts::firsts_of;
 use crate::reading::node::{number, required};
@@ -55,39 +55,8 @@ fn is_not_horizontal(items: &Items<'_>, cs: ItemId, class: Class) -> bool
     }
 }
 
-// Whether a part of this class may not be the horizontal one.
-fn is_bad(items: &Items<'_>, id: ItemId, class: Class) -> bool
-    requires has { HasId items.now id }
-    requires shaped { Shaped class (item_at items.now id) }
-    requires there { Requires class Class.CoordinateSystem 0 }
-    ensures { IsTrue result ↔ FirstIs (IsNotHorizontal class) (those class Class.CoordinateSystem (arguments
-        (item_at items.now id))) }
-{
-    let cs = required(items, id, class, Class::CoordinateSystem);
-    is_not_horizontal(items, cs, class)
-}
-
-// 24: a part that is geodetic and not geographic, or whose dimension isn't 2.
-#[derive(Drop)]
-struct Component {
-    class: Class,
-}
-
-impl Check for Component {
-    ghost Fits = { λ s tree class. (class ≡ s.class) × Requires class classes.CoordinateSystem 0 };
-
-    ghost Broken = { λ s tree item f. BadComponent s.class item f };
-
-    fn check(&self, items: &Items<'_>, id: ItemId, _class: Class) -> Option<Refusal> {
-        if is_bad(items, id, self.class) {
-            Some(refusal_at(items, id, 24))
-        } else {
-            None
-        }
-    }
-}
-
-// The first bad part of this class. In line, the cursor needs no place in memory.
+// 24: a part of this class that is geodetic and not geographic, or whose dimension isn't 2. In line, the cursor needs no
+// place in memory.
 #[inline(always)]
 fn bad_part(node: &Cursor<'_, '_>, class: Class) -> Option<Refusal>
     requires shaped { Shaped node.now.class (item node.now) }
@@ -95,7 +64,15 @@ fn bad_part(node: &Cursor<'_, '_>, class: Class) -> Option<Refusal>
     requires once { TakesOne node.now.class class }
     ensures { IsLeast (AnyOf (BadComponent class) (args class node.now)) result }
 {
-    only_of(&Component { class }, node, class)
+    crs_shape::laws::slots_count();
+    let items = node.items;
+    let part = first(items, node.id, node.class, class)?;
+    let cs = required(items, part, class, Class::CoordinateSystem);
+    if is_not_horizontal(items, cs, class) {
+        Some(refusal_at(items, part, 24))
+    } else {
+        None
+    }
 }
 
 // What is repeated at the end of a compound CRS. Mostly it is seen at once that nothing is.

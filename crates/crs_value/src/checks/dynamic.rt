@@ -48,12 +48,3 @@ pub(crate) fn bad_dynamic(node: &Cursor<'_, '_>, dynamic: Option<ItemId>) -> Opt
         Class::Dynamic,
     )
 }
-
-// The same where the first dynamic part wasn't looked for yet.
-#[inline(always)]
-pub(crate) fn bad_dynamic_in(node: &Cursor<'_, '_>) -> Option<Refusal>
-    requires shaped { Shaped node.now.class (item node.now) }
-    ensures { IsLeast (BadDynamic node.now.class (item node.now)) result }
-{
-    bad_dynamic(node, first(node.items, node.id, node.class, Class::Dynamic))
-}

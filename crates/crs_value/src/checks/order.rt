@@ -5,14 +5,14 @@ ghost use Rattle.crs_shape.specs.Shaped.{Shaped};
 ghost use Rattle.crs_shape.specs.declared.class.Class.TheVariants as classes;
 ghost use Rattle.crs_value.specs.Cursor.{args, item};
 ghost use Rattle.crs_value.specs.BadOrder.{IsPosition, HasThis, OneHas, LacksOrder, SomeHasOrder, BadOrders};
-ghost use Rattle.crs_value.specs.BadOrder.{BadOrder, IsBadOrder};
+ghost use Rattle.crs_value.specs.BadOrder.{orders_in, BadOrder, IsBadOrder};
 ghost use Rattle.crs_value.specs.Break.{AnyOf, IsLeast};
 ghost use Rattle.crs_value.specs.FoundArguments.{from_found, AllShaped, AreInOrder, HasPlace};
 ghost use Rattle.crs_value.specs.FirstArguments.{AreFirsts};
-ghost use Rattle.crs_value.specs.Reading.{item_at, Holds, those, IsFound};
+ghost use Rattle.crs_value.specs.Reading.{item_at, Holds};
 
 use crate::checks::dynamic::has_some;
-use crate::checks::{Check, any_from, lesser, only_of, refusal_at};
+use crate::checks::{Check, any_from, lesser, refusal_at};
 use crate::reading::arguments::{first, later};
 use crate::reading::cursor::Cursor;
 use crate::reading::firsts::Firsts;
@@ -74,35 +74,32 @@ fn one_has(items: &Items<'_>, class: Class, axis: Option<ItemId>, k: usize, valu
     false
 }
 
-// 26: an order that is no position among the axes, or that one of the first `before` axes has.
-#[derive(Drop)]
-struct Position {
-    crs: ItemId,
-    class: Class,
-    axis: Option<ItemId>,
-    count: usize,
+// 26: an order of an axis that is no position among the axes, or that one of the first `before` axes has.
+fn wrong_order(
+    crs: &Cursor<'_, '_>,
+    firsts: &Firsts,
+    axis: ItemId,
     before: usize,
-}
-
-impl Check for Position {
-    ghost Fits = { λ s tree class. HasId tree s.crs × Shaped s.class (item_at tree s.crs) × (class ≡ classes.Order)
-        × IsFound tree s.class classes.Axis (those s.class classes.Axis (arguments (item_at tree s.crs))) s.axis
-        × (s.before ≤ length (those s.class classes.Axis (arguments (item_at tree s.crs)))) };
-
-    ghost Broken = { λ s tree item f. IsBadOrder s.count
-        (take s.before (those s.class classes.Axis (arguments (item_at tree s.crs)))) item f };
-
-    fn check(&self, items: &Items<'_>, id: ItemId, _class: Class) -> Option<Refusal> {
-        laws::denotes_one();
-        let value = number(items, id, Class::Order);
-        if !is_position(&value, self.count) {
-            return Some(refusal_at(items, id, 26));
-        }
-        if one_has(items, self.class, self.axis, self.before, &value) {
-            return Some(refusal_at(items, id, 26));
-        }
-        None
+) -> Option<Refusal>
+    requires shaped { Shaped crs.now.class (item crs.now) }
+    requires firsts { AreFirsts crs.now.items.now crs.now.class (arguments (item crs.now)) firsts.now }
+    requires axis { HasId crs.now.items.now axis × Shaped Class.Axis (item_at crs.now.items.now axis) }
+    requires within { before ≤ length (args Class.Axis crs.now) }
+    ensures { IsLeast (AnyOf (IsBadOrder firsts.now.axes (take before (args Class.Axis crs.now)))
+        (orders_in (item_at crs.now.items.now axis))) result }
+{
+    crs_shape::laws::slots_count();
+    laws::denotes_one();
+    let items = crs.items;
+    let order = first(items, axis, Class::Axis, Class::Order)?;
+    let value = number(items, order, Class::Order);
+    if !is_position(&value, firsts.axes) {
+        return Some(refusal_at(items, order, 26));
     }
+    if one_has(items, crs.class, firsts.axis, before, &value) {
+        return Some(refusal_at(items, order, 26));
+    }
+    None
 }
 
 // 26: an axis that lacks an order.
@@ -147,24 +144,11 @@ fn bad_orders(crs: &Cursor<'_, '_>, firsts: &Firsts) -> Option<Refusal>
     let items = crs.items;
     let class = crs.class;
     let _bound = items.arg_count(crs.id);
-    let count = firsts.axes;
     let mut before = 0;
     let mut least = None;
     let mut at = firsts.axis;
     while let Some(axis) = at {
-        let position = Position {
-            crs: crs.id,
-            class,
-            axis: firsts.axis,
-            count,
-            before,
-        };
-        let node = Cursor {
-            items,
-            id: axis,
-            class: Class::Axis,
-        };
-        least = lesser(least, only_of(&position, &node, Class::Order));
+        least = lesser(least, wrong_order(crs, firsts, axis, before));
         before += 1;
         at = later(items, axis, class, Class::Axis);
     }
@@ -219,19 +203,7 @@ pub(crate) fn bad_order(crs: &Cursor<'_, '_>, firsts: &Firsts) -> Option<Refusal
     }
     match any_from(&Orderless, items, firsts.axis, crs.class, Class::Axis) {
         None => bad_orders(crs, firsts),
-        Some(lacks) => beside(items, crs.class, firsts.axis, lacks),
-    }
-}
-
-// An axis, from this one on, that lacks an order counts beside one that has it.
-fn beside(items: &Items<'_>, class: Class, axis: Option<ItemId>, lacks: Refusal) -> Option<Refusal>
-    requires holds { Holds items.now axis }
-    requires lacks { IsLeast (AnyOf LacksOrder (from_found items.now class Class.Axis axis)) (Some lacks) }
-    ensures { IsLeast (BadOrder (from_found items.now class Class.Axis axis)) result }
-{
-    if some_has_order(items, class, axis) {
-        Some(lacks)
-    } else {
-        None
+        Some(lacks) if some_has_order(items, crs.class, firsts.axis) => Some(lacks),
+        Some(_) => None,
     }
 }

@@ -6,7 +6,7 @@ ghost use Rattle.crs_value.specs.Checks.{HasSystem, OfEllipsoid, Own};
 ghost use Rattle.crs_value.specs.Reading.{item_at, those};
 
 use crate::checks::component::compound;
-use crate::checks::dynamic::bad_dynamic_in;
+use crate::checks::dynamic::bad_dynamic;
 use crate::checks::repeats::repeated_anchors;
 use crate::checks::single::{AboveZero, NotNegative, UnknownDirection, UnknownType};
 use crate::checks::{Check, any_from, lesser, only_of};
@@ -44,7 +44,7 @@ pub(crate) fn own_of_part(items: &Items<'_>, id: ItemId, class: Class) -> Option
         Class::GeodeticCrs | Class::GeographicCrs | Class::ProjectedCrs | Class::VerticalCrs =>
             unreachable!(),
         Class::CompoundCrs => compound(items, id),
-        Class::BaseCrs => bad_dynamic_in(&node),
+        Class::BaseCrs => bad_dynamic(&node, first(items, id, class, Class::Dynamic)),
         Class::GeodeticFrame | Class::VerticalFrame => repeated_anchors(&node),
         Class::Ellipsoid => ellipsoid(items, id),
         Class::LengthUnit

@@ -4,19 +4,20 @@ ghost use Rattle.crs_text.specs.Items.{HasId, arguments};
 ghost use Rattle.crs_shape.specs.Shaped.{Shaped};
 ghost use Rattle.crs_shape.specs.declared.class.Class.TheVariants as classes;
 ghost use Rattle.crs_value.specs.Cursor.{args, item};
-ghost use Rattle.crs_value.specs.BadUnit.{Asks, Fits, AllAsk, SharedFits, BadShared, BadUnit, Misfits, BadOwnUnit};
-ghost use Rattle.crs_value.specs.BadUnit.{HasOwnUnit};
-ghost use Rattle.crs_value.specs.Break.{IsLeast};
-ghost use Rattle.crs_value.specs.Reading.{item_at, those, IsFound, IsReading, ReadsFirst};
+ghost use Rattle.crs_value.specs.BadUnit.{Asks, Fits, AllAsk, SharedFits, BadUnit, BadOwnUnit, HasOwnUnit};
+ghost use Rattle.crs_value.specs.Break.{AnyOf, IsLeast};
+ghost use Rattle.crs_value.specs.FirstArguments.{AreFirsts};
+ghost use Rattle.crs_value.specs.Reading.{item_at, those, IsReading, ReadsFirst, TakesOne};
 ghost use Rattle.crs_value.specs.Reads.{HasType, ReadsDirection, ReadsKind};
 
 use crate::checks::single::Refused;
 use crate::checks::system::type_of;
-use crate::checks::{Check, any_from, lesser, only_from, only_of, refusal_at};
+use crate::checks::{Check, any_from, lesser, only_of, refusal_at};
 use crate::reading::arguments::{first, later};
 use crate::reading::cursor::Cursor;
+use crate::reading::firsts::Firsts;
 use crate::reading::node::required;
-use crs_shape::{Class, Direction, SystemType, UnitKind};
+use crs_shape::{Class, Direction, SystemType, UnitKind, laws};
 use crs_text::{ItemId, Items, Refusal};
 
 // The direction of an axis; None where its word is no direction.
@@ -71,31 +72,6 @@ pub(crate) fn fits(items: &Items<'_>, unit: ItemId, kind: UnitKind) -> bool
     }
 }
 
-// 27: a unit on an axis that doesn't fit.
-#[derive(Drop)]
-pub(crate) struct Misfit {
-    cs: ItemId,
-    system_type: Option<SystemType>,
-    axis: ItemId,
-}
-
-impl Check for Misfit {
-    ghost Fits = { λ s tree class. HasId tree s.axis
-        × IsReading (HasType (item_at tree s.cs)) s.system_type
-        × Shaped classes.Axis (item_at tree s.axis) };
-
-    ghost Broken = { λ s tree item f. Misfits (item_at tree s.cs) (item_at tree s.axis) item f };
-
-    fn check(&self, items: &Items<'_>, id: ItemId, _class: Class) -> Option<Refusal> {
-        let kind = asked(items, self.cs, self.system_type, self.axis)?;
-        if fits(items, id, kind) {
-            None
-        } else {
-            Some(refusal_at(items, id, 27))
-        }
-    }
-}
-
 // 27: with no shared unit, an axis without a unit, or whose unit doesn't fit.
 #[derive(Drop)]
 struct OwnUnit {
@@ -110,17 +86,16 @@ impl Check for OwnUnit {
     ghost Broken = { λ s tree item f. BadOwnUnit (item_at tree s.cs) item f };
 
     fn check(&self, items: &Items<'_>, id: ItemId, _class: Class) -> Option<Refusal> {
+        laws::slots_count();
         let Some(unit) = first(items, id, Class::Axis, Class::AxisUnit) else {
             return Some(refusal_at(items, id, 27));
         };
-        let misfit = Misfit {
-            cs: self.cs,
-            system_type: self.system_type,
-            axis: id,
-        };
-        let class = Class::Axis;
-        let axis = Cursor { items, id, class };
-        only_from(&misfit, &axis, Class::AxisUnit, Some(unit))
+        let kind = asked(items, self.cs, self.system_type, id)?;
+        if fits(items, unit, kind) {
+            None
+        } else {
+            Some(refusal_at(items, unit, 27))
+        }
     }
 }
 
@@ -176,25 +151,6 @@ struct Sharing<'i, 'a> {
 }
 
 impl Sharing<'_, '_> {
-    // Whether all axes ask for this kind of unit.
-    fn all_ask(&self, kind: UnitKind) -> bool
-        requires system { IsReading (HasType (item_at self.now.crs.items.now self.now.cs)) self.now.system_type }
-        requires shaped { Shaped self.now.crs.class (item self.now.crs) }
-        ensures { IsTrue result ↔ AllAsk (item_at self.now.crs.items.now self.now.cs)
-            (args classes.Axis self.now.crs) kind }
-    {
-        let items = self.crs.items;
-        let class = self.crs.class;
-        let mut at = first(items, self.crs.id, class, Class::Axis);
-        while let Some(axis) = at {
-            if !asks(items, self.cs, self.system_type, axis, kind) {
-                return false;
-            }
-            at = later(items, axis, class, Class::Axis);
-        }
-        true
-    }
-
     // Whether a shared unit fits all axes as one of this kind.
     fn fits_as(&self, unit: ItemId, kind: UnitKind) -> bool
         requires unit { HasId self.now.crs.items.now unit }
@@ -206,7 +162,18 @@ impl Sharing<'_, '_> {
     {
         // Mostly the unit says its kind, which is asked first: then the axes are asked for that kind alone.
         let items = self.crs.items;
-        fits(items, unit, kind) && self.all_ask(kind)
+        if !fits(items, unit, kind) {
+            return false;
+        }
+        let class = self.crs.class;
+        let mut at = first(items, self.crs.id, class, Class::Axis);
+        while let Some(axis) = at {
+            if !asks(items, self.cs, self.system_type, axis, kind) {
+                return false;
+            }
+            at = later(items, axis, class, Class::Axis);
+        }
+        true
     }
 
     fn fits(&self, unit: ItemId) -> bool
@@ -221,55 +188,34 @@ impl Sharing<'_, '_> {
             || self.fits_as(unit, UnitKind::Scale)
             || self.fits_as(unit, UnitKind::Plain)
     }
-
-    // 27: a shared unit that doesn't fit.
-    fn bad(&self, unit: ItemId) -> Option<Refusal>
-        requires unit { HasId self.now.crs.items.now unit }
-        requires system { IsReading (HasType (item_at self.now.crs.items.now self.now.cs)) self.now.system_type }
-        requires shaped { Shaped self.now.crs.class (item self.now.crs) }
-        ensures { IsLeast (BadShared (item_at self.now.crs.items.now self.now.cs) (args classes.Axis self.now.crs)
-            (item_at self.now.crs.items.now unit)) result }
-    {
-        let items = self.crs.items;
-        if self.fits(unit) {
-            None
-        } else {
-            Some(refusal_at(items, unit, 27))
-        }
-    }
 }
 
 // 27: a unit that is missing, doesn't fit, or is beside a shared one.
-pub(crate) fn bad_unit(
-    crs: &Cursor<'_, '_>,
-    cs: ItemId,
-    axis: Option<ItemId>,
-    unit: Option<ItemId>,
-) -> Option<Refusal>
-    requires cs { HasId crs.now.items.now cs }
-    requires system { Shaped Class.CoordinateSystem (item_at crs.now.items.now cs) }
+pub(crate) fn bad_unit(crs: &Cursor<'_, '_>, firsts: &Firsts) -> Option<Refusal>
     requires shaped { Shaped crs.now.class (item crs.now) }
-    requires axis { IsFound crs.now.items.now crs.now.class Class.Axis (args Class.Axis crs.now) axis }
-    requires unit { IsFound crs.now.items.now crs.now.class Class.AxisUnit (args Class.AxisUnit crs.now) unit }
-    ensures { IsLeast (BadUnit (args Class.Axis crs.now) (args Class.AxisUnit crs.now)
-        (item_at crs.now.items.now cs)) result }
+    requires once { TakesOne crs.now.class Class.CoordinateSystem }
+    requires firsts { AreFirsts crs.now.items.now crs.now.class (arguments (item crs.now)) firsts.now }
+    ensures { IsLeast (AnyOf (BadUnit (args Class.Axis crs.now) (args Class.AxisUnit crs.now))
+        (args Class.CoordinateSystem crs.now)) result }
 {
-    let items = crs.items;
+    laws::slots_count();
+    let Some(cs) = firsts.system else { return None };
+    let (items, id, class) = (crs.items, crs.id, crs.class);
     let system_type = type_of(items, cs);
-    let Some(unit) = unit else {
+    let Some(unit) = firsts.unit else {
         let own = OwnUnit { cs, system_type };
-        return any_from(&own, items, axis, crs.class, Class::Axis);
+        return any_from(&own, items, firsts.axis, class, Class::Axis);
     };
-    let id = crs.id;
-    let class = crs.class;
+    let beside = any_from(&NoUnit, items, firsts.axis, class, Class::Axis);
     let crs = Cursor { items, id, class };
     let sharing = Sharing {
         crs,
         cs,
         system_type,
     };
-    lesser(
-        any_from(&NoUnit, items, axis, class, Class::Axis),
-        sharing.bad(unit),
-    )
+    if sharing.fits(unit) {
+        beside
+    } else {
+        lesser(beside, Some(refusal_at(items, unit, 27)))
+    }
 }

@@ -18,4 +18,4 @@ returns c =
     let axes = those node.class class.Axis items in
     let units = those node.class class.AxisUnit items in
     either-is (OfAxes systems axes units) (BadDynamic node.class (item node)) _ _ _ c.lesser.ensures
-    (either-is (BadOrder axes) (AnyOf (BadUnit axes units) systems) _ _ _ c.lesser-axes.ensures c.bad_order.ensures c.only_from.ensures) c.bad_dynamic.ensures
+    (either-is (BadOrder axes) (AnyOf (BadUnit axes units) systems) _ _ _ c.lesser-axes.ensures c.bad_order.ensures c.bad_unit.ensures) c.bad_dynamic.ensures

@@ -1,4 +1,4 @@
-use Rattle.std.proofs.Common.{ℕ, ◌⊎◌, subst}
+use Rattle.std.proofs.Common.{ℕ, ◌⊎◌, sym, subst}
 use Rattle.crs_text.specs.Prelude.{arguments}
 use Rattle.crs_shape.specs.declared.class.Class.TheVariants as class
 use Rattle.crs_shape.specs.Prelude.{dimensions_of}
@@ -8,15 +8,36 @@ use Rattle.crs_value.specs.BadSystem.{BadSystem}
 use Rattle.crs_value.specs.Break.{AnyOf, IsLeast}
 use Rattle.crs_value.specs.Checks.{OfHead, once}
 use Rattle.crs_value.specs.RepeatedPart.{RepeatsAny}
-use Rattle.crs_value.specs.Reading.{those}
-use Rattle.crs_value.proofs.checked.LeastLemmas.{either-is}
+use Rattle.crs_value.specs.Reading.{item_at, those}
+use Rattle.crs_value.proofs.found.ArgumentLemmas.{first-shaped}
+use Rattle.crs_value.proofs.checked.CheckLemmas.{none-of, only-of}
+use Rattle.crs_value.proofs.checked.LeastLemmas.{either-is, lesser-none}
 use Rattle.crs_value.proofs.checks.crs.of_head.Goals as goal
+
+pub returns-in_default : goal.returns-in_default
+returns-in_default c =
+    let node = c.args.node.now in
+    let items = arguments (item node) in
+    let Head = OfHead (dimensions_of node.class) (those node.class class.Axis items) in
+    let systems = those node.class class.CoordinateSystem items in
+    either-is (RepeatsAny node.class items once) (AnyOf Head systems) _ _ _ (sym (lesser-none _)) c.repeats_once-repeated.ensures
+    (none-of Head systems (rw c.in_default.is at c.requires.firsts.system))
+
+pub number-dimension-requires-clause-shaped : goal.number-dimension-requires-clause-shaped
+number-dimension-requires-clause-shaped c = first-shaped _ _ _ _ c.in-Some.cs c.requires.shaped (rw c.in-Some.is at c.requires.firsts.system)
+
+pub bad_system-system-requires-clause-shaped : goal.bad_system-system-requires-clause-shaped
+bad_system-system-requires-clause-shaped c = first-shaped _ _ _ _ c.in-Some.cs c.requires.shaped (rw c.in-Some.is at c.requires.firsts.system)
 
 pub returns : goal.returns
 returns c =
-    let items = arguments (item c.args.node.now) in
-    let systems = those c.args.node.now.class class.CoordinateSystem items in
-    let axes = those c.args.node.now.class class.Axis items in
-    let Head : ℕ → Type 0 = λ n. IsLeast (AnyOf (λ cs f. BadSystem (dimensions_of c.args.node.now.class) cs f ⊎ AxisCount n cs f) systems) c.only_from.result in
-    either-is (RepeatsAny c.args.node.now.class items once) (AnyOf (OfHead (dimensions_of c.args.node.now.class) axes) systems) _ _ _ c.lesser.ensures c.repeats_once.ensures
-    (subst Head c.requires.firsts.axes c.only_from.ensures)
+    let node = c.args.node.now in
+    let items = arguments (item node) in
+    let Head = OfHead (dimensions_of node.class) (those node.class class.Axis items) in
+    let systems = those node.class class.CoordinateSystem items in
+    let cs = item_at node.items.now c.in-Some.cs in
+    let Counted : ℕ → Type 0 = λ n. IsLeast (λ f. BadSystem (dimensions_of node.class) cs f ⊎ AxisCount n cs f) c.lesser.result in
+    either-is (RepeatsAny node.class items once) (AnyOf Head systems) _ _ _ c.lesser-2.ensures c.repeats_once-repeated.ensures
+    (only-of c.slots_count.ensures.most Head node.items.now (item node) node.class class.CoordinateSystem c.in-Some.cs _ c.requires.once c.requires.shaped (rw c.in-Some.is at c.requires.firsts.system)
+    (subst Counted c.requires.firsts.axes
+    (either-is (BadSystem (dimensions_of node.class) cs) (AxisCount c.args.firsts.now.axes cs) _ _ _ c.lesser.ensures c.bad_system-system.ensures c.bad_count-count.ensures)))

@@ -11,8 +11,8 @@ loop-at-init c = ordering-first _ _ (item c.args.crs.now) c.args.firsts.now.axes
 
 pub loop-at-preserved : goal.loop-at-preserved
 loop-at-preserved c =
-    ordering-on _ _ _ c.args.firsts.now.axes c.loop-at.before c.loop-at.least c.only_of.result c.lesser-least.result c.in-Some.axis c.later-at.result
-    (rw c.in-Some.is at c.loop-at.invariant) c.only_of.ensures c.lesser-least.ensures c.later-at.ensures
+    ordering-on _ _ _ c.args.firsts.now.axes c.loop-at.before c.loop-at.least c.wrong_order.result c.lesser-least.result c.in-Some.axis c.later-at.result
+    (rw c.in-Some.is at c.loop-at.invariant) c.wrong_order.ensures c.lesser-least.ensures c.later-at.ensures
 
 pub overflow_add-before : goal.overflow_add-before
 overflow_add-before c =

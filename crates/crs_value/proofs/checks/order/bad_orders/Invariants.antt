@@ -8,7 +8,7 @@ use Rattle.crs_value.proofs.checked.OrderLemmas.{Ordering}
 use Rattle.crs_value.proofs.checks.order.bad_orders.Given as goal
 
 abbrev pub invariant-loop-at : goal.invariant-loop-at
-invariant-loop-at l = Ordering l.items l.class (those l.class class.Axis (arguments (item l.crs))) l.count l.before l.least l.at
+invariant-loop-at l = Ordering l.items l.class (those l.class class.Axis (arguments (item l.crs))) l.firsts.axes l.before l.least l.at
 
 abbrev pub decreases-loop-at : goal.decreases-loop-at
 decreases-loop-at l = length (from_found l.items l.class class.Axis l.at)

@@ -4,7 +4,7 @@ use Rattle.crs_value.specs.Cursor.{args}
 use Rattle.crs_value.specs.FoundArguments.{from_found}
 use Rattle.crs_value.specs.Reading.{item_at}
 use Rattle.crs_value.proofs.checked.UnitLemmas.{Asking}
-use Rattle.crs_value.proofs.checks.unit.Sharing.all_ask.Given as goal
+use Rattle.crs_value.proofs.checks.unit.Sharing.fits_as.Given as goal
 
 abbrev pub invariant-loop-at : goal.invariant-loop-at
 invariant-loop-at l = Asking l.items l.class (item_at l.items l.self.cs) (args class.Axis l.self.crs) l.kind l.at

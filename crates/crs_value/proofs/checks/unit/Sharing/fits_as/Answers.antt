@@ -1,7 +1,7 @@
 use Rattle.crs_value.specs.Cursor.{item}
 use Rattle.crs_value.specs.Reading.{item_at}
 use Rattle.crs_value.proofs.checked.UnitLemmas.{asking-first}
-use Rattle.crs_value.proofs.checks.unit.Sharing.all_ask.Goals as goal
+use Rattle.crs_value.proofs.checks.unit.Sharing.fits_as.Goals as goal
 
 pub loop-at-init : goal.loop-at-init
 loop-at-init c =
