@@ -1,5 +1,12 @@
-//! The values of nodes, each with its reading. Their drops are written by hand: a derived drop is expanded wherever a
-//! value is dropped, which slows the proofs.
+//! The values of nodes, each with its reading.
+
+// Ends a drop by hand: the value goes, part by part. A derived drop is expanded wherever a value is dropped, which slows
+// the proofs.
+macro_rules! let_go {
+    ($whole:ident: $kind:ident { $($part:ident),* }) => {
+        let $kind { $($part: _),* } = $whole;
+    };
+}
 
 pub(crate) mod compound;
 pub(crate) mod conversion;

@@ -60,12 +60,7 @@ impl<'a> Model for Compound<'a> {
 
 impl Drop for Compound<'_> {
     fn drop(self) {
-        let Compound {
-            name: _,
-            horizontal: _,
-            vertical: _,
-            tail: _,
-        } = self;
+        let_go!(self: Compound { name, horizontal, vertical, tail });
     }
 }
 

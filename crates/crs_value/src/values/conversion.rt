@@ -47,12 +47,7 @@ impl<'a> Model for Conversion<'a> {
 
 impl Drop for Conversion<'_> {
     fn drop(self) {
-        let Conversion {
-            name: _,
-            method: _,
-            parameters: _,
-            identifiers: _,
-        } = self;
+        let_go!(self: Conversion { name, method, parameters, identifiers });
     }
 }
 

@@ -93,13 +93,7 @@ impl<'a> Model for Datum<'a> {
 
 impl Drop for Datum<'_> {
     fn drop(self) {
-        let Datum {
-            name: _,
-            ellipsoid: _,
-            anchor: _,
-            anchor_epoch: _,
-            identifiers: _,
-        } = self;
+        let_go!(self: Datum { name, ellipsoid, anchor, anchor_epoch, identifiers });
     }
 }
 
@@ -150,13 +144,7 @@ impl<'a> Model for Ensemble<'a> {
 
 impl Drop for Ensemble<'_> {
     fn drop(self) {
-        let Ensemble {
-            name: _,
-            members: _,
-            ellipsoid: _,
-            accuracy: _,
-            identifiers: _,
-        } = self;
+        let_go!(self: Ensemble { name, members, ellipsoid, accuracy, identifiers });
     }
 }
 

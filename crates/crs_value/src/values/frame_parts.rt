@@ -123,7 +123,7 @@ impl<'a> Model for Dynamic<'a> {
 
 impl Drop for Dynamic<'_> {
     fn drop(self) {
-        let Dynamic { epoch: _, model: _ } = self;
+        let_go!(self: Dynamic { epoch, model });
     }
 }
 

@@ -45,10 +45,7 @@ impl<T> Model for List<T> {
 
 impl<T: Drop> Drop for List<T> {
     fn drop(self) {
-        let List {
-            members: _,
-            lookup: _,
-        } = self;
+        let_go!(self: List { members, lookup });
     }
 }
 

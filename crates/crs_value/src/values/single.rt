@@ -60,14 +60,7 @@ impl<'a> Model for Geodetic<'a> {
 
 impl Drop for Geodetic<'_> {
     fn drop(self) {
-        let Geodetic {
-            name: _,
-            dynamic: _,
-            frame: _,
-            meridian: _,
-            system: _,
-            tail: _,
-        } = self;
+        let_go!(self: Geodetic { name, dynamic, frame, meridian, system, tail });
     }
 }
 
@@ -126,13 +119,7 @@ impl<'a> Model for Projected<'a> {
 
 impl Drop for Projected<'_> {
     fn drop(self) {
-        let Projected {
-            name: _,
-            base: _,
-            conversion: _,
-            system: _,
-            tail: _,
-        } = self;
+        let_go!(self: Projected { name, base, conversion, system, tail });
     }
 }
 
@@ -173,14 +160,7 @@ impl<'a> Model for Base<'a> {
 
 impl Drop for Base<'_> {
     fn drop(self) {
-        let Base {
-            name: _,
-            dynamic: _,
-            frame: _,
-            meridian: _,
-            unit: _,
-            identifiers: _,
-        } = self;
+        let_go!(self: Base { name, dynamic, frame, meridian, unit, identifiers });
     }
 }
 
@@ -257,14 +237,7 @@ impl<'a> Model for Vertical<'a> {
 
 impl Drop for Vertical<'_> {
     fn drop(self) {
-        let Vertical {
-            name: _,
-            dynamic: _,
-            frame: _,
-            system: _,
-            geoid_models: _,
-            tail: _,
-        } = self;
+        let_go!(self: Vertical { name, dynamic, frame, system, geoid_models, tail });
     }
 }
 

@@ -108,14 +108,7 @@ impl<'a> Model for Axis<'a> {
 
 impl Drop for Axis<'_> {
     fn drop(self) {
-        let Axis {
-            name: _,
-            direction: _,
-            meridian: _,
-            order: _,
-            unit: _,
-            identifiers: _,
-        } = self;
+        let_go!(self: Axis { name, direction, meridian, order, unit, identifiers });
     }
 }
 
@@ -217,13 +210,7 @@ impl<'a> Model for System<'a> {
 
 impl Drop for System<'_> {
     fn drop(self) {
-        let System {
-            system_type: _,
-            dimension: _,
-            identifiers: _,
-            axes: _,
-            unit: _,
-        } = self;
+        let_go!(self: System { system_type, dimension, identifiers, axes, unit });
     }
 }
 

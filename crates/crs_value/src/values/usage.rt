@@ -52,12 +52,7 @@ impl<'a> Model for Usage<'a> {
 
 impl Drop for Usage<'_> {
     fn drop(self) {
-        let Usage {
-            scope: _,
-            area: _,
-            bbox: _,
-            extent: _,
-        } = self;
+        let_go!(self: Usage { scope, area, bbox, extent });
     }
 }
 
@@ -125,12 +120,7 @@ impl<'a> Model for Tail<'a> {
 
 impl Drop for Tail<'_> {
     fn drop(self) {
-        let Tail {
-            usages: _,
-            bare_parts: _,
-            identifiers: _,
-            remark: _,
-        } = self;
+        let_go!(self: Tail { usages, bare_parts, identifiers, remark });
     }
 }
 
