@@ -10,9 +10,9 @@ ghost use Rattle.crs_value.specs.declared.values.crs.Crs.{Crs};
 
 use crate::reading::cursor::Cursor;
 use crate::reading::node::Node;
-use crate::values::compound::Compound;
-use crate::values::single::{Geodetic, Projected, Vertical, read_geodetic};
+use crate::values::single::read_geodetic;
 use crate::values::system::system_type_of;
+use crate::{Compound, Geodetic, Projected, Vertical};
 use crs_shape::{Class, SystemType};
 use crs_text::Fault;
 use std::alloc::Global;

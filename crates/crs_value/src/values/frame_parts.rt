@@ -14,9 +14,7 @@ ghost use Rattle.crs_shape.specs.declared.class.Class.TheVariants as classes;
 
 use crate::reading::cursor::Cursor;
 use crate::reading::node::Node;
-use crate::values::ident::Ident;
-use crate::values::list::List;
-use crate::values::system::Unit;
+use crate::{Ident, List, Unit};
 use crs_decimal::Decimal;
 use crs_shape::{Class, laws};
 use std::alloc::{AllocError, Global};

@@ -11,10 +11,10 @@ ghost use Rattle.crs_value.specs.Reads.{ReadsText, single_of, ReadsIdent};
 ghost use Rattle.crs_value.specs.Sound.{IsIdent};
 ghost use Rattle.crs_value.specs.Values.{IdentParts};
 
+use crate::Level;
 use crate::reading::cursor::Cursor;
 use crate::reading::node::Node;
 use crate::values::key::{Keyed, Places, key_of_ident};
-use crate::values::level::Level;
 use crs_shape::Class;
 use crs_text::ItemKind;
 use std::alloc::{AllocError, Global};

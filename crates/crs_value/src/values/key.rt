@@ -4,11 +4,8 @@
 ghost use Rattle.std.specs.Prelude.{IfOk, IfSome};
 ghost use Rattle.crs_value.specs.Members.{HaveSameMembers};
 
-use crate::values::ident::Ident;
-use crate::values::level::Level;
-use crate::values::list::{FEW, List};
-use crate::values::system::Unit;
-use crate::values::usage::{BoundingBox, Extent};
+use crate::values::list::FEW;
+use crate::{BoundingBox, Extent, Ident, Level, List, Unit};
 use crs_decimal::Decimal;
 use crs_shape::UnitKind;
 use std::alloc::{AllocError, Global};
