@@ -90,12 +90,10 @@ impl<'a> Node<'a> for Ident<'a> {
 }
 
 impl Keyed for Ident<'_> {
+    const HAS_TWO_KEYS: bool = false;
+
     fn key(&self, _level: Level) -> u128 {
         key_of_ident(self)
-    }
-
-    fn has_two_keys() -> bool {
-        false
     }
 
     fn once(

@@ -17,9 +17,7 @@ pub(crate) trait Keyed: Sized {
     fn key(&self, level: Level) -> u128;
 
     // Whether the keys of the levels differ, where the values count at both.
-    fn has_two_keys() -> bool {
-        true
-    }
+    const HAS_TWO_KEYS: bool = true;
 
     // These members, each once, if some are repeated; None for all but identifiers, which other members of sets have.
     fn once(
@@ -121,7 +119,7 @@ impl Key {
                 self.put(UnitKind::Length as u64);
                 self.put_text(b"metre");
                 self.put_parts(false, 1, 0);
-                self.put_wide(SetKey::new().finish());
+                self.put_wide(key_of_set(&[]));
             }
         }
     }
@@ -144,38 +142,23 @@ impl Key {
     // The identifiers that the level keeps, in any order and however often.
     pub(crate) fn put_idents(&mut self, idents: &List<Ident<'_>>, level: Level) {
         match level {
-            Level::Full => self.put_wide(key_of_set(idents)),
+            Level::Full => self.put_wide(key_of_idents(idents)),
             Level::Definition => {}
         }
     }
 }
 
-// The key of a set, to which the keys of its members are given in order.
-#[derive(Drop)]
-pub(crate) struct SetKey {
-    key: Key,
-    last: Option<u128>,
-}
-
-impl SetKey {
-    pub(crate) fn new() -> SetKey {
-        SetKey {
-            key: Key::new(),
-            last: None,
+// The key of a set whose members have these keys, in order: one that follows itself counts once.
+fn key_of_set(sorted: &[(u128, usize)]) -> u128 {
+    let mut key = Key::new();
+    let mut last = None;
+    for entry in sorted {
+        if last != Some(entry.0) {
+            key.put_wide(entry.0);
+            last = Some(entry.0);
         }
     }
-
-    // A key that follows itself is given once.
-    pub(crate) fn put(&mut self, key: u128) {
-        if self.last != Some(key) {
-            self.key.put_wide(key);
-            self.last = Some(key);
-        }
-    }
-
-    pub(crate) fn finish(&self) -> u128 {
-        self.key.finish()
-    }
+    key.finish()
 }
 
 // Of what has a name and identifiers.
@@ -196,25 +179,21 @@ pub(crate) fn key_of_ident(ident: &Ident<'_>) -> u128 {
     key.finish()
 }
 
-fn key_of_set(idents: &List<Ident<'_>>) -> u128 {
+fn key_of_idents(idents: &List<Ident<'_>>) -> u128 {
     match idents.places(Level::Full) {
-        Some(places) => places.key_of_set(),
+        Some(places) => key_of_set(&places.sorted),
         None => key_of_few(idents.as_slice()),
     }
 }
 
 fn key_of_few(idents: &[Ident<'_>]) -> u128 {
-    let mut keys = [0; FEW];
-    for (key, ident) in keys.iter_mut().zip(idents) {
-        *key = key_of_ident(ident);
+    let mut entries = [(0, 0); FEW];
+    for (entry, ident) in entries.iter_mut().zip(idents) {
+        entry.0 = key_of_ident(ident);
     }
-    let keys = &mut keys[..idents.len().min(FEW)];
-    keys.sort_unstable();
-    let mut set = SetKey::new();
-    for key in keys {
-        set.put(*key);
-    }
-    set.finish()
+    let entries = &mut entries[..idents.len().min(FEW)];
+    entries.sort_unstable();
+    key_of_set(entries)
 }
 
 // A place that no list has.
@@ -246,25 +225,9 @@ impl Places {
         Ok(Places { keys, sorted })
     }
 
-    pub(crate) fn key_of_set(&self) -> u128 {
-        let mut key = SetKey::new();
-        for entry in &self.sorted {
-            key.put(entry.0);
-        }
-        key.finish()
-    }
-
     // How many keys there are.
     pub(crate) fn count_of_keys(&self) -> usize {
-        let mut count: usize = 0;
-        let mut last = None;
-        for entry in &self.sorted {
-            if last != Some(entry.0) {
-                count = count.saturating_add(1);
-                last = Some(entry.0);
-            }
-        }
-        count
+        self.sorted.chunk_by(|a, b| a.0 == b.0).count()
     }
 
     pub(crate) fn are_some_repeated(&self) -> bool {

@@ -195,7 +195,7 @@ fn lookup_of<T: Keyed + Drop>(
 fn places_of<T: Keyed>(alloc: Global, members: &[T]) -> Result<Vec<Places>, AllocError> {
     let mut places = Vec::new(alloc);
     places.push(Places::of(alloc, members, Level::Full)?)?;
-    if T::has_two_keys() {
+    if T::HAS_TWO_KEYS {
         places.push(Places::of(alloc, members, Level::Definition)?)?;
     }
     Ok(places)

@@ -167,6 +167,8 @@ impl<'a> Node<'a> for Usage<'a> {
 }
 
 impl Keyed for Usage<'_> {
+    const HAS_TWO_KEYS: bool = false;
+
     fn key(&self, _level: Level) -> u128 {
         let mut key = Key::new();
         key.put_optional_text(self.scope);
@@ -174,10 +176,6 @@ impl Keyed for Usage<'_> {
         key.put_box(&self.bbox);
         key.put_extent(&self.extent);
         key.finish()
-    }
-
-    fn has_two_keys() -> bool {
-        false
     }
 }
 
