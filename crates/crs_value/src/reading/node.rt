@@ -2,6 +2,7 @@
 ghost use Rattle.std.specs.Prelude.{◌≡◌, ◌-◌, ◌≤◌, ◌⊎◌, IfOk, IfSome, Some, [], ◌∷◌};
 ghost use Rattle.crs_text.specs.Items.{Item, arguments, raw_of, HasId};
 ghost use Rattle.crs_shape.specs.declared.class.Class.{Class};
+ghost use Rattle.crs_shape.specs.declared.class.Class.TheVariants as classes;
 ghost use Rattle.crs_shape.specs.Shaped.{Shaped};
 ghost use Rattle.crs_value.specs.Checks.{IsSound};
 ghost use Rattle.crs_value.specs.Cursor.{item};
@@ -18,7 +19,7 @@ use std::alloc::{AllocError, Global};
 
 // A value that is read from a node of some classes.
 pub(crate) trait Node<'a>: Sized + Drop {
-    ghost Suits: { Class → Type 0 };
+    ghost Suits: { Class → Type 0 } = { λ c. Requires c classes.Text 0 };
 
     ghost Reads: { Class → Item → Self → Type 0 };
 

@@ -8,7 +8,6 @@ ghost use Rattle.crs_value.specs.ConversionValues.{ConversionParts, ParameterPar
 ghost use Rattle.crs_value.specs.SoundConversion.{IsConversion, IsParameter};
 ghost use Rattle.crs_value.specs.NamedValues.{NamedParts};
 ghost use Rattle.crs_value.specs.Sound.{IsNamed};
-ghost use Rattle.crs_value.specs.Reading.{Requires};
 ghost use Rattle.crs_value.specs.ReadsNamed.{ReadsNamed};
 
 use crate::reading::arguments::first;
@@ -125,8 +124,6 @@ impl<'a> Node<'a> for Conversion<'a> {
 }
 
 impl<'a> Node<'a> for Method<'a> {
-    ghost Suits = { λ c. Requires c classes.Text 0 };
-
     ghost Reads = { λ c item parts. ReadsNamed c item parts };
 
     fn read(alloc: Global, node: &Cursor<'_, 'a>) -> Result<Self, AllocError> {

@@ -188,8 +188,6 @@ impl<'a> Model for Member<'a> {
 }
 
 impl<'a> Node<'a> for Datum<'a> {
-    ghost Suits = { λ c. Requires c classes.Text 0 };
-
     ghost Reads = { λ c item parts. ReadsDatum c item parts };
 
     fn read(alloc: Global, node: &Cursor<'_, 'a>) -> Result<Self, AllocError> {
@@ -222,8 +220,6 @@ impl<'a> Node<'a> for Ensemble<'a> {
 }
 
 impl<'a> Node<'a> for Member<'a> {
-    ghost Suits = { λ c. Requires c classes.Text 0 };
-
     ghost Reads = { λ c item parts. ReadsNamed c item parts };
 
     fn read(alloc: Global, node: &Cursor<'_, 'a>) -> Result<Self, AllocError> {

@@ -157,8 +157,6 @@ impl<'a> Node<'a> for Dynamic<'a> {
 }
 
 impl<'a> Node<'a> for DeformationModel<'a> {
-    ghost Suits = { λ c. Requires c classes.Text 0 };
-
     ghost Reads = { λ c item parts. ReadsNamed c item parts };
 
     fn read(alloc: Global, node: &Cursor<'_, 'a>) -> Result<Self, AllocError> {

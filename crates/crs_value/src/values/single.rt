@@ -2,7 +2,6 @@
 ghost use Rattle.std.specs.Prelude.{◌≡◌, IfOk};
 ghost use Rattle.crs_value.specs.Cursor.{item};
 ghost use Rattle.crs_value.specs.Checks.{IsSound};
-ghost use Rattle.crs_value.specs.Reading.{Requires};
 ghost use Rattle.crs_value.specs.ReadsCrs.{IsGeodeticClass, ReadsBase, ReadsGeodetic, ReadsProjected, ReadsVertical};
 ghost use Rattle.crs_value.specs.ReadsNamed.{ReadsNamed};
 ghost use Rattle.crs_shape.specs.declared.class.Class.TheVariants as classes;
@@ -277,8 +276,6 @@ impl<'a> Node<'a> for Vertical<'a> {
 }
 
 impl<'a> Node<'a> for GeoidModel<'a> {
-    ghost Suits = { λ c. Requires c classes.Text 0 };
-
     ghost Reads = { λ c item parts. ReadsNamed c item parts };
 
     fn read(alloc: Global, node: &Cursor<'_, 'a>) -> Result<Self, AllocError> {
