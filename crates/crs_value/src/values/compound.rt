@@ -9,7 +9,6 @@ use crate::reading::arguments::first;
 use crate::reading::cursor::Cursor;
 use crate::reading::firsts::firsts_of;
 use crate::reading::node::Node;
-use crate::values::single::read_geodetic;
 use crate::values::usage::read_tail;
 use crate::{Geodetic, Projected, Tail, Vertical};
 use crs_shape::{Class, laws};
@@ -74,11 +73,11 @@ fn read_horizontal<'a>(alloc: Global, node: &Cursor<'_, 'a>) -> Result<Horizonta
     let items = node.items;
     let class = Class::GeodeticCrs;
     if let Some(id) = first(items, node.id, Class::CompoundCrs, class) {
-        return read_geodetic(alloc, &Cursor { items, id, class }).map(Horizontal::Geodetic);
+        return Geodetic::read(alloc, &Cursor { items, id, class }).map(Horizontal::Geodetic);
     }
     let class = Class::GeographicCrs;
     if let Some(id) = first(items, node.id, Class::CompoundCrs, class) {
-        return read_geodetic(alloc, &Cursor { items, id, class }).map(Horizontal::Geodetic);
+        return Geodetic::read(alloc, &Cursor { items, id, class }).map(Horizontal::Geodetic);
     }
     let class = Class::ProjectedCrs;
     let Some(id) = first(items, node.id, Class::CompoundCrs, class) else {

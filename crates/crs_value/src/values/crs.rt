@@ -10,7 +10,6 @@ ghost use Rattle.crs_value.specs.declared.values.crs.Crs.{Crs};
 
 use crate::reading::cursor::Cursor;
 use crate::reading::node::Node;
-use crate::values::single::read_geodetic;
 use crate::values::system::system_type_of;
 use crate::{Compound, Geodetic, Projected, Vertical};
 use crs_shape::{Class, SystemType};
@@ -83,7 +82,7 @@ fn geodetic<'a>(alloc: Global, node: &Cursor<'_, 'a>) -> Result<Crs<'a>, Fault>
     requires class { IsGeodeticClass node.now.class }
     ensures { MatchResult result (ReadsCrs node.now.class (item node.now)) (IsFaultOf node.now.items.now) }
 {
-    match read_geodetic(alloc, node) {
+    match Geodetic::read(alloc, node) {
         Ok(value) => Ok(Crs::Geodetic(value)),
         Err(error) => Err(Fault::Memory(error)),
     }

@@ -1,7 +1,5 @@
 //! Single CRSs: geodetic, projected and vertical ones, with base CRSs and geoid models.
-ghost use Rattle.std.specs.Prelude.{◌≡◌, IfOk};
-ghost use Rattle.crs_value.specs.Cursor.{item};
-ghost use Rattle.crs_value.specs.Checks.{IsSound};
+ghost use Rattle.std.specs.Prelude.{◌≡◌};
 ghost use Rattle.crs_value.specs.ReadsCrs.{IsGeodeticClass, ReadsBase, ReadsGeodetic, ReadsProjected, ReadsVertical};
 ghost use Rattle.crs_value.specs.ReadsNamed.{ReadsNamed};
 ghost use Rattle.crs_shape.specs.declared.class.Class.TheVariants as classes;
@@ -59,25 +57,23 @@ impl Drop for Geodetic<'_> {
     }
 }
 
-// The value of a geodetic or geographic CRS.
-pub(crate) fn read_geodetic<'a>(
-    alloc: Global,
-    node: &Cursor<'_, 'a>,
-) -> Result<Geodetic<'a>, AllocError>
-    requires sound { IsSound node.now.class (item node.now) }
-    requires class { IsGeodeticClass node.now.class }
-    ensures { IfOk result (λ value. ReadsGeodetic node.now.class (item node.now) value) }
-{
-    laws::slots_count();
-    let firsts = firsts_of(node.items, node.id, node.class);
-    Ok(Geodetic {
-        name: node.text(),
-        dynamic: node.optional_from(alloc, Class::Dynamic, firsts.dynamic)?,
-        frame: read_frame(alloc, node, Class::GeodeticFrame, Class::GeodeticEnsemble)?,
-        meridian: node.optional(alloc, Class::PrimeMeridian)?,
-        system: read_system(alloc, node, &firsts)?,
-        tail: read_tail(alloc, node, &firsts)?,
-    })
+impl<'a> Node<'a> for Geodetic<'a> {
+    ghost Suits = { λ c. IsGeodeticClass c };
+
+    ghost Reads = { λ c item parts. ReadsGeodetic c item parts };
+
+    fn read(alloc: Global, node: &Cursor<'_, 'a>) -> Result<Self, AllocError> {
+        laws::slots_count();
+        let firsts = firsts_of(node.items, node.id, node.class);
+        Ok(Geodetic {
+            name: node.text(),
+            dynamic: node.optional_from(alloc, Class::Dynamic, firsts.dynamic)?,
+            frame: read_frame(alloc, node, Class::GeodeticFrame, Class::GeodeticEnsemble)?,
+            meridian: node.optional(alloc, Class::PrimeMeridian)?,
+            system: read_system(alloc, node, &firsts)?,
+            tail: read_tail(alloc, node, &firsts)?,
+        })
+    }
 }
 
 /// A projected CRS, `PROJCRS[name, base, conversion, system, tail]`.

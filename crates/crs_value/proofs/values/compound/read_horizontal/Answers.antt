@@ -5,16 +5,16 @@ use Rattle.crs_value.proofs.found.ArgumentLemmas.{first-sound}
 use Rattle.crs_value.proofs.found.FrameLemmas.{one-there}
 use Rattle.crs_value.proofs.values.compound.read_horizontal.Goals as goal
 
-pub read_geodetic-requires-clause-sound : goal.read_geodetic-requires-clause-sound
-read_geodetic-requires-clause-sound c = first-sound _ class.CompoundCrs class.GeodeticCrs _ c.in-Some.id c.requires.sound c.in-Some.ensures
+pub read-requires-clause-sound : goal.read-requires-clause-sound
+read-requires-clause-sound c = first-sound _ class.CompoundCrs class.GeodeticCrs _ c.in-Some.id c.requires.sound c.in-Some.ensures
 
-pub read_geodetic-requires-in-Some-first-clause-sound : goal.read_geodetic-requires-in-Some-first-clause-sound
-read_geodetic-requires-in-Some-first-clause-sound c = first-sound _ class.CompoundCrs class.GeographicCrs _ c.in-Some-first.id c.requires.sound c.in-Some-first.ensures
+pub read-requires-in-Some-first-clause-sound : goal.read-requires-in-Some-first-clause-sound
+read-requires-in-Some-first-clause-sound c = first-sound _ class.CompoundCrs class.GeographicCrs _ c.in-Some-first.id c.requires.sound c.in-Some-first.ensures
 
 pub unreachable-requires : goal.unreachable-requires
 unreachable-requires c =
     one-there c.slots_count.ensures.least class.CompoundCrs (class.GeodeticCrs ∷ class.GeographicCrs ∷ class.ProjectedCrs ∷ []) (item c.args.node.now) c.requires.sound.shaped
     (omega arith) (c.in_default.ensures, (c.in_default-first.ensures, (c.in_default-first-2.ensures, tt)))
 
-pub read-requires-clause-sound : goal.read-requires-clause-sound
-read-requires-clause-sound c = first-sound _ class.CompoundCrs class.ProjectedCrs _ c.in-Some-first-2.id c.requires.sound c.in-Some-first-2.ensures
+pub read-requires-2-clause-sound : goal.read-requires-2-clause-sound
+read-requires-2-clause-sound c = first-sound _ class.CompoundCrs class.ProjectedCrs _ c.in-Some-first-2.id c.requires.sound c.in-Some-first-2.ensures
