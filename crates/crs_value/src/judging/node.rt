@@ -21,7 +21,7 @@ use crate::judging::quiet::{Layout, NOWHERE, is_quiet};
 use crate::judging::slots::{
     Any, End, Found, One, OneOrMore, Optional, Parent, Part, Slot, Slots, Then, chain, ends, taken,
 };
-use crate::reading::arguments::first_before;
+use crate::reading::arguments::found;
 use crate::reading::cursor::Cursor;
 use crs_shape::{Class, classes, laws, row, stands_as};
 use crs_text::{ItemId, Items, Refusal};
@@ -142,7 +142,8 @@ fn whole(
         ⊎ Own class (item_at items.now id) f) result }
 {
     // A dynamic part is before the coordinate system.
-    let dynamic = first_before(items, id, layout.system, class, Class::Dynamic);
+    let first = items.arg(id, 0);
+    let dynamic = found(items, first, layout.system, class, Class::Dynamic);
     if is_quiet(items, id, class, layout) {
         return lesser(inside, bad_dynamic(&Cursor { items, id, class }, dynamic));
     }

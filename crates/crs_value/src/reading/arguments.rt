@@ -15,7 +15,7 @@ pub(crate) fn same_place(a: &Option<ItemId>, b: &Option<ItemId>) -> bool
 
 // The first argument of this class from this one on; from another one on there is none.
 #[inline(always)]
-fn found(
+pub(crate) fn found(
     items: &Items<'_>,
     from: Option<ItemId>,
     until: Option<ItemId>,
@@ -48,23 +48,6 @@ pub(crate) fn first(items: &Items<'_>, id: ItemId, parent: Class, class: Class) 
         (item_at items.now id))) result }
 {
     found(items, items.arg(id, 0), None, parent, class)
-}
-
-// The first argument of this class, of which there is none from another argument on.
-#[inline(always)]
-pub(crate) fn first_before(
-    items: &Items<'_>,
-    id: ItemId,
-    until: Option<ItemId>,
-    parent: Class,
-    class: Class,
-) -> Option<ItemId>
-    requires has { HasId items.now id }
-    requires none { those parent class (ahead items.now until) ≡ [] }
-    ensures { IsFound items.now parent class (those parent class (arguments
-        (item_at items.now id))) result }
-{
-    found(items, items.arg(id, 0), until, parent, class)
 }
 
 // The next argument of this class after this one.
