@@ -172,25 +172,4 @@ impl<'i, 'a> Cursor<'i, 'a> {
         let Some(found) = at else { unreachable!() };
         decimal_of(items, found)
     }
-
-    // The number of an argument of this class that may be missing.
-    pub(crate) fn optional_number(&self, class: Class) -> Option<Decimal>
-        requires shaped { Shaped self.now.class (item self.now) }
-        requires enough { Requires class classes.Number 0 }
-        ensures { ReadsIfAny ReadsNumberOf class self.now.class (item self.now) result }
-    {
-        let found = first(self.items, self.id, self.class, class)?;
-        Some(number(self.items, found, class))
-    }
-
-    // The number of an argument of this class that the slots require.
-    pub(crate) fn one_number(&self, class: Class) -> Decimal
-        requires shaped { Shaped self.now.class (item self.now) }
-        requires there { Requires self.now.class class 0 }
-        requires enough { Requires class classes.Number 0 }
-        ensures { ReadsOne ReadsNumberOf class self.now.class (item self.now) result }
-    {
-        let id = required(self.items, self.id, self.class, class);
-        number(self.items, id, class)
-    }
 }

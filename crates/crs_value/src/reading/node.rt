@@ -29,6 +29,17 @@ pub(crate) trait Node<'a>: Sized + Drop {
         ensures { IfOk result (λ value. Reads node.now.class (item node.now) value) };
 }
 
+// A number, as the only one of its node.
+impl<'a> Node<'a> for Decimal {
+    ghost Suits = { λ c. Requires c classes.Number 0 };
+
+    ghost Reads = { λ c item value. ReadsNumberOf c item value };
+
+    fn read(_alloc: Global, node: &Cursor<'_, 'a>) -> Result<Self, AllocError> {
+        Ok(node.number())
+    }
+}
+
 // The argument of this class that the slots require.
 #[inline(always)]
 pub(crate) fn required(items: &Items<'_>, id: ItemId, parent: Class, class: Class) -> ItemId

@@ -50,7 +50,15 @@ impl<'a> Frame<'a> {
     pub fn make_datum(&mut self, alloc: Global)
         ensures { self.new ≡ Frame.Datum (datum_of self.old) }
     {
-        let frame = mem::replace(self, Frame::Datum(Datum::nameless(alloc)));
+        // It says nothing, and takes no memory.
+        let nameless = Datum {
+            name: b"",
+            ellipsoid: None,
+            anchor: None,
+            anchor_epoch: None,
+            identifiers: List::new(alloc),
+        };
+        let frame = mem::replace(self, Frame::Datum(nameless));
         *self = Frame::Datum(frame.into_datum());
     }
 }
@@ -91,19 +99,6 @@ impl<'a> Model for Datum<'a> {
 impl Drop for Datum<'_> {
     fn drop(self) {
         let_go!(self: Datum { name, ellipsoid, anchor, anchor_epoch, identifiers });
-    }
-}
-
-impl Datum<'_> {
-    // A reference frame that says nothing. It takes no memory.
-    fn nameless(alloc: Global) -> Datum<'static> {
-        Datum {
-            name: b"",
-            ellipsoid: None,
-            anchor: None,
-            anchor_epoch: None,
-            identifiers: List::new(alloc),
-        }
     }
 }
 
@@ -195,7 +190,7 @@ impl<'a> Node<'a> for Datum<'a> {
             name: node.text(),
             ellipsoid: node.optional(alloc, Class::Ellipsoid)?,
             anchor: node.optional_text(Class::Anchor),
-            anchor_epoch: node.optional_number(Class::AnchorEpoch),
+            anchor_epoch: node.optional(alloc, Class::AnchorEpoch)?,
             identifiers: node.many(alloc, Class::Identifier)?,
         })
     }
@@ -213,7 +208,7 @@ impl<'a> Node<'a> for Ensemble<'a> {
             name: node.text(),
             members: node.many(alloc, Class::Member)?,
             ellipsoid: node.optional(alloc, Class::Ellipsoid)?,
-            accuracy: node.one_number(Class::EnsembleAccuracy),
+            accuracy: node.one(alloc, Class::EnsembleAccuracy)?,
             identifiers: node.many(alloc, Class::Identifier)?,
         })
     }

@@ -150,7 +150,7 @@ impl<'a> Node<'a> for Dynamic<'a> {
     fn read(alloc: Global, node: &Cursor<'_, 'a>) -> Result<Self, AllocError> {
         laws::slots_count();
         Ok(Dynamic {
-            epoch: node.one_number(Class::FrameEpoch),
+            epoch: node.one(alloc, Class::FrameEpoch)?,
             model: node.optional(alloc, Class::DeformationModel)?,
         })
     }

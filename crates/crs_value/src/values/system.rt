@@ -151,7 +151,7 @@ impl<'a> Node<'a> for Axis<'a> {
             name: node.text(),
             direction: direction(node),
             meridian: node.optional(alloc, Class::AxisMeridian)?,
-            order: node.optional_number(Class::Order),
+            order: node.optional(alloc, Class::Order)?,
             unit: node.optional(alloc, Class::AxisUnit)?,
             identifiers: node.many(alloc, Class::Identifier)?,
         })
