@@ -88,18 +88,10 @@ pub fn spelled_is_sound()
 pub fn crs_is_sound(crs: &Crs<'_>)
     ensures { IsCrs crs.now }
 {
-    match crs {
-        Crs::Geodetic(geodetic) => {
-            let _name = geodetic.name;
-        }
-        Crs::Projected(projected) => {
-            let _name = projected.name;
-        }
-        Crs::Vertical(vertical) => {
-            let _name = vertical.name;
-        }
-        Crs::Compound(compound) => {
-            let _name = compound.name;
-        }
-    }
+    let _name = match crs {
+        Crs::Geodetic(geodetic) => geodetic.name,
+        Crs::Projected(projected) => projected.name,
+        Crs::Vertical(vertical) => vertical.name,
+        Crs::Compound(compound) => compound.name,
+    };
 }
