@@ -108,26 +108,14 @@ impl Keyed for Ident<'_> {
     }
 }
 
-fn is_equal_text(a: &[u8], b: &[u8]) -> bool
-    ensures { IsTrue result → a.now ≡ b.now }
-{
-    a == b
-}
-
-fn is_equal_if_any(a: Option<&[u8]>, b: Option<&[u8]>) -> bool
-    ensures { IsTrue result → option_copied a.entry ≡ option_copied b.entry }
-{
-    a == b
-}
-
 fn is_equal<'a>(a: &Ident<'a>, b: &Ident<'a>) -> bool
     ensures { IsTrue result → a.now ≡ b.now }
 {
-    is_equal_text(a.authority, b.authority)
-        && is_equal_text(a.code, b.code)
-        && is_equal_if_any(a.version, b.version)
-        && is_equal_if_any(a.citation, b.citation)
-        && is_equal_if_any(a.uri, b.uri)
+    a.authority == b.authority
+        && a.code == b.code
+        && a.version == b.version
+        && a.citation == b.citation
+        && a.uri == b.uri
 }
 
 fn copied<'a>(ident: &Ident<'a>) -> Ident<'a>
