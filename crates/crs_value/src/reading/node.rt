@@ -1,5 +1,5 @@
 //! Readers: values from the arguments of a node that has its shape and breaks no check.
-ghost use Rattle.std.specs.Prelude.{◌≡◌, ◌-◌, ◌≤◌, ◌⊎◌, IfOk, IfSome, Some, [], ◌∷◌};
+ghost use Rattle.std.specs.Prelude.{◌≡◌, ◌⊎◌, IfOk, IfSome, Some, [], ◌∷◌};
 ghost use Rattle.crs_text.specs.Items.{Item, arguments, raw_of, HasId};
 ghost use Rattle.crs_shape.specs.declared.class.Class.{Class};
 ghost use Rattle.crs_shape.specs.declared.class.Class.TheVariants as classes;
@@ -92,17 +92,6 @@ fn only_byte(bytes: &[u8]) -> Option<u8>
     }
 }
 
-#[inline(always)]
-fn digit_value(byte: u8) -> Option<u64>
-    ensures { IfSome result (λ value. (48 ≤ byte) × ((byte ≤ 57) × (value ≡ byte - 48))) }
-{
-    if b'0' <= byte && byte <= b'9' {
-        Some(u64::from(byte - b'0'))
-    } else {
-        None
-    }
-}
-
 // The whole number below 10 that bytes spell, if they are one digit, or one after a plus.
 #[inline(always)]
 fn small_whole(bytes: &[u8]) -> Option<u64>
@@ -112,10 +101,11 @@ fn small_whole(bytes: &[u8]) -> Option<u64>
     numbers::one_form();
     numbers::denotes_some();
     numbers::same_number_is_equivalence();
-    match only_byte(bytes) {
-        None => None,
-        Some(byte) => digit_value(byte),
+    let byte = only_byte(bytes)?;
+    if byte < b'0' || b'9' < byte {
+        return None;
     }
+    Some(u64::from(byte - b'0'))
 }
 
 // A number by itself as a whole one below 2^64, if it is one. Mostly it is one digit, which needn't be read as a decimal.
