@@ -1,6 +1,6 @@
 //! Coordinate reference systems, and the reading of whole texts.
 ghost use Rattle.std.specs.Prelude.{◌≡◌, MatchResult};
-ghost use Rattle.crs_value.specs.ReadsCrs.{kind_by, kind_of, IsGeodeticClass, ReadsCrs};
+ghost use Rattle.crs_value.specs.ReadsCrs.{kind_by, kind_of, ReadsCrs};
 ghost use Rattle.crs_shape.specs.Keywords.{root_classes};
 ghost use Rattle.crs_value.specs.Cursor.{item};
 ghost use Rattle.crs_value.specs.Checks.{IsSound};
@@ -73,53 +73,23 @@ pub(crate) fn kind_by(system_type: SystemType) -> Kind
     }
 }
 
-// A function clears the memory of all its locals when it is entered. So each kind of CRS is read by a function of its
-// own, which isn't inlined, and its value goes at once to the place of the answer.
-
+// A CRS of one kind, which a constructor makes of its value; a fault is out of memory. A function clears the memory of
+// all its locals when it is entered. So each kind is read by a function of its own, which isn't inlined, and its value
+// goes at once to the place of the answer.
 #[inline(never)]
-fn geodetic<'a>(alloc: Global, node: &Cursor<'_, 'a>) -> Result<Crs<'a>, Fault>
+fn read_kind<'a, T: Node<'a>, F: FnOnce(T) -> Crs<'a>>(
+    alloc: Global,
+    node: &Cursor<'_, 'a>,
+    make: F,
+) -> Result<Crs<'a>, Fault>
+    requires suits { T.Suits node.now.class }
     requires sound { IsSound node.now.class (item node.now) }
-    requires class { IsGeodeticClass node.now.class }
-    ensures { MatchResult result (ReadsCrs node.now.class (item node.now)) (IsFaultOf node.now.items.now) }
+    requires make { F.IsAlwaysCallable make }
+    ensures { MatchResult result (λ crs. (value : T) × T.Reads node.now.class (item node.now) value × F.post make value crs)
+        (IsFaultOf node.now.items.now) }
 {
-    match Geodetic::read(alloc, node) {
-        Ok(value) => Ok(Crs::Geodetic(value)),
-        Err(error) => Err(Fault::Memory(error)),
-    }
-}
-
-#[inline(never)]
-fn projected<'a>(alloc: Global, node: &Cursor<'_, 'a>) -> Result<Crs<'a>, Fault>
-    requires sound { IsSound node.now.class (item node.now) }
-    requires class { node.now.class ≡ Class.ProjectedCrs }
-    ensures { MatchResult result (ReadsCrs node.now.class (item node.now)) (IsFaultOf node.now.items.now) }
-{
-    match Projected::read(alloc, node) {
-        Ok(value) => Ok(Crs::Projected(value)),
-        Err(error) => Err(Fault::Memory(error)),
-    }
-}
-
-#[inline(never)]
-fn vertical<'a>(alloc: Global, node: &Cursor<'_, 'a>) -> Result<Crs<'a>, Fault>
-    requires sound { IsSound node.now.class (item node.now) }
-    requires class { node.now.class ≡ Class.VerticalCrs }
-    ensures { MatchResult result (ReadsCrs node.now.class (item node.now)) (IsFaultOf node.now.items.now) }
-{
-    match Vertical::read(alloc, node) {
-        Ok(value) => Ok(Crs::Vertical(value)),
-        Err(error) => Err(Fault::Memory(error)),
-    }
-}
-
-#[inline(never)]
-fn compound<'a>(alloc: Global, node: &Cursor<'_, 'a>) -> Result<Crs<'a>, Fault>
-    requires sound { IsSound node.now.class (item node.now) }
-    requires class { node.now.class ≡ Class.CompoundCrs }
-    ensures { MatchResult result (ReadsCrs node.now.class (item node.now)) (IsFaultOf node.now.items.now) }
-{
-    match Compound::read(alloc, node) {
-        Ok(value) => Ok(Crs::Compound(value)),
+    match T::read(alloc, node) {
+        Ok(value) => Ok(make(value)),
         Err(error) => Err(Fault::Memory(error)),
     }
 }
@@ -131,10 +101,10 @@ pub(crate) fn read_crs<'a>(alloc: Global, node: &Cursor<'_, 'a>) -> Result<Crs<'
     ensures { MatchResult result (ReadsCrs node.now.class (item node.now)) (IsFaultOf node.now.items.now) }
 {
     match node.class {
-        Class::GeodeticCrs | Class::GeographicCrs => geodetic(alloc, node),
-        Class::ProjectedCrs => projected(alloc, node),
-        Class::VerticalCrs => vertical(alloc, node),
-        Class::CompoundCrs => compound(alloc, node),
+        Class::GeodeticCrs | Class::GeographicCrs => read_kind(alloc, node, Crs::Geodetic),
+        Class::ProjectedCrs => read_kind(alloc, node, Crs::Projected),
+        Class::VerticalCrs => read_kind(alloc, node, Crs::Vertical),
+        Class::CompoundCrs => read_kind(alloc, node, Crs::Compound),
         _ => unreachable!(),
     }
 }
