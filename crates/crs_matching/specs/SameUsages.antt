@@ -31,7 +31,7 @@ pub record SameUsage (a b : UsageParts) : Type 0 where
 -- ---- the end of a CRS
 
 -- these usages, and the one whose parts are bare, if there is one
-abbrev pub with_bare : Option UsageParts → List UsageParts → List UsageParts
+abbrev pub with_bare : {V : Type 0} → Option V → List V → List V
 with_bare None usages = usages
 with_bare (Some bare) usages = bare ∷ usages
 

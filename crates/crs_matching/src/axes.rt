@@ -5,8 +5,7 @@ ghost use Rattle.crs_matching.specs.Sets.{BothOrNeither};
 ghost use Rattle.crs_matching.specs.SameSystems.{SameAxisMeridian, SameAxisAlone, IsPositionOf, StandsAt};
 
 use crate::idents::same_idents;
-use crate::numbers::{same_optional_value, same_value};
-use crate::texts::same_text;
+use crate::texts::{same_optional_value, same_text, same_value};
 use crate::units::{same_unit_as, same_units_as};
 use crs_decimal::Decimal;
 use crs_value::{Axis, AxisMeridian, Direction, Level, UnitKind};

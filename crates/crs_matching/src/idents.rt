@@ -1,12 +1,16 @@
-//! Identifiers.
-ghost use Rattle.std.specs.Prelude.{◌↔◌, IsTrue};
+//! Identifiers, and what has a name and identifiers alone: members of ensembles, geoid models and deformation models.
+ghost use Rattle.std.specs.Prelude.{◌↔◌, IsTrue, None};
+ghost use Rattle.std.specs.Option.{option_copied};
+ghost use Rattle.crs_matching.specs.SameConversions.{SameGeoidModel};
+ghost use Rattle.crs_matching.specs.SameDynamic.{SameDeformationModel};
+ghost use Rattle.crs_matching.specs.SameFrames.{SameMember};
 ghost use Rattle.crs_matching.specs.SameIdents.{SameIdent, SameIdents};
-ghost use Rattle.crs_matching.specs.Sets.{SameSet};
+ghost use Rattle.crs_matching.specs.Sets.{BothOrNeither};
 
 use crate::laws;
 use crate::sets::{SetMember, same_set};
 use crate::texts::{same_optional_text, same_text};
-use crs_value::{Guesses, Ident, Level, List};
+use crs_value::{DeformationModel, GeoidModel, Guesses, Ident, Level, List, Member};
 
 /// Whether two identifiers are the same: authority and code, and version, citation and URI, each in both or in
 /// neither. An identifier by itself is compared alike at every level. Profile.
@@ -32,12 +36,6 @@ impl SetMember for Ident<'_> {
     }
 }
 
-fn same_ident_set<'a>(a: &[Ident<'a>], b: &[Ident<'a>], guesses: Guesses<'_>) -> bool
-    ensures { IsTrue result ↔ SameSet SameIdent a.now b.now }
-{
-    same_set(a, b, guesses, Level::Full)
-}
-
 /// Whether the identifiers that the level keeps of two parts are the same set. Profile.
 pub fn same_kept_idents<'a>(
     a: &[Ident<'a>],
@@ -47,7 +45,7 @@ pub fn same_kept_idents<'a>(
 ) -> bool
     ensures { IsTrue result ↔ SameIdents level a.now b.now }
 {
-    same_ident_set(level.kept(a), level.kept(b), guesses)
+    same_set(level.kept(a), level.kept(b), guesses, Level::Full)
 }
 
 /// Whether the identifiers that the level keeps of two parts are the same set, by the members that are there once:
@@ -56,4 +54,64 @@ pub fn same_idents<'a>(a: &List<Ident<'a>>, b: &List<Ident<'a>>, level: Level) -
     ensures { IsTrue result ↔ SameIdents level a.now b.now }
 {
     same_kept_idents(a.once(), b.once(), a.guesses(b, Level::Full), level)
+}
+
+impl SetMember for Member<'_> {
+    ghost Same = { λ level a b. SameMember level a b };
+
+    fn is_same(&self, other: &Self, level: Level) -> bool {
+        same_member(self, other, level)
+    }
+
+    fn same_is_equivalence(&self) {
+        laws::same_part_is_equivalence();
+    }
+}
+
+/// Whether two members of an ensemble are the same: name and identifiers. ISO 19162:2019, "Datum ensemble".
+pub fn same_member<'a>(a: &Member<'a>, b: &Member<'a>, level: Level) -> bool
+    ensures { IsTrue result ↔ SameMember level a.now b.now }
+{
+    same_text(a.name, b.name) && same_idents(&a.identifiers, &b.identifiers, level)
+}
+
+impl SetMember for GeoidModel<'_> {
+    ghost Same = { λ level a b. SameGeoidModel level a b };
+
+    fn is_same(&self, other: &Self, level: Level) -> bool {
+        same_geoid_model(self, other, level)
+    }
+
+    fn same_is_equivalence(&self) {
+        laws::same_part_is_equivalence();
+    }
+}
+
+/// Whether two geoid models are the same: name and identifiers. ISO 19162:2019, "Geoid model".
+pub fn same_geoid_model<'a>(a: &GeoidModel<'a>, b: &GeoidModel<'a>, level: Level) -> bool
+    ensures { IsTrue result ↔ SameGeoidModel level a.now b.now }
+{
+    same_text(a.name, b.name) && same_idents(&a.identifiers, &b.identifiers, level)
+}
+
+/// Whether two deformation models are the same: name and identifiers. ISO 19162:2019, "Deformation model".
+pub fn same_deformation_model<'a>(
+    a: &DeformationModel<'a>,
+    b: &DeformationModel<'a>,
+    level: Level,
+) -> bool
+    ensures { IsTrue result ↔ SameDeformationModel level a.now b.now }
+{
+    same_text(a.name, b.name) && same_idents(&a.identifiers, &b.identifiers, level)
+}
+
+/// Whether two deformation models are the same, or both are missing. Profile.
+pub fn same_models<'a>(
+    a: Option<&DeformationModel<'a>>,
+    b: Option<&DeformationModel<'a>>,
+    level: Level,
+) -> bool
+    ensures { IsTrue result ↔ BothOrNeither (SameDeformationModel level) (option_copied a.entry) (option_copied b.entry) }
+{
+    both_or_neither!(a, b, |x, y| same_deformation_model(x, y, level))
 }

@@ -16,20 +16,19 @@ macro_rules! both_or_neither {
 mod axes;
 mod idents;
 pub mod laws;
-mod named;
-mod numbers;
-mod parameters;
 mod sets;
 mod texts;
 mod units;
 mod usages;
 
 pub use axes::{axis_at, same_axis, same_axis_meridian, same_axis_meridians, same_direction};
-pub use idents::{same_ident, same_idents, same_kept_idents};
-pub use named::{same_deformation_model, same_geoid_model, same_member, same_models};
-pub use numbers::{same_optional_value, same_value};
-pub use parameters::same_parameter;
+pub use idents::{
+    same_deformation_model, same_geoid_model, same_ident, same_idents, same_kept_idents,
+    same_member, same_models,
+};
 pub use sets::{SetMember, same_set};
-pub use texts::{same_optional_text, same_text};
-pub use units::{same_length, same_unit, same_unit_as, same_units_as, same_units_asked};
+pub use texts::{same_optional_text, same_optional_value, same_text, same_value};
+pub use units::{
+    same_length, same_parameter, same_unit, same_unit_as, same_units_as, same_units_asked,
+};
 pub use usages::{same_box, same_extent, same_usage, same_usage_set};

@@ -1,21 +1,16 @@
-//! Units.
-ghost use Rattle.std.specs.Prelude.{◌≡◌, ◌↔◌, IsTrue, None};
+//! Units, and parameters of conversions.
+ghost use Rattle.std.specs.Prelude.{◌↔◌, IsTrue, None};
 ghost use Rattle.std.specs.Option.{option_copied};
 ghost use Rattle.crs_shape.specs.declared.unit_kind.UnitKind.TheVariants as kinds;
+ghost use Rattle.crs_matching.specs.SameConversions.{SameParameter};
 ghost use Rattle.crs_matching.specs.Sets.{BothOrNeither};
 ghost use Rattle.crs_matching.specs.SameUnits.{SameUnitAsked, SameUnit, SameLength, or_metre};
 
 use crate::idents::{same_idents, same_kept_idents};
 use crate::laws;
-use crate::numbers::same_value;
-use crate::texts::same_text;
-use crs_value::{Guesses, Level, Unit, UnitKind};
-
-fn same_kind(a: UnitKind, b: UnitKind) -> bool
-    ensures { IsTrue result ↔ (a ≡ b) }
-{
-    a == b
-}
+use crate::sets::SetMember;
+use crate::texts::{same_text, same_value};
+use crs_value::{Guesses, Level, Parameter, Unit, UnitKind};
 
 // Whether two units are the same where a kind is asked of each: `UNIT` counts as that kind.
 fn same_unit_asked<'a>(
@@ -26,7 +21,7 @@ fn same_unit_asked<'a>(
 ) -> bool
     ensures { IsTrue result ↔ SameUnitAsked asked.0 asked.1 level a.now b.now }
 {
-    same_kind(a.kind.as_asked(asked.0), b.kind.as_asked(asked.1))
+    a.kind.as_asked(asked.0) == b.kind.as_asked(asked.1)
         && same_text(a.name, b.name)
         && same_value(&a.factor, &b.factor)
         && same_idents(&a.identifiers, &b.identifiers, level)
@@ -75,7 +70,7 @@ pub fn same_units_as<'a>(
 fn is_metre(unit: &Unit<'_>, level: Level) -> bool
     ensures { IsTrue result ↔ SameUnit kinds.Length level unit.now (or_metre None) }
 {
-    same_kind(unit.kind.as_asked(UnitKind::Length), UnitKind::Length)
+    unit.kind.as_asked(UnitKind::Length) == UnitKind::Length
         && same_text(unit.name, b"metre")
         && unit.factor.is_whole(1)
         && same_kept_idents(unit.identifiers.as_slice(), &[], Guesses::none(), level)
@@ -92,4 +87,27 @@ pub fn same_length<'a>(a: &Option<Unit<'a>>, b: &Option<Unit<'a>>, level: Level)
         (None, Some(y)) => is_metre(y, level),
         (Some(x), Some(y)) => same_unit_as(UnitKind::Length, x, y, level),
     }
+}
+
+impl SetMember for Parameter<'_> {
+    ghost Same = { λ level a b. SameParameter level a b };
+
+    fn is_same(&self, other: &Self, level: Level) -> bool {
+        same_parameter(self, other, level)
+    }
+
+    fn same_is_equivalence(&self) {
+        laws::same_parameter_is_equivalence();
+    }
+}
+
+/// Whether two parameters are the same: name, number, identifiers, and the units in both or in neither; `UNIT` is a
+/// kind of its own. ISO 19162:2019, "Map projection parameter"; units: profile.
+pub fn same_parameter<'a>(a: &Parameter<'a>, b: &Parameter<'a>, level: Level) -> bool
+    ensures { IsTrue result ↔ SameParameter level a.now b.now }
+{
+    same_text(a.name, b.name)
+        && same_value(&a.value, &b.value)
+        && same_units_as(UnitKind::Plain, a.unit.as_ref(), b.unit.as_ref(), level)
+        && same_idents(&a.identifiers, &b.identifiers, level)
 }

@@ -1,13 +1,12 @@
 //! Usages, one by one and as sets.
-ghost use Rattle.std.specs.Prelude.{◌≤◌, ◌↔◌, IsTrue, None, length, take};
+ghost use Rattle.std.specs.Prelude.{◌↔◌, IsTrue};
 ghost use Rattle.std.specs.Option.{option_copied};
-ghost use Rattle.crs_matching.specs.Sets.{BothOrNeither, HasSame, AllHaveSame, SameSet};
+ghost use Rattle.crs_matching.specs.Sets.{BothOrNeither, SameSet};
 ghost use Rattle.crs_matching.specs.SameUsages.{SameBox, SameExtent, SameUsage, with_bare};
 
 use crate::laws;
-use crate::numbers::same_value;
-use crate::sets::{SetMember, has_same, is_found, is_same_at};
-use crate::texts::same_optional_text;
+use crate::sets::{SetMember, all_have_same};
+use crate::texts::{same_optional_text, same_value};
 use crate::units::same_length;
 use crs_value::{BoundingBox, Extent, Guesses, Level, Usage};
 
@@ -67,109 +66,6 @@ impl SetMember for Usage<'_> {
     }
 }
 
-// Among these and the bare one, if there is one.
-fn has_same_in<'a>(usage: &Usage<'a>, bare: Option<&Usage<'a>>, others: &[Usage<'a>]) -> bool
-    ensures { IsTrue result ↔ HasSame SameUsage usage.now (with_bare (option_copied bare.entry) others.now) }
-{
-    match bare {
-        None => has_same(usage, others, Level::Full),
-        Some(bare) => same_usage(usage, bare, Level::Full) || has_same(usage, others, Level::Full),
-    }
-}
-
-fn all_have_same<'a>(
-    usages: &[Usage<'a>],
-    bare: Option<&Usage<'a>>,
-    others: &[Usage<'a>],
-    guesses: Guesses<'_>,
-) -> bool
-    ensures { IsTrue result ↔ AllHaveSame SameUsage usages.now (with_bare (option_copied bare.entry) others.now) }
-{
-    if guesses.are_known() {
-        return all_of_many_have_same(usages, bare, others, guesses);
-    }
-    for usage in usages {
-        if !has_same_in(usage, bare, others) {
-            return false;
-        }
-    }
-    true
-}
-
-// Whether each of many usages has a same one among many others.
-fn all_of_many_have_same<'a>(
-    usages: &[Usage<'a>],
-    bare: Option<&Usage<'a>>,
-    others: &[Usage<'a>],
-    guesses: Guesses<'_>,
-) -> bool
-    ensures { IsTrue result ↔ AllHaveSame SameUsage usages.now (with_bare (option_copied bare.entry) others.now) }
-{
-    let mut at: usize = 0;
-    for usage in usages {
-        if !is_met_in(usage, at, usages, bare, others, guesses) {
-            return false;
-        }
-        at += 1;
-    }
-    true
-}
-
-// Whether a usage has a same one, as all before it have.
-fn is_met_in<'a>(
-    usage: &Usage<'a>,
-    at: usize,
-    usages: &[Usage<'a>],
-    bare: Option<&Usage<'a>>,
-    others: &[Usage<'a>],
-    guesses: Guesses<'_>,
-) -> bool
-    requires there { at ≤ length usages.now }
-    requires before { AllHaveSame SameUsage (take at usages.now) (with_bare (option_copied bare) others.now) }
-    ensures { IsTrue result ↔ HasSame SameUsage usage.now (with_bare (option_copied bare.entry) others.now) }
-{
-    if is_same_at(usage, others, at, Level::Full) {
-        return true;
-    }
-    laws::same_part_is_equivalence();
-    let guess = guesses.of(at);
-    is_same_at(usage, &usages[..at], guess.before, Level::Full)
-        || is_found_in(usage, bare, others, guess.other)
-}
-
-fn is_found_in<'a>(
-    usage: &Usage<'a>,
-    bare: Option<&Usage<'a>>,
-    others: &[Usage<'a>],
-    place: usize,
-) -> bool
-    ensures { IsTrue result ↔ HasSame SameUsage usage.now (with_bare (option_copied bare.entry) others.now) }
-{
-    match bare {
-        None => is_found(usage, others, place, Level::Full),
-        Some(bare) => same_usage(usage, bare, Level::Full)
-            || is_found(usage, others, place, Level::Full),
-    }
-}
-
-fn all_have_same_in<'a>(
-    one: Option<&Usage<'a>>,
-    usages: &[Usage<'a>],
-    bare: Option<&Usage<'a>>,
-    others: &[Usage<'a>],
-    guesses: Guesses<'_>,
-) -> bool
-    ensures { IsTrue result ↔ AllHaveSame SameUsage (with_bare (option_copied one.entry) usages.now)
-        (with_bare (option_copied bare.entry) others.now) }
-{
-    match one {
-        None => all_have_same(usages, bare, others, guesses),
-        Some(one) => {
-            has_same_in(one, bare, others) && all_have_same(usages, bare, others, guesses)
-        }
-    }
-}
-
 /// Whether two lists of usages, each with one whose parts are bare, if there is one, are the same set. Profile.
 pub fn same_usage_set<'a>(
     one: Option<&Usage<'a>>,
@@ -181,6 +77,6 @@ pub fn same_usage_set<'a>(
     ensures { IsTrue result ↔ SameSet SameUsage (with_bare (option_copied one.entry) usages.now)
         (with_bare (option_copied bare.entry) others.now) }
 {
-    all_have_same_in(one, usages, bare, others, guesses)
-        && all_have_same_in(bare, others, one, usages, guesses.turned())
+    all_have_same(one, usages, bare, others, guesses, Level::Full)
+        && all_have_same(bare, others, one, usages, guesses.turned(), Level::Full)
 }
