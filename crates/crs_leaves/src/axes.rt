@@ -1,18 +1,37 @@
-//! The axes of a CRS.
+//! The axes of a CRS, and their positions.
 ghost use Rattle.std.specs.Prelude.{◌≡◌, List, length};
 ghost use Rattle.crs_text.specs.Items.{HasId, arguments};
 ghost use Rattle.crs_value.specs.Reading.{Holds, item_at, those, ReadsAll};
 ghost use Rattle.crs_value.specs.Reads.{ReadsAxis};
 ghost use Rattle.crs_value.specs.Values.{AxisParts};
-ghost use Rattle.crs_normal.specs.SpelledSystems.{axis_at, is_at};
+ghost use Rattle.crs_normal.specs.SpelledSystems.{axis_at, is_at, is_number};
 ghost use Rattle.crs_leaves.specs.Direct.{IsReadAt};
 
 use crate::numbers::decimal_of;
-use crate::positions::is_at;
+use crs_decimal::Decimal;
 use crs_nodes::Node;
 use crs_nodes::lookup::{first, later};
+use crs_normal::laws::numbers::whole_numbers_are_tested;
 use crs_shape::Class;
 use crs_text::{ItemId, Items};
+
+fn is_number(value: &Decimal, number: u64) -> bool
+    ensures { result ≡ is_number value.now number }
+{
+    whole_numbers_are_tested();
+    let _normal = value.is_negative();
+    value.is_whole(number)
+}
+
+/// Whether an axis that is written at this place, from 1 on, and with this order if it has one, has this position. Profile.
+pub fn is_at(position: u64, place: u64, order: Option<Decimal>) -> bool
+    ensures { result ≡ is_at position place order }
+{
+    match order {
+        None => place == position,
+        Some(order) => is_number(&order, position),
+    }
+}
 
 // Whether an axis that is written at this place, from 1 on, has this position.
 fn is_axis_at(position: u64, place: u64, items: &Items<'_>, id: ItemId) -> bool

@@ -4,11 +4,10 @@
 
 pub mod axes;
 mod numbers;
-mod positions;
 mod texts;
 
+pub use axes::is_at;
 pub use numbers::{decimal_of, write_raw, write_whole};
-pub use positions::is_at;
 pub use texts::{
     append, append_item, open_number, open_text, write_code, write_decimal, write_number,
     write_optional_text,

@@ -2,14 +2,12 @@
 //! canonical form as they stand.
 #![tactic(auto)]
 
-mod chain;
 pub mod copied;
 mod digits;
 mod level;
 pub mod lookup;
 mod node;
 
-pub use chain::Chain;
 pub use digits::is_short;
 pub use level::keeps;
-pub use node::Node;
+pub use node::{Chain, Node};

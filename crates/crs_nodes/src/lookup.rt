@@ -72,14 +72,3 @@ pub fn nth(items: &Items<'_>, id: ItemId, parent: Class, class: Class, k: usize)
     }
     at
 }
-
-// A node of fewer arguments has few members of each set.
-const FEW_ARGUMENTS: usize = 32;
-
-/// Whether a node has few arguments, so that each of its sets is of a few members. Profile.
-#[inline(always)]
-pub fn are_few(items: &Items<'_>, id: ItemId) -> bool
-    requires { HasId items.now id }
-{
-    items.arg_count(id) < FEW_ARGUMENTS
-}

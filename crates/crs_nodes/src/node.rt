@@ -1,11 +1,28 @@
-//! An item as one of a class.
+//! An item as one of a class, and arguments of one class, one after another.
 ghost use Rattle.crs_text.specs.Items.{HasId};
 
-use crate::chain::Chain;
 use crate::lookup;
 use crs_shape::Class;
 use crs_text::{ItemId, ItemKind, Items};
 use crs_value::{Direction, UnitKind};
+
+/// The arguments of a class from one on. Profile.
+#[derive(Clone, Copy)]
+pub struct Chain<'i, 'a> {
+    /// The items of the text.
+    pub items: &'i Items<'a>,
+    /// The first of them.
+    pub at: Option<ItemId>,
+    /// The class of their node.
+    pub parent: Class,
+    /// Their class.
+    pub class: Class,
+    /// Whether they are so few that each may be compared with all others.
+    pub few: bool,
+}
+
+// A node of fewer arguments has few members of each set.
+const FEW_ARGUMENTS: usize = 32;
 
 /// An item as one of a class. What is found in an item from which no value of the class is read isn't promised; an
 /// accepted text has no such item. Profile.
@@ -29,8 +46,8 @@ impl<'i, 'a> Node<'i, 'a> {
     ghost use Rattle.crs_shape.specs.declared.unit_kind.UnitKind.{UnitKind};
     ghost use Rattle.crs_value.specs.FoundArguments.{from_found};
     ghost use Rattle.crs_value.specs.Reading.{Holds, ReadsFirst, ReadsIfAny, ReadsOne, ReadsOptional};
-    ghost use Rattle.crs_value.specs.Reads.{ReadsDirection, ReadsKind, ReadsNumberAt, ReadsNumberOf, ReadsText};
-    ghost use Rattle.crs_value.specs.Reads.{ReadsTextOf, ReadsUnit, single_of};
+    ghost use Rattle.crs_value.specs.Reads.{ReadsDirection, ReadsKind, ReadsNumberOf, ReadsText, ReadsTextOf};
+    ghost use Rattle.crs_value.specs.Reads.{ReadsUnit, single_of, ReadsNumberAt};
     ghost use Rattle.crs_value.specs.ReadsConversion.{ReadsUnitOf, parameter_units};
     ghost use Rattle.crs_value.specs.Values.{UnitParts};
     ghost use Rattle.crs_nodes.specs.Cursor.{IsFirst, args, item};
@@ -57,7 +74,7 @@ impl<'i, 'a> Node<'i, 'a> {
     {
         let items = self.items;
         let at = lookup::first(items, self.id, self.class, class);
-        let few = lookup::are_few(items, self.id);
+        let few = items.arg_count(self.id) < FEW_ARGUMENTS;
         Chain {
             items,
             at,
