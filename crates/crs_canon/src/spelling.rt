@@ -1,7 +1,5 @@
 //! The nodes of a CRS, and CRSs, as nodes that are compared and written by themselves.
 
-mod axis;
-mod conversion;
 mod crs;
 mod frame;
-mod usage;
+mod parts;

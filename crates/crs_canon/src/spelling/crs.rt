@@ -12,10 +12,7 @@ ghost use Rattle.crs_writer.specs.Canonical.{IsCanonicalText};
 
 use crate::canonical::Canonical;
 use crs_normal::laws::parts::{horizontals_are_canonical, kinds_are_canonical};
-use crs_same::parts::{
-    same_base, same_compound, same_geodetic, same_horizontal, same_projected, same_vertical,
-};
-use crs_same::same;
+use crs_same::{parts, same};
 use crs_value::laws::crs_is_sound;
 use crs_value::{Base, Compound, Crs, Geodetic, Horizontal, Level, Projected, Vertical};
 use crs_writer::laws::crss_are_canonical;
@@ -28,7 +25,7 @@ impl Canonical for Geodetic<'_> {
     ghost IsSpelling = { IsSpelledGeodetic };
 
     fn same(&self, other: &Self, level: Level) -> bool {
-        same_geodetic(self, other, level)
+        parts::same_geodetic(self, other, level)
     }
 
     fn laws(&self) {
@@ -45,7 +42,7 @@ impl Canonical for Base<'_> {
     ghost IsSpelling = { IsSpelledBase };
 
     fn same(&self, other: &Self, level: Level) -> bool {
-        same_base(self, other, level)
+        parts::same_base(self, other, level)
     }
 
     fn laws(&self) {
@@ -62,7 +59,7 @@ impl Canonical for Projected<'_> {
     ghost IsSpelling = { IsSpelledProjected };
 
     fn same(&self, other: &Self, level: Level) -> bool {
-        same_projected(self, other, level)
+        parts::same_projected(self, other, level)
     }
 
     fn laws(&self) {
@@ -79,7 +76,7 @@ impl Canonical for Vertical<'_> {
     ghost IsSpelling = { IsSpelledVertical };
 
     fn same(&self, other: &Self, level: Level) -> bool {
-        same_vertical(self, other, level)
+        parts::same_vertical(self, other, level)
     }
 
     fn laws(&self) {
@@ -96,7 +93,7 @@ impl Canonical for Horizontal<'_> {
     ghost IsSpelling = { IsSpelledHorizontal };
 
     fn same(&self, other: &Self, level: Level) -> bool {
-        same_horizontal(self, other, level)
+        parts::same_horizontal(self, other, level)
     }
 
     fn laws(&self) {
@@ -116,7 +113,7 @@ impl Canonical for Compound<'_> {
     ghost IsSpelling = { IsSpelledCompound };
 
     fn same(&self, other: &Self, level: Level) -> bool {
-        same_compound(self, other, level)
+        parts::same_compound(self, other, level)
     }
 
     fn laws(&self) {

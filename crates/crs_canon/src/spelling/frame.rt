@@ -1,25 +1,19 @@
 //! Reference frames, ensembles and their members, ellipsoids, prime meridians, and dynamic parts.
 ghost use Rattle.crs_value.specs.SoundDynamic.{IsDeformationModel, IsDynamic};
 ghost use Rattle.crs_value.specs.SoundFrames.{IsDatum, IsEllipsoid, IsEnsemble, IsMember, IsMeridian};
+ghost use Rattle.crs_matching.specs.SameDynamic.{SameDeformationModel};
+ghost use Rattle.crs_matching.specs.SameFrames.{SameMember};
 ghost use Rattle.crs_same.specs.Parts.{AreSame};
 ghost use Rattle.crs_same.specs.PartsOfFrames.{parts_of_datum, parts_of_ellipsoid, parts_of_ensemble, parts_of_frame};
 ghost use Rattle.crs_same.specs.PartsOfFrames.{parts_of_given};
 ghost use Rattle.crs_same.specs.SameCrs.{SameDynamic};
-ghost use Rattle.crs_matching.specs.SameDynamic.{SameDeformationModel};
-ghost use Rattle.crs_matching.specs.SameFrames.{SameMember};
 ghost use Rattle.crs_normal.specs.PartSpellings.{IsFrame, IsSpelledDatum, IsSpelledDeformationModel, IsSpelledDynamic};
 ghost use Rattle.crs_normal.specs.PartSpellings.{IsSpelledEllipsoid, IsSpelledEnsemble, IsSpelledFrame};
 ghost use Rattle.crs_normal.specs.PartSpellings.{IsSpelledMember, IsSpelledMeridian};
 
 use crate::canonical::Canonical;
-use crs_normal::laws::parts::{
-    datums_are_canonical, dynamic_parts_are_canonical, frame_parts_are_canonical,
-    frames_are_canonical,
-};
-use crs_same::parts::{
-    same_datum, same_deformation_model, same_dynamic, same_ellipsoid, same_ensemble, same_frame,
-    same_member, same_meridian,
-};
+use crs_normal::laws;
+use crs_same::parts;
 use crs_value::{
     Datum, DeformationModel, Dynamic, Ellipsoid, Ensemble, Frame, Level, Member, Meridian,
 };
@@ -32,12 +26,12 @@ impl Canonical for Member<'_> {
     ghost IsSpelling = { IsSpelledMember };
 
     fn same(&self, other: &Self, level: Level) -> bool {
-        same_member(self, other, level)
+        parts::same_member(self, other, level)
     }
 
     fn laws(&self) {
         let _name = self.name;
-        frame_parts_are_canonical();
+        laws::parts::frame_parts_are_canonical();
     }
 }
 
@@ -49,12 +43,12 @@ impl Canonical for Datum<'_> {
     ghost IsSpelling = { IsSpelledDatum };
 
     fn same(&self, other: &Self, level: Level) -> bool {
-        same_datum(self, other, level)
+        parts::same_datum(self, other, level)
     }
 
     fn laws(&self) {
         let _name = self.name;
-        datums_are_canonical();
+        laws::parts::datums_are_canonical();
     }
 }
 
@@ -66,12 +60,12 @@ impl Canonical for Ensemble<'_> {
     ghost IsSpelling = { IsSpelledEnsemble };
 
     fn same(&self, other: &Self, level: Level) -> bool {
-        same_ensemble(self, other, level)
+        parts::same_ensemble(self, other, level)
     }
 
     fn laws(&self) {
         let _name = self.name;
-        datums_are_canonical();
+        laws::parts::datums_are_canonical();
     }
 }
 
@@ -83,7 +77,7 @@ impl Canonical for Frame<'_> {
     ghost IsSpelling = { IsSpelledFrame };
 
     fn same(&self, other: &Self, level: Level) -> bool {
-        same_frame(self, other, level)
+        parts::same_frame(self, other, level)
     }
 
     fn laws(&self) {
@@ -91,7 +85,7 @@ impl Canonical for Frame<'_> {
             Frame::Datum(datum) => datum.laws(),
             Frame::Ensemble(ensemble) => ensemble.laws(),
         }
-        frames_are_canonical();
+        laws::parts::frames_are_canonical();
     }
 }
 
@@ -103,12 +97,12 @@ impl Canonical for Ellipsoid<'_> {
     ghost IsSpelling = { IsSpelledEllipsoid };
 
     fn same(&self, other: &Self, level: Level) -> bool {
-        same_ellipsoid(self, other, level)
+        parts::same_ellipsoid(self, other, level)
     }
 
     fn laws(&self) {
         let _name = self.name;
-        frame_parts_are_canonical();
+        laws::parts::frame_parts_are_canonical();
     }
 }
 
@@ -120,12 +114,12 @@ impl Canonical for Meridian<'_> {
     ghost IsSpelling = { IsSpelledMeridian };
 
     fn same(&self, other: &Self, level: Level) -> bool {
-        same_meridian(self, other, level)
+        parts::same_meridian(self, other, level)
     }
 
     fn laws(&self) {
         let _name = self.name;
-        frame_parts_are_canonical();
+        laws::parts::frame_parts_are_canonical();
     }
 }
 
@@ -137,12 +131,12 @@ impl Canonical for DeformationModel<'_> {
     ghost IsSpelling = { IsSpelledDeformationModel };
 
     fn same(&self, other: &Self, level: Level) -> bool {
-        same_deformation_model(self, other, level)
+        parts::same_deformation_model(self, other, level)
     }
 
     fn laws(&self) {
         let _name = self.name;
-        dynamic_parts_are_canonical();
+        laws::parts::dynamic_parts_are_canonical();
     }
 }
 
@@ -154,11 +148,11 @@ impl Canonical for Dynamic<'_> {
     ghost IsSpelling = { IsSpelledDynamic };
 
     fn same(&self, other: &Self, level: Level) -> bool {
-        same_dynamic(self, other, level)
+        parts::same_dynamic(self, other, level)
     }
 
     fn laws(&self) {
         let _model = &self.model;
-        dynamic_parts_are_canonical();
+        laws::parts::dynamic_parts_are_canonical();
     }
 }

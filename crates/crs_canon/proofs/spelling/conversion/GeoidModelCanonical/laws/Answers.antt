@@ -1,5 +1,0 @@
-use Rattle.crs_canon.proofs.LawLemmas.{laws}
-use Rattle.crs_canon.proofs.spelling.conversion.GeoidModelCanonical.laws.Goals as goal
-
-pub returns : goal.returns
-returns c = laws c.self.view_is c.self.invariant c.conversions_are_canonical.ensures.geoid_model

@@ -1,0 +1,5 @@
+use Rattle.crs_canon.proofs.LawLemmas.{laws}
+use Rattle.crs_canon.proofs.spelling.parts.AxisCanonical.laws.Goals as goal
+
+pub returns : goal.returns
+returns c = laws c.self.view_is c.self.invariant c.axes_are_canonical.ensures
