@@ -1,6 +1,6 @@
 //! Nodes of the commonest forms that are canonical as they stand: what is written of one is a copy of its bytes. A node
 //! that isn't found to have its form may be canonical too: it is written part by part.
-ghost use Rattle.std.specs.Prelude.{◌≡◌, IfSome, IsTrue, codes};
+ghost use Rattle.std.specs.Prelude.{◌≡◌, IfSome, IsFalse, IsTrue, codes};
 ghost use Rattle.crs_decimal.specs.Plain.{plain};
 ghost use Rattle.crs_text.specs.Items.{End, HasId, Item};
 ghost use Rattle.crs_text.specs.Written.{item_text};
@@ -9,8 +9,10 @@ ghost use Rattle.crs_value.specs.Reading.{Holds, ahead, item_at};
 ghost use Rattle.crs_value.specs.Reads.{ReadsAxis, ReadsDatum, ReadsIdent, ReadsUsage};
 ghost use Rattle.crs_value.specs.ReadsConversion.{ReadsMethod, ReadsParameter};
 ghost use Rattle.crs_value.specs.Values.{AxisParts, DatumParts, IdentParts, SystemParts, UsageParts};
+ghost use Rattle.crs_value.specs.declared.values.level.Level.TheVariants as levels;
 ghost use Rattle.crs_normal.specs.PartTexts.{method_text, parameter_text, usage_text};
 ghost use Rattle.crs_normal.specs.SpelledFrames.{item_datum, norm_datum};
+ghost use Rattle.crs_normal.specs.SpelledItems.{is_short};
 ghost use Rattle.crs_normal.specs.SpelledSystems.{item_axis, norm_axis};
 ghost use Rattle.crs_normal.specs.SpelledUnits.{item_ident, whole_value};
 ghost use Rattle.crs_nodes.specs.Copied.{IsDirectionWord, IsEnd, IsNext, IsOpened, IsPlainAxis, IsPlainBox};
@@ -19,10 +21,8 @@ ghost use Rattle.crs_nodes.specs.Copied.{IsPlainParameter, IsPlainUsage, IsPlain
 ghost use Rattle.crs_nodes.specs.Copied.{IsShortIdent, IsTextNode};
 ghost use Rattle.crs_nodes.specs.Cursor.{item};
 
-use crate::digits::is_short;
-use crate::level::keeps;
 use crate::node::Node;
-use crs_decimal::is_plain;
+use crs_decimal::{are_digits, is_plain};
 use crs_shape::{Class, Direction};
 use crs_text::{ItemId, ItemKind, Items};
 use crs_value::Level;
@@ -78,7 +78,23 @@ fn none_next(at: Option<ItemId>) -> Option<()>
     at.is_none().then_some(())
 }
 
-// ---- numbers and keywords
+// ---- levels, numbers and keywords
+
+/// Whether the level keeps identifiers, usages and remarks. Profile.
+#[inline(always)]
+pub fn keeps(level: Level) -> bool
+    ensures full { IsTrue result → level ≡ levels.Full }
+    ensures definition { IsFalse result → level ≡ levels.Definition }
+{
+    matches!(level, Level::Full)
+}
+
+/// Whether a code is written without quotes. Profile.
+pub fn is_short(raw: &[u8]) -> bool
+    ensures { result ≡ is_short raw.now }
+{
+    are_digits(raw) && 1 <= raw.len() && raw.len() <= 18
+}
 
 // Whether these bytes are the plain spelling of the number that they spell.
 fn is_plainly(raw: &[u8]) -> bool

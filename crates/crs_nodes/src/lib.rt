@@ -3,11 +3,8 @@
 #![tactic(auto)]
 
 pub mod copied;
-mod digits;
-mod level;
 pub mod lookup;
 mod node;
 
-pub use digits::is_short;
-pub use level::keeps;
+pub use copied::{is_short, keeps};
 pub use node::{Chain, Node};
