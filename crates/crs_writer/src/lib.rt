@@ -8,7 +8,6 @@ mod parts;
 pub mod pieces;
 mod set;
 mod spans;
-mod spell;
 mod spelling;
 
 pub use canon_text::Canon;

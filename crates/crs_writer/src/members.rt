@@ -10,14 +10,13 @@ ghost use Rattle.crs_leaves.specs.Direct.{Writes};
 ghost use Rattle.crs_writer.specs.Parts.{SaysFirst};
 ghost use Rattle.crs_writer.specs.Spans.{AreInOrder, texts_at};
 
+use crate::parts::{Appended, Spell};
 use crate::set::{FEW, MEMBER_ROOM};
 use crate::spans::{Span, put_last};
-use crate::spell::Spell;
 use crs_leaves::append;
 use crs_nodes::{Chain, Node, lookup};
 use crs_shape::Class;
 use crs_value::Level;
-use std::alloc::AllocError;
 
 /// A member of a set. Profile.
 pub trait MemberPart<T: Spell>: Copy {
@@ -27,7 +26,7 @@ pub trait MemberPart<T: Spell>: Copy {
     /// Appends its spelling.
     ///
     /// `AllocError`: there is no memory for it.
-    fn write(&self, out: &mut Vec<u8>, level: Level) -> Result<(), AllocError>
+    fn write(&self, out: &mut Vec<u8>, level: Level) -> Appended
         ensures { OnOk result (Writes (Says self.now) (T.spelling level) out.old.items out.new.items) };
 
     /// Puts its spelling among texts that are in order. It may be spelled in `room` first, whose bytes are lost.
@@ -39,7 +38,7 @@ pub trait MemberPart<T: Spell>: Copy {
         spans: &mut Vec<Span>,
         room: &mut Vec<u8>,
         level: Level,
-    ) -> Result<(), AllocError>
+    ) -> Appended
         requires { AreInOrder bytes.old.items spans.old.items }
         ensures order { OnOk result (AreInOrder bytes.new.items spans.new.items) }
         ensures texts { OnOk result ((value : T) → Says self.now value →
@@ -80,7 +79,7 @@ impl<'b, T: Spell> MemberPart<T> for &'b T {
     ghost Says = { λ s v. v ≡ s.now };
 
     #[inline(always)]
-    fn write(&self, out: &mut Vec<u8>, level: Level) -> Result<(), AllocError> {
+    fn write(&self, out: &mut Vec<u8>, level: Level) -> Appended {
         T::spell(*self, out, level)
     }
 
@@ -91,7 +90,7 @@ impl<'b, T: Spell> MemberPart<T> for &'b T {
         spans: &mut Vec<Span>,
         _room: &mut Vec<u8>,
         level: Level,
-    ) -> Result<(), AllocError> {
+    ) -> Appended {
         let start = bytes.len();
         T::spell(*self, bytes, level)?;
         put_last(bytes, spans, start)
@@ -127,7 +126,7 @@ pub(crate) trait ReadAs<'a>: Spell {
     ghost Reads: { Class → Item → Self → Type 0 };
 
     // The spelling of whatever is read from it.
-    fn write_of(node: &Node<'_, 'a>, out: &mut Vec<u8>, level: Level) -> Result<(), AllocError>
+    fn write_of(node: &Node<'_, 'a>, out: &mut Vec<u8>, level: Level) -> Appended
         ensures { OnOk result (Writes (Reads node.now.class (item node.now)) (Self.spelling level)
             out.old.items out.new.items) };
 }
@@ -136,7 +135,7 @@ impl<'i, 'a, T: ReadAs<'a>> MemberPart<T> for Node<'i, 'a> {
     ghost Says = { λ n v. T.Reads n.class (item n) v };
 
     #[inline(always)]
-    fn write(&self, out: &mut Vec<u8>, level: Level) -> Result<(), AllocError> {
+    fn write(&self, out: &mut Vec<u8>, level: Level) -> Appended {
         T::write_of(self, out, level)
     }
 
@@ -147,7 +146,7 @@ impl<'i, 'a, T: ReadAs<'a>> MemberPart<T> for Node<'i, 'a> {
         spans: &mut Vec<Span>,
         room: &mut Vec<u8>,
         level: Level,
-    ) -> Result<(), AllocError> {
+    ) -> Appended {
         room.clear();
         room.reserve(MEMBER_ROOM)?;
         T::write_of(self, room, level)?;

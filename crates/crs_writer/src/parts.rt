@@ -1,11 +1,12 @@
-//! Parts of nodes: those of a value, or those that are read from an item. Of each it is known which values it may say,
-//! and the text of any of them is what is appended.
-ghost use Rattle.std.specs.Prelude.{◌≡◌, ◌∷◌, ◌++◌, [], List, OnOk, Option, Some};
+//! Values that are spelled, and parts of nodes: those of a value, or those that are read from an item. Of each part it is
+//! known which values it may say, and the text of any of them is what is appended.
+ghost use Rattle.std.specs.Prelude.{◌≡◌, ◌∷◌, ◌++◌, [], List, OnOk, Option, Some, ℕ};
 ghost use Rattle.crs_decimal.specs.Plain.{plain};
 ghost use Rattle.crs_decimal.specs.Value.{Value};
 ghost use Rattle.crs_text.specs.Items.{End};
 ghost use Rattle.crs_text.specs.Written.{item_text, others_text};
 ghost use Rattle.crs_value.specs.Values.{IdentParts, UnitParts};
+ghost use Rattle.crs_value.specs.declared.values.level.Level.{Level};
 ghost use Rattle.crs_normal.specs.SpelledFrames.{is_zero};
 ghost use Rattle.crs_normal.specs.SpelledItems.{each};
 ghost use Rattle.crs_normal.specs.SpelledUnits.{item_ident, item_unit, norm_unit, set_idents, whole_value};
@@ -13,11 +14,25 @@ ghost use Rattle.crs_nodes.specs.Found.{IsNumber, SaysIfAny};
 ghost use Rattle.crs_leaves.specs.Direct.{Writes};
 ghost use Rattle.crs_writer.specs.Parts.{number_behind, opt_text};
 
-use crate::spell::{Spell, write_part};
 use crs_decimal::Decimal;
 use crs_leaves::{append, decimal_of, open_number, write_raw, write_whole};
 use crs_value::{Level, UnitKind};
 use std::alloc::AllocError;
+
+// The answer of what appends. `AllocError`: there is no memory for it.
+pub(crate) type Appended = Result<(), AllocError>;
+
+/// A value whose spelling is appended piece by piece. Profile.
+pub trait Spell: Sized {
+    /// The spelling of a value.
+    ghost spelling: { Level → Self → List ℕ };
+
+    /// Appends the spelling of the value.
+    ///
+    /// `AllocError`: there is no memory for it, and nothing is said of `out`.
+    fn spell(&self, out: &mut Vec<u8>, level: Level) -> Result<(), AllocError>
+        ensures { OnOk result (out.new.items ≡ out.old.items ++ spelling level self.now) };
+}
 
 /// A number: a decimal, its bytes, or a position. Profile.
 pub trait NumberPart: Copy {
@@ -27,7 +42,7 @@ pub trait NumberPart: Copy {
     /// Appends an opening, or a comma, and the number.
     ///
     /// `AllocError`: there is no memory for them.
-    fn open(&self, out: &mut Vec<u8>, opening: &[u8]) -> Result<(), AllocError>
+    fn open(&self, out: &mut Vec<u8>, opening: &[u8]) -> Appended
         ensures { OnOk result (Writes (Says self.now) (λ v. opening.now ++ plain v) out.old.items out.new.items) };
 
     /// Whether it is 0.
@@ -43,7 +58,7 @@ pub trait IdentsPart: Copy {
     /// Appends those that the level keeps, a comma before each.
     ///
     /// `AllocError`: there is no memory for them.
-    fn put(&self, out: &mut Vec<u8>, level: Level) -> Result<(), AllocError>
+    fn put(&self, out: &mut Vec<u8>, level: Level) -> Appended
         ensures { OnOk result (Writes (Says self.now) (λ ids. others_text (each item_ident (set_idents level ids) End))
             out.old.items out.new.items) };
 }
@@ -56,7 +71,7 @@ pub trait UnitPart: Copy {
     /// Appends it after a comma, where this kind is asked: `UNIT` counts as that kind.
     ///
     /// `AllocError`: there is no memory for it.
-    fn put(&self, out: &mut Vec<u8>, asked: UnitKind, level: Level) -> Result<(), AllocError>
+    fn put(&self, out: &mut Vec<u8>, asked: UnitKind, level: Level) -> Appended
         ensures { OnOk result (Writes (Says self.now) (λ u. 44 ∷ item_text (item_unit (norm_unit level asked u)))
             out.old.items out.new.items) };
 }
@@ -69,7 +84,7 @@ pub trait Part<T: Spell>: Copy {
     /// Appends it after a comma.
     ///
     /// `AllocError`: there is no memory for it.
-    fn put(&self, out: &mut Vec<u8>, level: Level) -> Result<(), AllocError>
+    fn put(&self, out: &mut Vec<u8>, level: Level) -> Appended
         ensures { OnOk result (Writes (Says self.now) (λ v. 44 ∷ T.spelling level v) out.old.items out.new.items) };
 }
 
@@ -77,7 +92,7 @@ impl<'b> NumberPart for &'b Decimal {
     ghost Says = { λ s v. v ≡ s.now };
 
     #[inline(always)]
-    fn open(&self, out: &mut Vec<u8>, opening: &[u8]) -> Result<(), AllocError> {
+    fn open(&self, out: &mut Vec<u8>, opening: &[u8]) -> Appended {
         open_number(out, opening, *self)
     }
 
@@ -91,7 +106,7 @@ impl<'b> NumberPart for &'b [u8] {
     ghost Says = { λ s v. IsNumber s.now v };
 
     #[inline(always)]
-    fn open(&self, out: &mut Vec<u8>, opening: &[u8]) -> Result<(), AllocError> {
+    fn open(&self, out: &mut Vec<u8>, opening: &[u8]) -> Appended {
         append(out, opening)?;
         write_raw(out, *self)
     }
@@ -109,7 +124,7 @@ impl NumberPart for u64 {
     ghost Says = { λ n v. v ≡ whole_value n };
 
     #[inline(always)]
-    fn open(&self, out: &mut Vec<u8>, opening: &[u8]) -> Result<(), AllocError> {
+    fn open(&self, out: &mut Vec<u8>, opening: &[u8]) -> Appended {
         append(out, opening)?;
         write_whole(out, *self)
     }
@@ -119,11 +134,19 @@ impl NumberPart for u64 {
     }
 }
 
+// A comma, and a node.
+pub(crate) fn write_part<T: Spell>(out: &mut Vec<u8>, node: &T, level: Level) -> Appended
+    ensures { OnOk result (out.new.items ≡ out.old.items ++ 44 ∷ T.spelling level node.now) }
+{
+    append(out, b",")?;
+    node.spell(out, level)
+}
+
 impl<'b, T: Spell> Part<T> for &'b T {
     ghost Says = { λ s v. v ≡ s.now };
 
     #[inline(always)]
-    fn put(&self, out: &mut Vec<u8>, level: Level) -> Result<(), AllocError> {
+    fn put(&self, out: &mut Vec<u8>, level: Level) -> Appended {
         write_part(out, *self, level)
     }
 }
@@ -133,7 +156,7 @@ impl<T: Spell, P: Part<T>> Part<T> for Option<P> {
     ghost Says = { λ part v. SaysIfAny P.Says part (Some v) };
 
     #[inline(always)]
-    fn put(&self, out: &mut Vec<u8>, level: Level) -> Result<(), AllocError> {
+    fn put(&self, out: &mut Vec<u8>, level: Level) -> Appended {
         match self {
             None => Ok(()),
             Some(part) => part.put(out, level),
@@ -147,7 +170,7 @@ pub(crate) fn write_optional<T: Spell, P: Part<T>>(
     out: &mut Vec<u8>,
     part: Option<P>,
     level: Level,
-) -> Result<(), AllocError>
+) -> Appended
     ensures { OnOk result (Writes (SaysIfAny P.Says part) (opt_text (T.spelling level)) out.old.items out.new.items) }
 {
     match part {
@@ -162,7 +185,7 @@ pub(crate) fn write_number_node<N: NumberPart>(
     out: &mut Vec<u8>,
     opening: &[u8],
     number: N,
-) -> Result<(), AllocError>
+) -> Appended
     ensures { OnOk result (Writes (N.Says number) (λ v. opening.now ++ (plain v ++ 93 ∷ [])) out.old.items out.new.items) }
 {
     number.open(out, opening)?;
@@ -175,7 +198,7 @@ pub(crate) fn write_optional_number<N: NumberPart>(
     out: &mut Vec<u8>,
     opening: &[u8],
     number: Option<N>,
-) -> Result<(), AllocError>
+) -> Appended
     ensures { OnOk result (Writes (SaysIfAny N.Says number) (number_behind opening.now) out.old.items out.new.items) }
 {
     match number {

@@ -7,8 +7,8 @@ ghost use Rattle.crs_writer.specs.SetText.{commas};
 ghost use Rattle.crs_writer.specs.Spans.{AreInOrder, texts_at};
 
 use crate::members::{MemberPart, MembersPart};
+use crate::parts::{Appended, Spell};
 use crate::spans::{Span, write_spans};
-use crate::spell::Spell;
 use crs_leaves::append;
 use crs_value::Level;
 use std::alloc::{AllocError, Global};
@@ -25,7 +25,7 @@ pub const FEW: usize = 16;
 pub const FEW_ROOM: usize = 1024;
 
 // Appends spellings in order, a comma before each.
-fn write_sorted(out: &mut Vec<u8>, sorted: &BTreeSet<Vec<u8>>) -> Result<(), AllocError>
+fn write_sorted(out: &mut Vec<u8>, sorted: &BTreeSet<Vec<u8>>) -> Appended
     ensures { OnOk result (out.new.items ≡ out.old.items ++ commas (spellings sorted.now.keys)) }
 {
     for bytes in sorted {
@@ -82,7 +82,7 @@ fn gather_spans<T: Spell, M: MembersPart<T>>(
     room: &mut Vec<u8>,
     members: M,
     level: Level,
-) -> Result<(), AllocError>
+) -> Appended
     requires members { M.Hold members }
     requires order { AreInOrder bytes.old.items spans.old.items }
     ensures order { OnOk result (AreInOrder bytes.new.items spans.new.items) }
@@ -104,7 +104,7 @@ fn write_few<T: Spell, P: MemberPart<T>, M: MembersPart<T>>(
     first: &P,
     others: &M,
     level: Level,
-) -> Result<(), AllocError>
+) -> Appended
     requires { M.Hold others.now }
     ensures { OnOk result ((value : T) (values : List T) → P.Says first.now value → M.Say others.now values →
         out.new.items ≡ out.old.items ++ set_text (map (T.spelling level) (value ∷ values))) }
@@ -124,7 +124,7 @@ fn write_many<T: Spell, P: MemberPart<T>, M: MembersPart<T>>(
     first: &P,
     others: &M,
     level: Level,
-) -> Result<(), AllocError>
+) -> Appended
     requires { M.Hold others.now }
     ensures { OnOk result ((value : T) (values : List T) → P.Says first.now value → M.Say others.now values →
         out.new.items ≡ out.old.items ++ set_text (map (T.spelling level) (value ∷ values))) }
@@ -142,7 +142,7 @@ pub(crate) fn write_set_with<T: Spell, P: MemberPart<T>, M: MembersPart<T>>(
     first: &P,
     others: &M,
     level: Level,
-) -> Result<(), AllocError>
+) -> Appended
     requires { M.Hold others.now }
     ensures { OnOk result ((value : T) (values : List T) → P.Says first.now value → M.Say others.now values →
         out.new.items ≡ out.old.items ++ set_text (map (T.spelling level) (value ∷ values))) }

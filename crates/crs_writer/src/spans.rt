@@ -5,9 +5,9 @@ ghost use Rattle.crs_normal.specs.Ordered.{put};
 ghost use Rattle.crs_writer.specs.SetText.{commas};
 ghost use Rattle.crs_writer.specs.Spans.{AreInOrder, AreWithin, IsPutAmong, IsWithin, text_at, texts_at};
 
+use crate::parts::Appended;
 use crs_leaves::append;
 use crs_normal::laws::sets::texts_are_in_order;
-use std::alloc::AllocError;
 use std::cmp::Ordering;
 
 /// Where a text is among bytes: its first byte, and behind its last. Profile.
@@ -51,11 +51,7 @@ fn rest_of(bytes: &[u8], start: usize) -> &[u8]
 }
 
 // Puts the text that begins at `start`, and ends with the bytes, among the others.
-pub(crate) fn put_last(
-    bytes: &mut Vec<u8>,
-    spans: &mut Vec<Span>,
-    start: usize,
-) -> Result<(), AllocError>
+pub(crate) fn put_last(bytes: &mut Vec<u8>, spans: &mut Vec<Span>, start: usize) -> Appended
     requires start { start ≤ length bytes.old.items }
     requires order { AreInOrder (take start bytes.old.items) spans.old.items }
     ensures { OnOk result (IsPutAmong (drop start bytes.old.items) (take start bytes.old.items) spans.old.items
@@ -71,7 +67,7 @@ pub(crate) fn put_last(
 }
 
 // Appends the texts in order, a comma before each.
-pub(crate) fn write_spans(out: &mut Vec<u8>, bytes: &[u8], spans: &[Span]) -> Result<(), AllocError>
+pub(crate) fn write_spans(out: &mut Vec<u8>, bytes: &[u8], spans: &[Span]) -> Appended
     requires { AreWithin bytes.now spans.now }
     ensures { OnOk result (out.new.items ≡ out.old.items ++ commas (texts_at bytes.now spans.now)) }
 {

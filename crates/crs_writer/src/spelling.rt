@@ -7,8 +7,6 @@ pub(crate) mod crs;
 pub(crate) mod frame;
 pub(crate) mod frame_parts;
 pub(crate) mod horizontal;
-pub(crate) mod ident;
 pub(crate) mod system;
-pub(crate) mod tail;
 pub(crate) mod unit;
 pub(crate) mod usage;

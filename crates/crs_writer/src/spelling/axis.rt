@@ -16,14 +16,14 @@ ghost use Rattle.crs_nodes.specs.Cursor.{item};
 ghost use Rattle.crs_nodes.specs.Found.{SaysIfAny};
 ghost use Rattle.crs_leaves.specs.Openings.{named_node, numbered_node};
 
-use crate::parts::{IdentsPart, NumberPart, Part, UnitPart, write_optional, write_optional_number};
-use crate::spell::Spell;
+use crate::parts::{
+    Appended, IdentsPart, NumberPart, Part, Spell, UnitPart, write_optional, write_optional_number,
+};
 use crate::spelling::unit::write_optional_unit;
 use crs_leaves::{append, append_item, open_text};
 use crs_nodes::Node;
 use crs_shape::Class;
 use crs_value::{Axis, AxisMeridian, Direction, Level, UnitKind};
-use std::alloc::AllocError;
 
 // After an opening; with its unit, if there is one.
 #[tactic(auto, using(crate::proofs::FlatLemmas::along_rules))]
@@ -33,7 +33,7 @@ fn write_axis_meridian<N: NumberPart, U: UnitPart>(
     longitude: N,
     unit: Option<U>,
     level: Level,
-) -> Result<(), AllocError>
+) -> Appended
     ensures { OnOk result ((l : Value) (u : Option UnitParts) → N.Says longitude l → SaysIfAny U.Says unit u → out.new.items
         ≡ out.old.items ++ numbered_node opening.now l (opt item_unit (norm_units level kinds.Angle u) End)) }
 {
@@ -45,7 +45,7 @@ fn write_axis_meridian<N: NumberPart, U: UnitPart>(
 impl Spell for AxisMeridian<'_> {
     ghost spelling = { axis_meridian_text };
 
-    fn spell(&self, out: &mut Vec<u8>, level: Level) -> Result<(), AllocError> {
+    fn spell(&self, out: &mut Vec<u8>, level: Level) -> Appended {
         write_axis_meridian(out, b"MERIDIAN[", &self.longitude, Some(&self.unit), level)
     }
 }
@@ -53,7 +53,7 @@ impl Spell for AxisMeridian<'_> {
 impl<'c, 'i, 'a> Part<AxisMeridian<'a>> for &'c Node<'i, 'a> {
     ghost Says = { λ n m. ReadsAxisMeridian n.now.class (item n.now) m };
 
-    fn put(&self, out: &mut Vec<u8>, level: Level) -> Result<(), AllocError> {
+    fn put(&self, out: &mut Vec<u8>, level: Level) -> Appended {
         let unit = self.first(Class::AngleUnit);
         write_axis_meridian(out, b",MERIDIAN[", self.number(), unit.as_ref(), level)
     }
@@ -79,12 +79,7 @@ impl<'n, 'a, M: Part<AxisMeridian<'a>>, N: NumberPart, U: UnitPart, I: IdentsPar
     I,
 > {
     // After an opening; with this order, and this unit, where that kind is asked.
-    pub(crate) fn write(
-        self,
-        out: &mut Vec<u8>,
-        opening: &[u8],
-        level: Level,
-    ) -> Result<(), AllocError>
+    pub(crate) fn write(self, out: &mut Vec<u8>, opening: &[u8], level: Level) -> Appended
         ensures { OnOk result ((n : List ℕ) (d : Direction) (m : Option AxisMeridianParts) (o : Option Value) (k : UnitKind)
             (u : Option UnitParts) (is : List IdentParts) → n ≡ self.entry.name.now → d ≡ self.entry.direction →
             SaysIfAny M.Says self.entry.meridian m → SaysIfAny N.Says self.entry.order o → k ≡ self.entry.asked →
@@ -109,7 +104,7 @@ impl Spell for Axis<'_> {
     ghost spelling = { axis_text };
 
     #[tactic(auto, using(crate::proofs::FlatLemmas::value_rules))]
-    fn spell(&self, out: &mut Vec<u8>, level: Level) -> Result<(), AllocError> {
+    fn spell(&self, out: &mut Vec<u8>, level: Level) -> Appended {
         AxisFields {
             name: self.name,
             direction: self.direction,

@@ -11,21 +11,18 @@ ghost use Rattle.crs_nodes.specs.Cursor.{item};
 ghost use Rattle.crs_leaves.specs.Openings.{named_node};
 
 use crate::members::{MembersPart, ReadAs};
-use crate::parts::{IdentsPart, Part};
+use crate::parts::{Appended, IdentsPart, Part, Spell};
 use crate::set::write_set;
-use crate::spell::Spell;
-use crate::spelling::ident::write_named;
-use crate::spelling::unit::NumberFields;
+use crate::spelling::unit::{NumberFields, write_named};
 use crs_leaves::{append, append_item, open_text};
 use crs_nodes::{Node, copied};
 use crs_shape::Class;
 use crs_value::{Conversion, GeoidModel, Level, Method, Parameter, UnitKind};
-use std::alloc::AllocError;
 
 impl Spell for Method<'_> {
     ghost spelling = { method_text };
 
-    fn spell(&self, out: &mut Vec<u8>, level: Level) -> Result<(), AllocError> {
+    fn spell(&self, out: &mut Vec<u8>, level: Level) -> Appended {
         write_named(out, b"METHOD[\"", self.name, &self.identifiers, level)
     }
 }
@@ -33,7 +30,7 @@ impl Spell for Method<'_> {
 impl<'c, 'i, 'a> Part<Method<'a>> for &'c Node<'i, 'a> {
     ghost Says = { λ n m. ReadsMethod n.now.class (item n.now) m };
 
-    fn put(&self, out: &mut Vec<u8>, level: Level) -> Result<(), AllocError> {
+    fn put(&self, out: &mut Vec<u8>, level: Level) -> Appended {
         match copied::method(*self, level) {
             Some(bytes) => append_item(out, bytes),
             None => write_named(out, b",METHOD[\"", self.text(), *self, level),
@@ -44,7 +41,7 @@ impl<'c, 'i, 'a> Part<Method<'a>> for &'c Node<'i, 'a> {
 impl Spell for Parameter<'_> {
     ghost spelling = { parameter_text };
 
-    fn spell(&self, out: &mut Vec<u8>, level: Level) -> Result<(), AllocError> {
+    fn spell(&self, out: &mut Vec<u8>, level: Level) -> Appended {
         NumberFields {
             name: self.name,
             number: &self.value,
@@ -59,7 +56,7 @@ impl Spell for Parameter<'_> {
 impl<'a> ReadAs<'a> for Parameter<'a> {
     ghost Reads = { ReadsParameter };
 
-    fn write_of(node: &Node<'_, 'a>, out: &mut Vec<u8>, level: Level) -> Result<(), AllocError> {
+    fn write_of(node: &Node<'_, 'a>, out: &mut Vec<u8>, level: Level) -> Appended {
         if let Some(bytes) = copied::parameter(node, level) {
             return append(out, bytes);
         }
@@ -93,7 +90,7 @@ impl<
     I: IdentsPart,
 > ConversionFields<'n, 'm, M, P, I> {
     // After an opening.
-    fn write(self, out: &mut Vec<u8>, opening: &[u8], level: Level) -> Result<(), AllocError>
+    fn write(self, out: &mut Vec<u8>, opening: &[u8], level: Level) -> Appended
         requires { P.Hold self.parameters.now }
         ensures { OnOk result ((x : ConversionParts) → x.name ≡ self.entry.name.now →
             M.Says self.entry.method x.method → P.Say self.entry.parameters.now x.parameters →
@@ -112,7 +109,7 @@ impl<
 impl<'a> Spell for Conversion<'a> {
     ghost spelling = { conversion_text };
 
-    fn spell(&self, out: &mut Vec<u8>, level: Level) -> Result<(), AllocError> {
+    fn spell(&self, out: &mut Vec<u8>, level: Level) -> Appended {
         let parameters = self.parameters.as_slice();
         ConversionFields {
             name: self.name,
@@ -127,7 +124,7 @@ impl<'a> Spell for Conversion<'a> {
 impl<'c, 'i, 'a> Part<Conversion<'a>> for &'c Node<'i, 'a> {
     ghost Says = { λ n c. ReadsConversion n.now.class (item n.now) c };
 
-    fn put(&self, out: &mut Vec<u8>, level: Level) -> Result<(), AllocError> {
+    fn put(&self, out: &mut Vec<u8>, level: Level) -> Appended {
         let method = self.first(Class::Method);
         let parameters = self.all(Class::Parameter);
         ConversionFields {
@@ -143,7 +140,7 @@ impl<'c, 'i, 'a> Part<Conversion<'a>> for &'c Node<'i, 'a> {
 impl Spell for GeoidModel<'_> {
     ghost spelling = { geoid_model_text };
 
-    fn spell(&self, out: &mut Vec<u8>, level: Level) -> Result<(), AllocError> {
+    fn spell(&self, out: &mut Vec<u8>, level: Level) -> Appended {
         write_named(out, b"GEOIDMODEL[\"", self.name, &self.identifiers, level)
     }
 }
@@ -151,7 +148,7 @@ impl Spell for GeoidModel<'_> {
 impl<'a> ReadAs<'a> for GeoidModel<'a> {
     ghost Reads = { ReadsGeoidModel };
 
-    fn write_of(node: &Node<'_, 'a>, out: &mut Vec<u8>, level: Level) -> Result<(), AllocError> {
+    fn write_of(node: &Node<'_, 'a>, out: &mut Vec<u8>, level: Level) -> Appended {
         write_named(out, b"GEOIDMODEL[\"", node.text(), node, level)
     }
 }

@@ -10,12 +10,11 @@ ghost use Rattle.crs_leaves.specs.Direct.{IsRead, Writes};
 ghost use Rattle.crs_writer.specs.CrsText.{crs_text};
 
 use crate::members::{MembersPart, ReadAs};
-use crate::parts::{Part, write_optional};
+use crate::parts::{Appended, Part, Spell, write_optional};
 use crate::set::write_set;
-use crate::spell::Spell;
 use crate::spelling::frame::FramePart;
 use crate::spelling::system::{SystemPart, write_system};
-use crate::spelling::tail::TailPart;
+use crate::spelling::usage::TailPart;
 use crs_leaves::{append, open_text};
 use crs_nodes::Node;
 use crs_shape::Class;
@@ -45,7 +44,7 @@ impl<
     G: MembersPart<GeoidModel<'a>>,
     T: TailPart,
 > VerticalFields<'n, 'm, D, F, S, G, T> {
-    fn write(self, out: &mut Vec<u8>, level: Level) -> Result<(), AllocError>
+    fn write(self, out: &mut Vec<u8>, level: Level) -> Appended
         requires { G.Hold self.models.now }
         ensures { OnOk result ((v : VerticalParts) → v.name ≡ self.entry.name.now →
             SaysIfAny D.Says self.entry.dynamic v.dynamic → F.SaysVertical self.entry.frame v.frame →
@@ -65,7 +64,7 @@ impl<
 impl Spell for Vertical<'_> {
     ghost spelling = { vertical_text };
 
-    fn spell(&self, out: &mut Vec<u8>, level: Level) -> Result<(), AllocError> {
+    fn spell(&self, out: &mut Vec<u8>, level: Level) -> Appended {
         let models = self.geoid_models.as_slice();
         VerticalFields {
             name: self.name,
@@ -82,7 +81,7 @@ impl Spell for Vertical<'_> {
 impl<'a> ReadAs<'a> for Vertical<'a> {
     ghost Reads = { ReadsVertical };
 
-    fn write_of(node: &Node<'_, 'a>, out: &mut Vec<u8>, level: Level) -> Result<(), AllocError> {
+    fn write_of(node: &Node<'_, 'a>, out: &mut Vec<u8>, level: Level) -> Appended {
         let dynamic = node.first(Class::Dynamic);
         let models = node.all(Class::GeoidModel);
         VerticalFields {
@@ -100,7 +99,7 @@ impl<'a> ReadAs<'a> for Vertical<'a> {
 impl<'c, 'i, 'a> Part<Vertical<'a>> for &'c Node<'i, 'a> {
     ghost Says = { λ n v. ReadsVertical n.now.class (item n.now) v };
 
-    fn put(&self, out: &mut Vec<u8>, level: Level) -> Result<(), AllocError> {
+    fn put(&self, out: &mut Vec<u8>, level: Level) -> Appended {
         append(out, b",")?;
         Vertical::write_of(*self, out, level)
     }
@@ -121,7 +120,7 @@ impl<'n, 'a, H: Part<Horizontal<'a>>, V: Part<Vertical<'a>>, T: TailPart> Compou
     V,
     T,
 > {
-    fn write(self, out: &mut Vec<u8>, level: Level) -> Result<(), AllocError>
+    fn write(self, out: &mut Vec<u8>, level: Level) -> Appended
         ensures { OnOk result ((p : CompoundParts) → p.name ≡ self.entry.name.now →
             H.Says self.entry.horizontal p.horizontal → V.Says self.entry.vertical p.vertical →
             T.Says self.entry.tail p.tail → out.new.items ≡ out.old.items ++ compound_text level p) }
@@ -137,7 +136,7 @@ impl<'n, 'a, H: Part<Horizontal<'a>>, V: Part<Vertical<'a>>, T: TailPart> Compou
 impl Spell for Compound<'_> {
     ghost spelling = { compound_text };
 
-    fn spell(&self, out: &mut Vec<u8>, level: Level) -> Result<(), AllocError> {
+    fn spell(&self, out: &mut Vec<u8>, level: Level) -> Appended {
         CompoundFields {
             name: self.name,
             horizontal: &self.horizontal,
@@ -151,7 +150,7 @@ impl Spell for Compound<'_> {
 impl<'a> ReadAs<'a> for Compound<'a> {
     ghost Reads = { ReadsCompound };
 
-    fn write_of(node: &Node<'_, 'a>, out: &mut Vec<u8>, level: Level) -> Result<(), AllocError> {
+    fn write_of(node: &Node<'_, 'a>, out: &mut Vec<u8>, level: Level) -> Appended {
         let vertical = node.first(Class::VerticalCrs);
         CompoundFields {
             name: node.text(),
@@ -166,7 +165,7 @@ impl<'a> ReadAs<'a> for Compound<'a> {
 impl Spell for Crs<'_> {
     ghost spelling = { crs_text };
 
-    fn spell(&self, out: &mut Vec<u8>, level: Level) -> Result<(), AllocError> {
+    fn spell(&self, out: &mut Vec<u8>, level: Level) -> Appended {
         match self {
             Crs::Geodetic(geodetic) => geodetic.spell(out, level),
             Crs::Projected(projected) => projected.spell(out, level),

@@ -21,21 +21,20 @@ ghost use Rattle.crs_leaves.specs.Openings.{named_node};
 
 use crate::members::{MembersPart, ReadAs};
 use crate::parts::{
-    IdentsPart, NumberPart, Part, write_number_node, write_optional, write_optional_number,
+    Appended, IdentsPart, NumberPart, Part, Spell, write_number_node, write_optional,
+    write_optional_number, write_part,
 };
 use crate::set::write_set;
-use crate::spell::{Spell, write_part};
-use crate::spelling::ident::write_named;
+use crate::spelling::unit::write_named;
 use crs_leaves::{append, append_item, open_text, write_optional_text};
 use crs_nodes::{Node, copied};
 use crs_shape::Class;
 use crs_value::{Datum, Ellipsoid, Ensemble, Frame, Level, Member};
-use std::alloc::AllocError;
 
 impl Spell for Member<'_> {
     ghost spelling = { member_text };
 
-    fn spell(&self, out: &mut Vec<u8>, level: Level) -> Result<(), AllocError> {
+    fn spell(&self, out: &mut Vec<u8>, level: Level) -> Appended {
         write_named(out, b"MEMBER[\"", self.name, &self.identifiers, level)
     }
 }
@@ -43,7 +42,7 @@ impl Spell for Member<'_> {
 impl<'a> ReadAs<'a> for Member<'a> {
     ghost Reads = { ReadsNamed };
 
-    fn write_of(node: &Node<'_, 'a>, out: &mut Vec<u8>, level: Level) -> Result<(), AllocError> {
+    fn write_of(node: &Node<'_, 'a>, out: &mut Vec<u8>, level: Level) -> Appended {
         write_named(out, b"MEMBER[\"", node.text(), node, level)
     }
 }
@@ -61,7 +60,7 @@ struct DatumFields<'n, E, N, I> {
 impl<'n, 'a, E: Part<Ellipsoid<'a>>, N: NumberPart, I: IdentsPart> DatumFields<'n, E, N, I> {
     // After an opening.
     #[tactic(auto, using(crate::proofs::FlatLemmas::flat_rules))]
-    fn write(self, out: &mut Vec<u8>, opening: &[u8], level: Level) -> Result<(), AllocError>
+    fn write(self, out: &mut Vec<u8>, opening: &[u8], level: Level) -> Appended
         ensures { OnOk result ((d : DatumParts) → d.name ≡ self.entry.name.now →
             SaysIfAny E.Says self.entry.ellipsoid d.ellipsoid → d.anchor ≡ option_copied self.entry.anchor →
             SaysIfAny N.Says self.entry.epoch d.anchor_epoch → I.Says self.entry.ids d.identifiers →
@@ -82,12 +81,7 @@ impl<'n, 'a, E: Part<Ellipsoid<'a>>, N: NumberPart, I: IdentsPart> DatumFields<'
 
 // Of a value.
 #[tactic(auto, using(crate::proofs::FlatLemmas::value_rules))]
-fn write_datum_in(
-    out: &mut Vec<u8>,
-    opening: &[u8],
-    datum: &Datum<'_>,
-    level: Level,
-) -> Result<(), AllocError>
+fn write_datum_in(out: &mut Vec<u8>, opening: &[u8], datum: &Datum<'_>, level: Level) -> Appended
     ensures { OnOk result (out.new.items ≡ out.old.items ++ named_node opening.now datum.now.name
         (opt item_ellipsoid (option_map (norm_ellipsoid level) datum.now.ellipsoid)
         (opt (text_node (codes "ANCHOR")) datum.now.anchor
@@ -105,12 +99,7 @@ fn write_datum_in(
 }
 
 // Of an item.
-fn write_datum_of(
-    out: &mut Vec<u8>,
-    opening: &[u8],
-    node: &Node<'_, '_>,
-    level: Level,
-) -> Result<(), AllocError>
+fn write_datum_of(out: &mut Vec<u8>, opening: &[u8], node: &Node<'_, '_>, level: Level) -> Appended
     ensures { OnOk result (Writes (ReadsDatum node.now.class (item node.now)) (λ d. named_node opening.now d.name
         (opt item_ellipsoid (option_map (norm_ellipsoid level) d.ellipsoid)
         (opt (text_node (codes "ANCHOR")) d.anchor
@@ -129,11 +118,7 @@ fn write_datum_of(
 }
 
 // Of an item, after a comma, as a geodetic one.
-fn write_geodetic_datum(
-    out: &mut Vec<u8>,
-    node: &Node<'_, '_>,
-    level: Level,
-) -> Result<(), AllocError>
+fn write_geodetic_datum(out: &mut Vec<u8>, node: &Node<'_, '_>, level: Level) -> Appended
     ensures { OnOk result (Writes (ReadsDatum node.now.class (item node.now))
         (λ d. 44 ∷ item_text (item_datum (codes "DATUM") (norm_datum level d))) out.old.items out.new.items) }
 {
@@ -147,7 +132,7 @@ fn write_geodetic_datum(
 impl Spell for Datum<'_> {
     ghost spelling = { datum_text };
 
-    fn spell(&self, out: &mut Vec<u8>, level: Level) -> Result<(), AllocError> {
+    fn spell(&self, out: &mut Vec<u8>, level: Level) -> Appended {
         match &self.ellipsoid {
             Some(_) => write_datum_in(out, b"DATUM[\"", self, level),
             None => write_datum_in(out, b"VDATUM[\"", self, level),
@@ -175,7 +160,7 @@ impl<
     I: IdentsPart,
 > EnsembleFields<'n, 'm, M, E, N, I> {
     // After an opening.
-    fn write(self, out: &mut Vec<u8>, opening: &[u8], level: Level) -> Result<(), AllocError>
+    fn write(self, out: &mut Vec<u8>, opening: &[u8], level: Level) -> Appended
         requires { M.Hold self.members.now }
         ensures { OnOk result ((e : EnsembleParts) → e.name ≡ self.entry.name.now →
             M.Say self.entry.members.now e.members → SaysIfAny E.Says self.entry.ellipsoid e.ellipsoid →
@@ -196,7 +181,7 @@ impl<
 impl Spell for Ensemble<'_> {
     ghost spelling = { ensemble_text };
 
-    fn spell(&self, out: &mut Vec<u8>, level: Level) -> Result<(), AllocError> {
+    fn spell(&self, out: &mut Vec<u8>, level: Level) -> Appended {
         let members = self.members.as_slice();
         EnsembleFields {
             name: self.name,
@@ -212,7 +197,7 @@ impl Spell for Ensemble<'_> {
 impl Spell for Frame<'_> {
     ghost spelling = { frame_text };
 
-    fn spell(&self, out: &mut Vec<u8>, level: Level) -> Result<(), AllocError> {
+    fn spell(&self, out: &mut Vec<u8>, level: Level) -> Appended {
         match self {
             Frame::Datum(datum) => datum.spell(out, level),
             Frame::Ensemble(ensemble) => ensemble.spell(out, level),
@@ -227,12 +212,12 @@ pub(crate) trait FramePart: Copy {
     ghost SaysVertical: { Self → Frame → Type 0 };
 
     // After a comma.
-    fn put_geodetic(&self, out: &mut Vec<u8>, level: Level) -> Result<(), AllocError>
+    fn put_geodetic(&self, out: &mut Vec<u8>, level: Level) -> Appended
         ensures { OnOk result (Writes (SaysGeodetic self.now)
             (λ f. 44 ∷ item_text (item_frame (codes "DATUM") (norm_frame level f))) out.old.items out.new.items) };
 
     // After a comma.
-    fn put_vertical(&self, out: &mut Vec<u8>, level: Level) -> Result<(), AllocError>
+    fn put_vertical(&self, out: &mut Vec<u8>, level: Level) -> Appended
         ensures { OnOk result (Writes (SaysVertical self.now)
             (λ f. 44 ∷ item_text (item_frame (codes "VDATUM") (norm_frame level f))) out.old.items out.new.items) };
 }
@@ -242,14 +227,14 @@ impl<'b, 'a> FramePart for &'b Frame<'a> {
 
     ghost SaysVertical = { λ s v. v ≡ s.now };
 
-    fn put_geodetic(&self, out: &mut Vec<u8>, level: Level) -> Result<(), AllocError> {
+    fn put_geodetic(&self, out: &mut Vec<u8>, level: Level) -> Appended {
         match *self {
             Frame::Datum(datum) => write_datum_in(out, b",DATUM[\"", datum, level),
             Frame::Ensemble(ensemble) => write_part(out, ensemble, level),
         }
     }
 
-    fn put_vertical(&self, out: &mut Vec<u8>, level: Level) -> Result<(), AllocError> {
+    fn put_vertical(&self, out: &mut Vec<u8>, level: Level) -> Appended {
         match *self {
             Frame::Datum(datum) => write_datum_in(out, b",VDATUM[\"", datum, level),
             Frame::Ensemble(ensemble) => write_part(out, ensemble, level),
@@ -258,12 +243,7 @@ impl<'b, 'a> FramePart for &'b Frame<'a> {
 }
 
 // An ensemble of this class that a node has in the place of a frame, after a comma.
-fn write_ensemble_of(
-    out: &mut Vec<u8>,
-    node: &Node<'_, '_>,
-    class: Class,
-    level: Level,
-) -> Result<(), AllocError>
+fn write_ensemble_of(out: &mut Vec<u8>, node: &Node<'_, '_>, class: Class, level: Level) -> Appended
     ensures { OnOk result (Writes (ReadsOne ReadsEnsemble class node.now.class (item node.now))
         (λ e. 44 ∷ item_text (item_ensemble (norm_ensemble level e))) out.old.items out.new.items) }
 {
@@ -287,14 +267,14 @@ impl<'c, 'i, 'a> FramePart for &'c Node<'i, 'a> {
 
     ghost SaysVertical = { λ n f. ReadsVerticalFrame n.now.class (item n.now) f };
 
-    fn put_geodetic(&self, out: &mut Vec<u8>, level: Level) -> Result<(), AllocError> {
+    fn put_geodetic(&self, out: &mut Vec<u8>, level: Level) -> Appended {
         match self.first(Class::GeodeticFrame) {
             None => write_ensemble_of(out, *self, Class::GeodeticEnsemble, level),
             Some(found) => write_geodetic_datum(out, &found, level),
         }
     }
 
-    fn put_vertical(&self, out: &mut Vec<u8>, level: Level) -> Result<(), AllocError> {
+    fn put_vertical(&self, out: &mut Vec<u8>, level: Level) -> Appended {
         match self.first(Class::VerticalFrame) {
             None => write_ensemble_of(out, *self, Class::VerticalEnsemble, level),
             Some(found) => write_datum_of(out, b",VDATUM[\"", &found, level),

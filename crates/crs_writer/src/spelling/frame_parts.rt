@@ -19,15 +19,14 @@ ghost use Rattle.crs_nodes.specs.Found.{SaysIfAny};
 ghost use Rattle.crs_leaves.specs.Direct.{Writes};
 ghost use Rattle.crs_leaves.specs.Openings.{named_node};
 
-use crate::parts::{IdentsPart, NumberPart, Part, UnitPart, write_number_node, write_optional};
-use crate::spell::Spell;
-use crate::spelling::ident::write_named;
-use crate::spelling::unit::{NumberFields, write_length};
+use crate::parts::{
+    Appended, IdentsPart, NumberPart, Part, Spell, UnitPart, write_number_node, write_optional,
+};
+use crate::spelling::unit::{NumberFields, write_length, write_named};
 use crs_leaves::{append, open_text};
 use crs_nodes::Node;
 use crs_shape::Class;
 use crs_value::{DeformationModel, Dynamic, Ellipsoid, Level, Meridian, UnitKind};
-use std::alloc::AllocError;
 
 // The parts of an ellipsoid.
 #[derive(Drop)]
@@ -42,7 +41,7 @@ struct EllipsoidFields<'n, A, F, U, I> {
 impl<'n, A: NumberPart, F: NumberPart, U: UnitPart, I: IdentsPart> EllipsoidFields<'n, A, F, U, I> {
     // After an opening.
     #[tactic(auto, using(crate::proofs::FlatLemmas::flat_rules))]
-    fn write(self, out: &mut Vec<u8>, opening: &[u8], level: Level) -> Result<(), AllocError>
+    fn write(self, out: &mut Vec<u8>, opening: &[u8], level: Level) -> Appended
         ensures { OnOk result ((e : EllipsoidParts) → e.name ≡ self.entry.name.now →
             A.Says self.entry.axis e.semi_major_axis → F.Says self.entry.flattening e.inverse_flattening →
             SaysIfAny U.Says self.entry.unit e.unit → I.Says self.entry.ids e.identifiers →
@@ -62,7 +61,7 @@ impl<'n, A: NumberPart, F: NumberPart, U: UnitPart, I: IdentsPart> EllipsoidFiel
 impl Spell for Ellipsoid<'_> {
     ghost spelling = { ellipsoid_text };
 
-    fn spell(&self, out: &mut Vec<u8>, level: Level) -> Result<(), AllocError> {
+    fn spell(&self, out: &mut Vec<u8>, level: Level) -> Appended {
         EllipsoidFields {
             name: self.name,
             axis: &self.semi_major_axis,
@@ -77,7 +76,7 @@ impl Spell for Ellipsoid<'_> {
 impl<'c, 'i, 'a> Part<Ellipsoid<'a>> for &'c Node<'i, 'a> {
     ghost Says = { λ n e. ReadsEllipsoid n.now.class (item n.now) e };
 
-    fn put(&self, out: &mut Vec<u8>, level: Level) -> Result<(), AllocError> {
+    fn put(&self, out: &mut Vec<u8>, level: Level) -> Appended {
         let unit = self.first(Class::LengthUnit);
         EllipsoidFields {
             name: self.text(),
@@ -101,7 +100,7 @@ fn unit_said<N: NumberPart, U: UnitPart>(longitude: N, unit: Option<U>) -> Optio
 impl Spell for Meridian<'_> {
     ghost spelling = { meridian_text };
 
-    fn spell(&self, out: &mut Vec<u8>, level: Level) -> Result<(), AllocError> {
+    fn spell(&self, out: &mut Vec<u8>, level: Level) -> Appended {
         NumberFields {
             name: self.name,
             number: &self.longitude,
@@ -116,7 +115,7 @@ impl Spell for Meridian<'_> {
 impl<'c, 'i, 'a> Part<Meridian<'a>> for &'c Node<'i, 'a> {
     ghost Says = { λ n m. ReadsMeridian n.now.class (item n.now) m };
 
-    fn put(&self, out: &mut Vec<u8>, level: Level) -> Result<(), AllocError> {
+    fn put(&self, out: &mut Vec<u8>, level: Level) -> Appended {
         let unit = self.first(Class::AngleUnit);
         let longitude = self.number();
         NumberFields {
@@ -130,7 +129,7 @@ impl<'c, 'i, 'a> Part<Meridian<'a>> for &'c Node<'i, 'a> {
     }
 }
 
-pub fn write_greenwich(out: &mut Vec<u8>) -> Result<(), AllocError>
+pub fn write_greenwich(out: &mut Vec<u8>) -> Appended
     ensures { OnOk result (out.new.items ≡ out.old.items ++ 44 ∷ item_text (item_meridian greenwich)) }
 {
     append(out, b",PRIMEM[\"Greenwich\",0]")
@@ -141,7 +140,7 @@ pub(crate) fn write_meridian<'a, M: Part<Meridian<'a>>>(
     out: &mut Vec<u8>,
     meridian: Option<M>,
     level: Level,
-) -> Result<(), AllocError>
+) -> Appended
     ensures { OnOk result (Writes (SaysIfAny M.Says meridian)
         (λ m. others_text (opt item_meridian (norm_meridian level m) End)) out.old.items out.new.items) }
 {
@@ -154,7 +153,7 @@ pub(crate) fn write_meridian<'a, M: Part<Meridian<'a>>>(
 impl Spell for DeformationModel<'_> {
     ghost spelling = { deformation_model_text };
 
-    fn spell(&self, out: &mut Vec<u8>, level: Level) -> Result<(), AllocError> {
+    fn spell(&self, out: &mut Vec<u8>, level: Level) -> Appended {
         write_named(out, b"MODEL[\"", self.name, &self.identifiers, level)
     }
 }
@@ -162,7 +161,7 @@ impl Spell for DeformationModel<'_> {
 impl<'c, 'i, 'a> Part<DeformationModel<'a>> for &'c Node<'i, 'a> {
     ghost Says = { λ n m. ReadsDeformationModel n.now.class (item n.now) m };
 
-    fn put(&self, out: &mut Vec<u8>, level: Level) -> Result<(), AllocError> {
+    fn put(&self, out: &mut Vec<u8>, level: Level) -> Appended {
         write_named(out, b",MODEL[\"", self.text(), *self, level)
     }
 }
@@ -175,7 +174,7 @@ fn write_dynamic<'a, N: NumberPart, M: Part<DeformationModel<'a>>>(
     epoch: N,
     model: Option<M>,
     level: Level,
-) -> Result<(), AllocError>
+) -> Appended
     ensures { OnOk result ((e : Value) (m : Option DeformationModelParts) → N.Says epoch e → SaysIfAny M.Says model m →
         out.new.items ≡ out.old.items ++ ((opening.now ++ (plain e ++ 93 ∷ []))
         ++ (others_text (opt item_deformation_model (option_map (norm_deformation_model level) m) End) ++ 93 ∷ []))) }
@@ -188,7 +187,7 @@ fn write_dynamic<'a, N: NumberPart, M: Part<DeformationModel<'a>>>(
 impl Spell for Dynamic<'_> {
     ghost spelling = { dynamic_text };
 
-    fn spell(&self, out: &mut Vec<u8>, level: Level) -> Result<(), AllocError> {
+    fn spell(&self, out: &mut Vec<u8>, level: Level) -> Appended {
         write_dynamic(
             out,
             b"DYNAMIC[FRAMEEPOCH[",
@@ -202,7 +201,7 @@ impl Spell for Dynamic<'_> {
 impl<'c, 'i, 'a> Part<Dynamic<'a>> for &'c Node<'i, 'a> {
     ghost Says = { λ n d. ReadsDynamic n.now.class (item n.now) d };
 
-    fn put(&self, out: &mut Vec<u8>, level: Level) -> Result<(), AllocError> {
+    fn put(&self, out: &mut Vec<u8>, level: Level) -> Appended {
         let epoch = self.one_number(Class::FrameEpoch);
         let model = self.first(Class::DeformationModel);
         write_dynamic(out, b",DYNAMIC[FRAMEEPOCH[", epoch, model.as_ref(), level)

@@ -22,13 +22,12 @@ ghost use Rattle.crs_nodes.specs.Found.{SaysIfAny};
 ghost use Rattle.crs_leaves.specs.Openings.{named_node};
 
 use crate::members::ReadAs;
-use crate::parts::{IdentsPart, Part, UnitPart, write_optional};
-use crate::spell::Spell;
+use crate::parts::{Appended, IdentsPart, Part, Spell, UnitPart, write_optional};
 use crate::spelling::frame::FramePart;
 use crate::spelling::frame_parts::write_meridian;
 use crate::spelling::system::{SystemPart, write_system};
-use crate::spelling::tail::TailPart;
 use crate::spelling::unit::write_optional_unit;
+use crate::spelling::usage::TailPart;
 use crs_leaves::{append, open_text};
 use crs_nodes::Node;
 use crs_shape::Class;
@@ -36,7 +35,6 @@ use crs_value::{
     Base, Conversion, Dynamic, Geodetic, Horizontal, Level, Meridian, Projected, SystemType,
     UnitKind,
 };
-use std::alloc::AllocError;
 
 // The keyword of a geodetic CRS whose coordinate system has this type, the opening delimiter and a quote.
 pub fn geodetic_opening(system_type: SystemType) -> &'static str
@@ -69,7 +67,7 @@ impl<
     T: TailPart,
 > GeodeticFields<'n, D, F, M, S, T> {
     #[tactic(auto, using(crate::proofs::FlatLemmas::crs_rules))]
-    fn write(self, out: &mut Vec<u8>, level: Level) -> Result<(), AllocError>
+    fn write(self, out: &mut Vec<u8>, level: Level) -> Appended
         ensures { OnOk result ((n : List ℕ) (d : Option DynamicParts) (f : Frame) (m : Option MeridianParts)
             (s : SystemParts) (t : TailParts) → n ≡ self.entry.name.now → SaysIfAny D.Says self.entry.dynamic d →
             F.SaysGeodetic self.entry.frame f → SaysIfAny M.Says self.entry.meridian m → S.Says self.entry.system s →
@@ -97,7 +95,7 @@ impl Spell for Geodetic<'_> {
     ghost spelling = { geodetic_text };
 
     #[tactic(auto, using(crate::proofs::FlatLemmas::value_rules))]
-    fn spell(&self, out: &mut Vec<u8>, level: Level) -> Result<(), AllocError> {
+    fn spell(&self, out: &mut Vec<u8>, level: Level) -> Appended {
         GeodeticFields {
             name: self.name,
             dynamic: self.dynamic.as_ref(),
@@ -113,7 +111,7 @@ impl Spell for Geodetic<'_> {
 impl<'a> ReadAs<'a> for Geodetic<'a> {
     ghost Reads = { ReadsGeodetic };
 
-    fn write_of(node: &Node<'_, 'a>, out: &mut Vec<u8>, level: Level) -> Result<(), AllocError> {
+    fn write_of(node: &Node<'_, 'a>, out: &mut Vec<u8>, level: Level) -> Appended {
         let dynamic = node.first(Class::Dynamic);
         let meridian = node.first(Class::PrimeMeridian);
         GeodeticFields {
@@ -150,7 +148,7 @@ impl<
 > BaseFields<'n, D, F, M, U, I> {
     // After an opening.
     #[tactic(auto, using(crate::proofs::FlatLemmas::crs_rules))]
-    fn write(self, out: &mut Vec<u8>, opening: &[u8], level: Level) -> Result<(), AllocError>
+    fn write(self, out: &mut Vec<u8>, opening: &[u8], level: Level) -> Appended
         ensures { OnOk result ((n : List ℕ) (d : Option DynamicParts) (f : Frame) (m : Option MeridianParts)
             (u : Option UnitParts) (is : List IdentParts) → n ≡ self.entry.name.now → SaysIfAny D.Says self.entry.dynamic d →
             F.SaysGeodetic self.entry.frame f → SaysIfAny M.Says self.entry.meridian m →
@@ -172,7 +170,7 @@ impl<
 impl Spell for Base<'_> {
     ghost spelling = { base_text };
 
-    fn spell(&self, out: &mut Vec<u8>, level: Level) -> Result<(), AllocError> {
+    fn spell(&self, out: &mut Vec<u8>, level: Level) -> Appended {
         BaseFields {
             name: self.name,
             dynamic: self.dynamic.as_ref(),
@@ -188,7 +186,7 @@ impl Spell for Base<'_> {
 impl<'c, 'i, 'a> Part<Base<'a>> for &'c Node<'i, 'a> {
     ghost Says = { λ n b. ReadsBase n.now.class (item n.now) b };
 
-    fn put(&self, out: &mut Vec<u8>, level: Level) -> Result<(), AllocError> {
+    fn put(&self, out: &mut Vec<u8>, level: Level) -> Appended {
         let dynamic = self.first(Class::Dynamic);
         let meridian = self.first(Class::PrimeMeridian);
         let unit = self.first(Class::AngleUnit);
@@ -222,7 +220,7 @@ impl<
     S: SystemPart,
     T: TailPart,
 > ProjectedFields<'n, B, C, S, T> {
-    fn write(self, out: &mut Vec<u8>, level: Level) -> Result<(), AllocError>
+    fn write(self, out: &mut Vec<u8>, level: Level) -> Appended
         ensures { OnOk result ((p : ProjectedParts) → p.name ≡ self.entry.name.now → B.Says self.entry.base p.base →
             C.Says self.entry.conversion p.conversion → S.Says self.entry.system p.system →
             T.Says self.entry.tail p.tail → out.new.items ≡ out.old.items ++ projected_text level p) }
@@ -239,7 +237,7 @@ impl<
 impl Spell for Projected<'_> {
     ghost spelling = { projected_text };
 
-    fn spell(&self, out: &mut Vec<u8>, level: Level) -> Result<(), AllocError> {
+    fn spell(&self, out: &mut Vec<u8>, level: Level) -> Appended {
         ProjectedFields {
             name: self.name,
             base: &self.base,
@@ -254,7 +252,7 @@ impl Spell for Projected<'_> {
 impl<'a> ReadAs<'a> for Projected<'a> {
     ghost Reads = { ReadsProjected };
 
-    fn write_of(node: &Node<'_, 'a>, out: &mut Vec<u8>, level: Level) -> Result<(), AllocError> {
+    fn write_of(node: &Node<'_, 'a>, out: &mut Vec<u8>, level: Level) -> Appended {
         let base = node.first(Class::BaseCrs);
         let conversion = node.first(Class::Conversion);
         ProjectedFields {
@@ -271,7 +269,7 @@ impl<'a> ReadAs<'a> for Projected<'a> {
 impl Spell for Horizontal<'_> {
     ghost spelling = { horizontal_text };
 
-    fn spell(&self, out: &mut Vec<u8>, level: Level) -> Result<(), AllocError> {
+    fn spell(&self, out: &mut Vec<u8>, level: Level) -> Appended {
         match self {
             Horizontal::Geodetic(geodetic) => geodetic.spell(out, level),
             Horizontal::Projected(projected) => projected.spell(out, level),
@@ -283,7 +281,7 @@ impl Spell for Horizontal<'_> {
 impl<'c, 'i, 'a> Part<Horizontal<'a>> for &'c Node<'i, 'a> {
     ghost Says = { λ n h. ReadsHorizontal n.now.class (item n.now) h };
 
-    fn put(&self, out: &mut Vec<u8>, level: Level) -> Result<(), AllocError> {
+    fn put(&self, out: &mut Vec<u8>, level: Level) -> Appended {
         append(out, b",")?;
         if let Some(found) = self.first(Class::GeodeticCrs) {
             return Geodetic::write_of(&found, out, level);

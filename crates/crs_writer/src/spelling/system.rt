@@ -10,13 +10,13 @@ ghost use Rattle.crs_value.specs.Reads.{ReadsAxis, ReadsSystem, ReadsType, Reads
 ghost use Rattle.crs_value.specs.Values.{AxisParts, SystemParts, UnitParts};
 ghost use Rattle.crs_matching.specs.SameSystems.{own_or};
 ghost use Rattle.crs_normal.specs.SpelledItems.{each};
-ghost use Rattle.crs_normal.specs.SpelledSystems.{axes_from, axis_at, item_axis, item_head};
-ghost use Rattle.crs_normal.specs.SpelledSystems.{norm_axis, norm_system, system_items, with_axis};
+ghost use Rattle.crs_normal.specs.SpelledSystems.{axes_from, axis_at, item_axis, item_head, norm_axis, norm_system};
+ghost use Rattle.crs_normal.specs.SpelledSystems.{system_items, with_axis};
 ghost use Rattle.crs_nodes.specs.Cursor.{args, item};
 ghost use Rattle.crs_nodes.specs.Found.{SaysIfAny};
 ghost use Rattle.crs_leaves.specs.Direct.{Writes};
 
-use crate::parts::{IdentsPart, NumberPart};
+use crate::parts::{Appended, IdentsPart, NumberPart};
 use crate::spelling::axis::AxisFields;
 use crs_leaves::{append, append_item, axes, is_at};
 use crs_nodes::{Node, copied};
@@ -47,7 +47,7 @@ pub(crate) trait SystemPart: Copy {
         system_type: SystemType,
         position: u64,
         level: Level,
-    ) -> Result<(), AllocError>
+    ) -> Appended
         ensures { OnOk result ((s : SystemParts) → s.system_type ≡ system_type → Says self.now s →
             out.new.items ≡ out.old.items ++ others_text (each item_axis
             (with_axis level s position (axis_at position 1 s.axes) []) End)) };
@@ -59,7 +59,7 @@ fn write_head<N: NumberPart, I: IdentsPart>(
     dimension: N,
     ids: I,
     level: Level,
-) -> Result<(), AllocError>
+) -> Appended
     ensures { OnOk result ((s : SystemParts) → s.system_type ≡ system_type → N.Says dimension s.dimension →
         I.Says ids s.identifiers → out.new.items ≡ out.old.items ++ 44 ∷ item_text (item_head (norm_system level s))) }
 {
@@ -75,7 +75,7 @@ fn write_axes<S: SystemPart>(
     system: S,
     system_type: SystemType,
     level: Level,
-) -> Result<(), AllocError>
+) -> Appended
     ensures { OnOk result ((s : SystemParts) → s.system_type ≡ system_type → S.Says system s →
         out.new.items ≡ out.old.items ++ others_text (each item_axis (axes_from level s 1 (length s.axes)) End)) }
 {
@@ -87,11 +87,7 @@ fn write_axes<S: SystemPart>(
 }
 
 #[tactic(auto, using(crate::proofs::PieceLemmas::then_rules))]
-pub(crate) fn write_system<S: SystemPart>(
-    out: &mut Vec<u8>,
-    system: S,
-    level: Level,
-) -> Result<(), AllocError>
+pub(crate) fn write_system<S: SystemPart>(out: &mut Vec<u8>, system: S, level: Level) -> Appended
     ensures { OnOk result (Writes (S.Says system) (λ s. others_text (system_items (norm_system level s) End))
         out.old.items out.new.items) }
 {
@@ -122,7 +118,7 @@ fn write_axis_in<'a>(
     axis: &Axis<'a>,
     position: u64,
     level: Level,
-) -> Result<(), AllocError>
+) -> Appended
     ensures { OnOk result (out.new.items
         ≡ out.old.items ++ 44 ∷ item_text (item_axis (norm_axis level system.now position axis.now))) }
 {
@@ -170,7 +166,7 @@ impl<'b, 'a> SystemPart for &'b System<'a> {
         _system_type: SystemType,
         position: u64,
         level: Level,
-    ) -> Result<(), AllocError> {
+    ) -> Appended {
         let system: &'b System<'a> = *self;
         match axis_at(system.axes.as_slice(), position) {
             None => Ok(()),
@@ -234,7 +230,7 @@ fn write_axis_of<'i, 'a>(
     axis: &Node<'i, 'a>,
     seat: Seat,
     level: Level,
-) -> Result<(), AllocError>
+) -> Appended
     ensures { OnOk result ((s : SystemParts) (a : AxisParts) → s.system_type ≡ seat.system_type →
         ReadsIfAny ReadsUnit Class.AxisUnit crs.now.class (item crs.now) s.unit →
         ReadsAxis axis.now.class (item axis.now) a →
@@ -287,7 +283,7 @@ impl<'c, 'i, 'a> SystemPart for &'c Node<'i, 'a> {
         system_type: SystemType,
         position: u64,
         level: Level,
-    ) -> Result<(), AllocError> {
+    ) -> Appended {
         let items = self.items;
         let class = Class::Axis;
         match axes::axis_at(items, self.id, self.class, position) {

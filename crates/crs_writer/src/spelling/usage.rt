@@ -1,29 +1,36 @@
-//! Usages and their extents.
-ghost use Rattle.std.specs.Prelude.{◌≡◌, ◌++◌, ◌<◌, ℕ, List, OnOk, Option, Some, codes, length, slice_set};
+//! Usages and their extents, and the ends of CRSs: usages, identifiers and remark.
+ghost use Rattle.std.specs.Prelude.{◌≡◌, ◌++◌, ◌<◌, ℕ, List, OnOk, Option, Some, codes, length, slice_set, ◌↔◌};
+ghost use Rattle.std.specs.Prelude.{IsFalse, map};
 ghost use Rattle.std.specs.Option.{option_copied, option_map};
 ghost use Rattle.crs_decimal.specs.Value.{Value};
 ghost use Rattle.crs_text.specs.Items.{End, More, Siblings};
 ghost use Rattle.crs_text.specs.Written.{item_text, others_text};
-ghost use Rattle.crs_value.specs.Reads.{ReadsBox, ReadsExtent, ReadsUsage};
-ghost use Rattle.crs_value.specs.Values.{BoxParts, ExtentParts, UnitParts};
+ghost use Rattle.crs_value.specs.Kept.{kept_one};
+ghost use Rattle.crs_value.specs.Reading.{ReadsAll, ReadsIfAny};
+ghost use Rattle.crs_value.specs.Reads.{ReadsBox, ReadsExtent, ReadsUsage, LacksUsage, ReadsBare, ReadsTail};
+ghost use Rattle.crs_value.specs.Reads.{ReadsTextOf};
+ghost use Rattle.crs_value.specs.Values.{BoxParts, ExtentParts, UnitParts, IdentParts, TailParts, UsageParts};
 ghost use Rattle.crs_value.specs.declared.values.level.Level.TheVariants as levels;
+ghost use Rattle.crs_matching.specs.SameUsages.{usages_of, with_bare};
 ghost use Rattle.crs_normal.specs.PartTexts.{box_text, extent_text, usage_text};
-ghost use Rattle.crs_normal.specs.SpelledItems.{node_from, number_item, opt, text_node};
-ghost use Rattle.crs_normal.specs.SpelledUnits.{item_unit, norm_length};
-ghost use Rattle.crs_normal.specs.SpelledUsages.{item_box, item_extent, norm_extent};
+ghost use Rattle.crs_normal.specs.SpelledItems.{node_from, number_item, opt, text_node, each};
+ghost use Rattle.crs_normal.specs.SpelledUnits.{item_unit, norm_length, item_ident, set_idents};
+ghost use Rattle.crs_normal.specs.SpelledUsages.{item_box, item_extent, norm_extent, item_usage, norm_tail, norm_usage};
+ghost use Rattle.crs_normal.specs.SpelledUsages.{set_usages, tail_items};
 ghost use Rattle.crs_nodes.specs.Cursor.{item};
 ghost use Rattle.crs_nodes.specs.Found.{SaysIfAny};
+ghost use Rattle.crs_leaves.specs.Direct.{Writes};
 ghost use Rattle.crs_leaves.specs.Openings.{enclosed, numbered_node};
+ghost use Rattle.crs_writer.specs.Members.{set_text};
 
 use crate::members::ReadAs;
-use crate::parts::{NumberPart, Part, UnitPart, write_optional};
-use crate::spell::Spell;
+use crate::parts::{Appended, IdentsPart, NumberPart, Part, Spell, UnitPart, write_optional};
+use crate::set::{write_set, write_set_with};
 use crate::spelling::unit::write_length;
 use crs_leaves::{append, write_optional_text};
-use crs_nodes::{Node, copied};
+use crs_nodes::{Chain, Node, copied, keeps};
 use crs_shape::Class;
-use crs_value::{BoundingBox, Extent, Level, Usage};
-use std::alloc::AllocError;
+use crs_value::{BoundingBox, Extent, Level, Tail, Usage};
 
 // The sides of a bounding box, after an opening.
 #[tactic(auto, using(crate::proofs::FlatLemmas::number_rules))]
@@ -32,7 +39,7 @@ fn write_box<N: NumberPart>(
     opening: &[u8],
     south_west: (N, N),
     north_east: (N, N),
-) -> Result<(), AllocError>
+) -> Appended
     ensures { OnOk result ((s w n e : Value) → N.Says south_west.0 s → N.Says south_west.1 w →
         N.Says north_east.0 n → N.Says north_east.1 e → out.new.items ≡ out.old.items ++ numbered_node opening.now s
         (More (number_item w) (More (number_item n) (More (number_item e) End)))) }
@@ -47,7 +54,7 @@ fn write_box<N: NumberPart>(
 impl Spell for BoundingBox {
     ghost spelling = { box_text };
 
-    fn spell(&self, out: &mut Vec<u8>, _level: Level) -> Result<(), AllocError> {
+    fn spell(&self, out: &mut Vec<u8>, _level: Level) -> Appended {
         write_box(
             out,
             b"BBOX[",
@@ -60,7 +67,7 @@ impl Spell for BoundingBox {
 impl<'c, 'i, 'a> Part<BoundingBox> for &'c Node<'i, 'a> {
     ghost Says = { λ n b. ReadsBox n.now.class (item n.now) b };
 
-    fn put(&self, out: &mut Vec<u8>, _level: Level) -> Result<(), AllocError> {
+    fn put(&self, out: &mut Vec<u8>, _level: Level) -> Appended {
         let south_west = (self.nth_number(0), self.nth_number(1));
         let north_east = (self.nth_number(2), self.nth_number(3));
         write_box(out, b",BBOX[", south_west, north_east)
@@ -75,7 +82,7 @@ fn write_extent<N: NumberPart, U: UnitPart>(
     limits: (N, N),
     unit: Option<U>,
     level: Level,
-) -> Result<(), AllocError>
+) -> Appended
     ensures { OnOk result ((l h : Value) (u : Option UnitParts) → N.Says limits.0 l → N.Says limits.1 h →
         SaysIfAny U.Says unit u → out.new.items ≡ out.old.items ++ numbered_node opening.now l
         (More (number_item h) (opt item_unit (Some (norm_length level u)) End))) }
@@ -89,7 +96,7 @@ fn write_extent<N: NumberPart, U: UnitPart>(
 impl Spell for Extent<'_> {
     ghost spelling = { extent_text };
 
-    fn spell(&self, out: &mut Vec<u8>, level: Level) -> Result<(), AllocError> {
+    fn spell(&self, out: &mut Vec<u8>, level: Level) -> Appended {
         let limits = (&self.minimum, &self.maximum);
         write_extent(out, b"VERTICALEXTENT[", limits, self.unit.as_ref(), level)
     }
@@ -98,7 +105,7 @@ impl Spell for Extent<'_> {
 impl<'c, 'i, 'a> Part<Extent<'a>> for &'c Node<'i, 'a> {
     ghost Says = { λ n e. ReadsExtent n.now.class (item n.now) e };
 
-    fn put(&self, out: &mut Vec<u8>, level: Level) -> Result<(), AllocError> {
+    fn put(&self, out: &mut Vec<u8>, level: Level) -> Appended {
         let unit = self.first(Class::LengthUnit);
         let limits = (self.nth_number(0), self.nth_number(1));
         write_extent(out, b",VERTICALEXTENT[", limits, unit.as_ref(), level)
@@ -115,7 +122,7 @@ fn open_at(out: &mut Vec<u8>, at: usize)
 }
 
 // Delimiters around the arguments from this place on; the opening one replaces the first comma.
-fn enclose(out: &mut Vec<u8>, at: usize) -> Result<(), AllocError>
+fn enclose(out: &mut Vec<u8>, at: usize) -> Appended
     ensures { OnOk result ((front : List ℕ) (items : Siblings) → out.old.items ≡ front ++ others_text items →
         length front ≡ at → out.new.items ≡ front ++ enclosed items) }
 {
@@ -132,7 +139,7 @@ fn write_usage<'a, B: Part<BoundingBox>, E: Part<Extent<'a>>>(
     area: Option<&[u8]>,
     bbox: Option<B>,
     extent: Option<E>,
-) -> Result<(), AllocError>
+) -> Appended
     ensures { OnOk result ((s a : Option (List ℕ)) (b : Option BoxParts) (e : Option ExtentParts) →
         s ≡ option_copied scope.entry → a ≡ option_copied area.entry → SaysIfAny B.Says bbox b →
         SaysIfAny E.Says extent e → out.new.items ≡ out.old.items ++ item_text (node_from (codes "USAGE")
@@ -152,7 +159,7 @@ impl Spell for Usage<'_> {
     ghost spelling = { usage_text };
 
     #[tactic(auto, using(crate::proofs::FlatLemmas::value_rules))]
-    fn spell(&self, out: &mut Vec<u8>, _level: Level) -> Result<(), AllocError> {
+    fn spell(&self, out: &mut Vec<u8>, _level: Level) -> Appended {
         write_usage(
             out,
             self.scope,
@@ -166,7 +173,7 @@ impl Spell for Usage<'_> {
 impl<'a> ReadAs<'a> for Usage<'a> {
     ghost Reads = { ReadsUsage };
 
-    fn write_of(node: &Node<'_, 'a>, out: &mut Vec<u8>, level: Level) -> Result<(), AllocError> {
+    fn write_of(node: &Node<'_, 'a>, out: &mut Vec<u8>, level: Level) -> Appended {
         if let Some(bytes) = copied::usage(node, level) {
             return append(out, bytes);
         }
@@ -175,5 +182,138 @@ impl<'a> ReadAs<'a> for Usage<'a> {
         let scope = node.text_in(Class::Scope);
         let area = node.text_in(Class::Area);
         write_usage(out, scope, area, bbox.as_ref(), extent.as_ref())
+    }
+}
+
+// ---- the ends of CRSs
+
+/// The end of a CRS, which the item of the CRS has.
+pub(crate) trait TailPart: Copy {
+    ghost Says: { Self → TailParts → Type 0 };
+
+    fn put(&self, out: &mut Vec<u8>, level: Level) -> Appended
+        ensures { OnOk result (Writes (Says self.now) (λ t. others_text (tail_items (norm_tail level t)))
+            out.old.items out.new.items) };
+}
+
+// The identifiers that the level keeps, and a remark, if there is one.
+fn write_end<I: IdentsPart>(
+    out: &mut Vec<u8>,
+    ids: I,
+    remark: Option<&[u8]>,
+    level: Level,
+) -> Appended
+    ensures { OnOk result ((is : List IdentParts) (r : Option (List ℕ)) → I.Says ids is → r ≡ option_copied remark.entry →
+        out.new.items ≡ out.old.items ++ others_text
+        (each item_ident (set_idents level is) (opt (text_node (codes "REMARK")) r End))) }
+{
+    ids.put(out, level)?;
+    write_optional_text(out, b",REMARK[\"", remark)
+}
+
+// ---- of a value
+
+// The bare parts are together one usage more.
+fn write_usage_set<'a>(
+    out: &mut Vec<u8>,
+    bare: Option<&Usage<'a>>,
+    usages: &[Usage<'a>],
+) -> Appended
+    ensures { OnOk result (out.new.items ≡ out.old.items ++ set_text
+        (map (λ u. item_text (item_usage (norm_usage u))) (with_bare (option_copied bare.entry) usages.now))) }
+{
+    match bare {
+        None => write_set::<Usage<'a>, &[Usage<'a>]>(out, &usages, Level::Full),
+        Some(bare) => write_set_with::<Usage<'a>, &Usage<'a>, &[Usage<'a>]>(
+            out,
+            &bare,
+            &usages,
+            Level::Full,
+        ),
+    }
+}
+
+#[tactic(auto, using(crate::proofs::WrittenLemmas::written_rules))]
+fn write_usages(out: &mut Vec<u8>, tail: &Tail<'_>, level: Level) -> Appended
+    ensures { OnOk result (out.new.items
+        ≡ out.old.items ++ others_text (each item_usage (set_usages level (usages_of tail.now)) End)) }
+{
+    write_usage_set(
+        out,
+        level.kept_one(tail.bare_parts.as_ref()),
+        level.kept(tail.usages.as_slice()),
+    )
+}
+
+impl<'b, 'a> TailPart for &'b Tail<'a> {
+    ghost Says = { λ s v. v ≡ s.now };
+
+    #[tactic(auto, using(crate::proofs::PieceLemmas::then_rules))]
+    fn put(&self, out: &mut Vec<u8>, level: Level) -> Appended {
+        let tail: &'b Tail<'a> = *self;
+        write_usages(out, tail, level)?;
+        write_end(out, &tail.identifiers, level.kept_text(tail.remark), level)
+    }
+}
+
+// ---- of an item
+
+// Whether a part of a usage is bare.
+fn has_bare(node: &Node<'_, '_>) -> bool
+    ensures { IsFalse result ↔ LacksUsage node.now.class (item node.now) }
+{
+    node.has(Class::Scope)
+        || node.has(Class::Area)
+        || node.has(Class::BoundingBox)
+        || node.has(Class::VerticalExtent)
+}
+
+// The bare parts are together one usage more.
+fn write_all_usages<'i, 'a>(node: &Node<'i, 'a>, out: &mut Vec<u8>) -> Appended
+    ensures { OnOk result ((bare : Option UsageParts) (usages : List UsageParts) →
+        ReadsBare node.now.class (item node.now) bare →
+        ReadsAll ReadsUsage Class.Usage node.now.class (item node.now) usages →
+        out.new.items ≡ out.old.items ++ set_text
+        (map (λ u. item_text (item_usage (norm_usage u))) (with_bare bare usages))) }
+{
+    let usages = node.all(Class::Usage);
+    if has_bare(node) {
+        write_set_with::<Usage<'a>, Node<'i, 'a>, Chain<'i, 'a>>(out, node, &usages, Level::Full)
+    } else {
+        write_set::<Usage<'a>, Chain<'i, 'a>>(out, &usages, Level::Full)
+    }
+}
+
+// The usages that the level keeps.
+fn write_usages_of(node: &Node<'_, '_>, out: &mut Vec<u8>, level: Level) -> Appended
+    ensures { OnOk result (Writes (ReadsTail node.now.class (item node.now))
+        (λ t. others_text (each item_usage (set_usages level (usages_of t)) End)) out.old.items out.new.items) }
+{
+    if keeps(level) {
+        write_all_usages(node, out)
+    } else {
+        Ok(())
+    }
+}
+
+// The remark, if the level keeps it.
+fn remark_of<'a>(node: &Node<'_, 'a>, level: Level) -> Option<&'a [u8]>
+    ensures { (value : Option (List ℕ)) → ReadsIfAny ReadsTextOf Class.Remark node.now.class (item node.now) value →
+        kept_one level value ≡ option_copied result }
+{
+    if keeps(level) {
+        node.text_in(Class::Remark)
+    } else {
+        None
+    }
+}
+
+impl<'c, 'i, 'a> TailPart for &'c Node<'i, 'a> {
+    ghost Says = { λ n t. ReadsTail n.now.class (item n.now) t };
+
+    #[tactic(auto, using(crate::proofs::PieceLemmas::then_rules))]
+    fn put(&self, out: &mut Vec<u8>, level: Level) -> Appended {
+        write_usages_of(*self, out, level)?;
+        write_end(out, *self, remark_of(*self, level), level)
     }
 }

@@ -1,7 +1,7 @@
 use Rattle.std.proofs.Common.{◌++◌, ℕ, List, ap, ◌∙◌}
 use Rattle.crs_writer.proofs.DirectPartLemmas.{untold, usages-dropped, usages-kept}
 use Rattle.crs_writer.proofs.FlatLemmas.{written}
-use Rattle.crs_writer.proofs.spelling.tail.write_usages_of.Goals as goal
+use Rattle.crs_writer.proofs.spelling.usage.write_usages_of.Goals as goal
 
 pub returns-then-keeps : goal.returns-then-keeps
 returns-then-keeps c = written c.write_all_usages.result _ _ _ c.write_all_usages.ensures (λ all t r.

@@ -6,7 +6,7 @@ use Rattle.crs_leaves.specs.Openings.{text_behind}
 use Rattle.crs_writer.proofs.PieceLemmas.{then-each}
 use Rattle.crs_writer.proofs.DirectLemmas.{last-text}
 use Rattle.crs_writer.proofs.FlatLemmas.{told}
-use Rattle.crs_writer.proofs.spelling.tail.write_end.Goals as goal
+use Rattle.crs_writer.proofs.spelling.usage.write_end.Goals as goal
 
 pub returns : goal.returns
 returns g c = on_ok_weaker c.write_optional_text.result (λ ends ids remark i r.
