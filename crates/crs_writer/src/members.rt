@@ -173,14 +173,7 @@ impl<'i, 'a, T: ReadAs<'a>> MembersPart<T> for Chain<'i, 'a> {
             None => None,
             Some(id) => {
                 let at = lookup::later(items, id, self.parent, class);
-                let others = Chain {
-                    items,
-                    at,
-                    parent: self.parent,
-                    class,
-                    few: self.few,
-                };
-                Some((Node { items, id, class }, others))
+                Some((Node { items, id, class }, Chain { at, ..*self }))
             }
         }
     }

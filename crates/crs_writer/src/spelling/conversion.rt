@@ -60,12 +60,11 @@ impl<'a> ReadAs<'a> for Parameter<'a> {
         if let Some(bytes) = copied::parameter(node, level) {
             return append(out, bytes);
         }
-        let unit = node.parameter_unit();
         NumberFields {
             name: node.text(),
             number: node.number(),
             asked: UnitKind::Plain,
-            unit: unit.as_ref(),
+            unit: node.parameter_unit().as_ref(),
             ids: node,
         }
         .write(out, b"PARAMETER[\"", level)
@@ -110,11 +109,10 @@ impl<'a> Spell for Conversion<'a> {
     ghost spelling = { conversion_text };
 
     fn spell(&self, out: &mut Vec<u8>, level: Level) -> Appended {
-        let parameters = self.parameters.as_slice();
         ConversionFields {
             name: self.name,
             method: &self.method,
-            parameters: &parameters,
+            parameters: &self.parameters.as_slice(),
             ids: &self.identifiers,
         }
         .write(out, b"CONVERSION[\"", level)
@@ -125,12 +123,10 @@ impl<'c, 'i, 'a> Part<Conversion<'a>> for &'c Node<'i, 'a> {
     ghost Says = { λ n c. ReadsConversion n.now.class (item n.now) c };
 
     fn put(&self, out: &mut Vec<u8>, level: Level) -> Appended {
-        let method = self.first(Class::Method);
-        let parameters = self.all(Class::Parameter);
         ConversionFields {
             name: self.text(),
-            method: method.as_ref(),
-            parameters: &parameters,
+            method: self.first(Class::Method).as_ref(),
+            parameters: &self.all(Class::Parameter),
             ids: *self,
         }
         .write(out, b",CONVERSION[\"", level)

@@ -65,13 +65,12 @@ impl Spell for Vertical<'_> {
     ghost spelling = { vertical_text };
 
     fn spell(&self, out: &mut Vec<u8>, level: Level) -> Appended {
-        let models = self.geoid_models.as_slice();
         VerticalFields {
             name: self.name,
             dynamic: self.dynamic.as_ref(),
             frame: &self.frame,
             system: &self.system,
-            models: &models,
+            models: &self.geoid_models.as_slice(),
             tail: &self.tail,
         }
         .write(out, level)
@@ -82,14 +81,12 @@ impl<'a> ReadAs<'a> for Vertical<'a> {
     ghost Reads = { ReadsVertical };
 
     fn write_of(node: &Node<'_, 'a>, out: &mut Vec<u8>, level: Level) -> Appended {
-        let dynamic = node.first(Class::Dynamic);
-        let models = node.all(Class::GeoidModel);
         VerticalFields {
             name: node.text(),
-            dynamic: dynamic.as_ref(),
+            dynamic: node.first(Class::Dynamic).as_ref(),
             frame: node,
             system: node,
-            models: &models,
+            models: &node.all(Class::GeoidModel),
             tail: node,
         }
         .write(out, level)
@@ -151,11 +148,10 @@ impl<'a> ReadAs<'a> for Compound<'a> {
     ghost Reads = { ReadsCompound };
 
     fn write_of(node: &Node<'_, 'a>, out: &mut Vec<u8>, level: Level) -> Appended {
-        let vertical = node.first(Class::VerticalCrs);
         CompoundFields {
             name: node.text(),
             horizontal: node,
-            vertical: vertical.as_ref(),
+            vertical: node.first(Class::VerticalCrs).as_ref(),
             tail: node,
         }
         .write(out, level)

@@ -106,10 +106,9 @@ fn write_datum_of(out: &mut Vec<u8>, opening: &[u8], node: &Node<'_, '_>, level:
         (opt (number_node (codes "ANCHOREPOCH")) d.anchor_epoch
         (each item_ident (set_idents level d.identifiers) End))))) out.old.items out.new.items) }
 {
-    let ellipsoid = node.first(Class::Ellipsoid);
     DatumFields {
         name: node.text(),
-        ellipsoid: ellipsoid.as_ref(),
+        ellipsoid: node.first(Class::Ellipsoid).as_ref(),
         anchor: node.text_in(Class::Anchor),
         epoch: node.number_in(Class::AnchorEpoch),
         ids: node,
@@ -182,10 +181,9 @@ impl Spell for Ensemble<'_> {
     ghost spelling = { ensemble_text };
 
     fn spell(&self, out: &mut Vec<u8>, level: Level) -> Appended {
-        let members = self.members.as_slice();
         EnsembleFields {
             name: self.name,
-            members: &members,
+            members: &self.members.as_slice(),
             ellipsoid: self.ellipsoid.as_ref(),
             accuracy: &self.accuracy,
             ids: &self.identifiers,
@@ -250,12 +248,10 @@ fn write_ensemble_of(out: &mut Vec<u8>, node: &Node<'_, '_>, class: Class, level
     let Some(found) = node.first(class) else {
         return Ok(());
     };
-    let ellipsoid = found.first(Class::Ellipsoid);
-    let members = found.all(Class::Member);
     EnsembleFields {
         name: found.text(),
-        members: &members,
-        ellipsoid: ellipsoid.as_ref(),
+        members: &found.all(Class::Member),
+        ellipsoid: found.first(Class::Ellipsoid).as_ref(),
         accuracy: found.one_number(Class::EnsembleAccuracy),
         ids: &found,
     }

@@ -77,12 +77,11 @@ impl<'c, 'i, 'a> Part<Ellipsoid<'a>> for &'c Node<'i, 'a> {
     ghost Says = { λ n e. ReadsEllipsoid n.now.class (item n.now) e };
 
     fn put(&self, out: &mut Vec<u8>, level: Level) -> Appended {
-        let unit = self.first(Class::LengthUnit);
         EllipsoidFields {
             name: self.text(),
             axis: self.nth_number(0),
             flattening: self.nth_number(1),
-            unit: unit.as_ref(),
+            unit: self.first(Class::LengthUnit).as_ref(),
             ids: *self,
         }
         .write(out, b",ELLIPSOID[\"", level)

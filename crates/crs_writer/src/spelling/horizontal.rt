@@ -112,13 +112,11 @@ impl<'a> ReadAs<'a> for Geodetic<'a> {
     ghost Reads = { ReadsGeodetic };
 
     fn write_of(node: &Node<'_, 'a>, out: &mut Vec<u8>, level: Level) -> Appended {
-        let dynamic = node.first(Class::Dynamic);
-        let meridian = node.first(Class::PrimeMeridian);
         GeodeticFields {
             name: node.text(),
-            dynamic: dynamic.as_ref(),
+            dynamic: node.first(Class::Dynamic).as_ref(),
             frame: node,
-            meridian: meridian.as_ref(),
+            meridian: node.first(Class::PrimeMeridian).as_ref(),
             system: node,
             tail: node,
         }
@@ -187,15 +185,12 @@ impl<'c, 'i, 'a> Part<Base<'a>> for &'c Node<'i, 'a> {
     ghost Says = { λ n b. ReadsBase n.now.class (item n.now) b };
 
     fn put(&self, out: &mut Vec<u8>, level: Level) -> Appended {
-        let dynamic = self.first(Class::Dynamic);
-        let meridian = self.first(Class::PrimeMeridian);
-        let unit = self.first(Class::AngleUnit);
         BaseFields {
             name: self.text(),
-            dynamic: dynamic.as_ref(),
+            dynamic: self.first(Class::Dynamic).as_ref(),
             frame: *self,
-            meridian: meridian.as_ref(),
-            unit: unit.as_ref(),
+            meridian: self.first(Class::PrimeMeridian).as_ref(),
+            unit: self.first(Class::AngleUnit).as_ref(),
             ids: *self,
         }
         .write(out, b",BASEGEOGCRS[\"", level)
@@ -253,12 +248,10 @@ impl<'a> ReadAs<'a> for Projected<'a> {
     ghost Reads = { ReadsProjected };
 
     fn write_of(node: &Node<'_, 'a>, out: &mut Vec<u8>, level: Level) -> Appended {
-        let base = node.first(Class::BaseCrs);
-        let conversion = node.first(Class::Conversion);
         ProjectedFields {
             name: node.text(),
-            base: base.as_ref(),
-            conversion: conversion.as_ref(),
+            base: node.first(Class::BaseCrs).as_ref(),
+            conversion: node.first(Class::Conversion).as_ref(),
             system: node,
             tail: node,
         }

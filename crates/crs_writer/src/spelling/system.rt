@@ -122,14 +122,13 @@ fn write_axis_in<'a>(
     ensures { OnOk result (out.new.items
         ≡ out.old.items ++ 44 ∷ item_text (item_axis (norm_axis level system.now position axis.now))) }
 {
-    let unit = system.unit_of(axis);
     AxisFields {
         name: axis.name,
         direction: axis.direction,
         meridian: axis.meridian.as_ref(),
         order: Some(position),
         asked: system.system_type.asked_kind(axis.direction),
-        unit,
+        unit: system.unit_of(axis),
         ids: &axis.identifiers,
     }
     .write(out, b",AXIS[\"", level)
@@ -139,25 +138,22 @@ impl<'b, 'a> SystemPart for &'b System<'a> {
     ghost Says = { λ s v. v ≡ s.now };
 
     fn system_type(&self) -> SystemType {
-        let system: &'b System<'a> = *self;
-        system.system_type
+        self.system_type
     }
 
     fn put_head(&self, out: &mut Vec<u8>, level: Level) -> Result<SystemType, AllocError> {
-        let system: &'b System<'a> = *self;
         write_head(
             out,
-            system.system_type,
-            &system.dimension,
-            &system.identifiers,
+            self.system_type,
+            &self.dimension,
+            &self.identifiers,
             level,
         )?;
-        Ok(system.system_type)
+        Ok(self.system_type)
     }
 
     fn axis_count(&self) -> usize {
-        let system: &'b System<'a> = *self;
-        system.axes.as_slice().len()
+        self.axes.as_slice().len()
     }
 
     fn put_axis(
@@ -167,10 +163,9 @@ impl<'b, 'a> SystemPart for &'b System<'a> {
         position: u64,
         level: Level,
     ) -> Appended {
-        let system: &'b System<'a> = *self;
-        match axis_at(system.axes.as_slice(), position) {
+        match axis_at(self.axes.as_slice(), position) {
             None => Ok(()),
-            Some(axis) => write_axis_in(out, system, axis, position, level),
+            Some(axis) => write_axis_in(out, *self, axis, position, level),
         }
     }
 }
@@ -240,15 +235,13 @@ fn write_axis_of<'i, 'a>(
         return append_item(out, bytes);
     }
     let direction = axis.direction();
-    let meridian = axis.first(Class::AxisMeridian);
-    let unit = unit_of(crs, axis);
     AxisFields {
         name: axis.text(),
         direction,
-        meridian: meridian.as_ref(),
+        meridian: axis.first(Class::AxisMeridian).as_ref(),
         order: Some(seat.position),
         asked: seat.system_type.asked_kind(direction),
-        unit: unit.as_ref(),
+        unit: unit_of(crs, axis).as_ref(),
         ids: axis,
     }
     .write(out, b",AXIS[\"", level)

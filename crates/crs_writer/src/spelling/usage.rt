@@ -6,10 +6,9 @@ ghost use Rattle.crs_decimal.specs.Value.{Value};
 ghost use Rattle.crs_text.specs.Items.{End, More, Siblings};
 ghost use Rattle.crs_text.specs.Written.{item_text, others_text};
 ghost use Rattle.crs_value.specs.Kept.{kept_one};
-ghost use Rattle.crs_value.specs.Reading.{ReadsAll, ReadsIfAny};
-ghost use Rattle.crs_value.specs.Reads.{ReadsBox, ReadsExtent, ReadsUsage, LacksUsage, ReadsBare, ReadsTail};
-ghost use Rattle.crs_value.specs.Reads.{ReadsTextOf};
-ghost use Rattle.crs_value.specs.Values.{BoxParts, ExtentParts, UnitParts, IdentParts, TailParts, UsageParts};
+ghost use Rattle.crs_value.specs.Reading.{ReadsIfAny};
+ghost use Rattle.crs_value.specs.Reads.{ReadsBox, ReadsExtent, ReadsUsage, LacksUsage, ReadsTail, ReadsTextOf};
+ghost use Rattle.crs_value.specs.Values.{BoxParts, ExtentParts, UnitParts, IdentParts, TailParts};
 ghost use Rattle.crs_value.specs.declared.values.level.Level.TheVariants as levels;
 ghost use Rattle.crs_matching.specs.SameUsages.{usages_of, with_bare};
 ghost use Rattle.crs_normal.specs.PartTexts.{box_text, extent_text, usage_text};
@@ -250,9 +249,8 @@ impl<'b, 'a> TailPart for &'b Tail<'a> {
 
     #[tactic(auto, using(crate::proofs::PieceLemmas::then_rules))]
     fn put(&self, out: &mut Vec<u8>, level: Level) -> Appended {
-        let tail: &'b Tail<'a> = *self;
-        write_usages(out, tail, level)?;
-        write_end(out, &tail.identifiers, level.kept_text(tail.remark), level)
+        write_usages(out, *self, level)?;
+        write_end(out, &self.identifiers, level.kept_text(self.remark), level)
     }
 }
 
@@ -268,29 +266,23 @@ fn has_bare(node: &Node<'_, '_>) -> bool
         || node.has(Class::VerticalExtent)
 }
 
-// The bare parts are together one usage more.
-fn write_all_usages<'i, 'a>(node: &Node<'i, 'a>, out: &mut Vec<u8>) -> Appended
-    ensures { OnOk result ((bare : Option UsageParts) (usages : List UsageParts) →
-        ReadsBare node.now.class (item node.now) bare →
-        ReadsAll ReadsUsage Class.Usage node.now.class (item node.now) usages →
-        out.new.items ≡ out.old.items ++ set_text
-        (map (λ u. item_text (item_usage (norm_usage u))) (with_bare bare usages))) }
-{
-    let usages = node.all(Class::Usage);
-    if has_bare(node) {
-        write_set_with::<Usage<'a>, Node<'i, 'a>, Chain<'i, 'a>>(out, node, &usages, Level::Full)
-    } else {
-        write_set::<Usage<'a>, Chain<'i, 'a>>(out, &usages, Level::Full)
-    }
-}
-
-// The usages that the level keeps.
-fn write_usages_of(node: &Node<'_, '_>, out: &mut Vec<u8>, level: Level) -> Appended
+// The usages that the level keeps; the bare parts are together one usage more.
+fn write_usages_of<'i, 'a>(node: &Node<'i, 'a>, out: &mut Vec<u8>, level: Level) -> Appended
     ensures { OnOk result (Writes (ReadsTail node.now.class (item node.now))
         (λ t. others_text (each item_usage (set_usages level (usages_of t)) End)) out.old.items out.new.items) }
 {
     if keeps(level) {
-        write_all_usages(node, out)
+        let usages = node.all(Class::Usage);
+        if has_bare(node) {
+            write_set_with::<Usage<'a>, Node<'i, 'a>, Chain<'i, 'a>>(
+                out,
+                node,
+                &usages,
+                Level::Full,
+            )
+        } else {
+            write_set::<Usage<'a>, Chain<'i, 'a>>(out, &usages, Level::Full)
+        }
     } else {
         Ok(())
     }

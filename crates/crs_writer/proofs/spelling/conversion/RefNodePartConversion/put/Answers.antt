@@ -6,5 +6,5 @@ use Rattle.crs_writer.proofs.spelling.conversion.RefNodePartConversion.put.Goals
 
 pub returns : goal.returns
 returns c = written c.write.result _ _ _ c.write.ensures (λ w x r.
-    w x (c.text.ensures x.name r.name) (one-said ReadsNamed c.args.self.now.now class.Method _ _ _ c.first-method.ensures c.as_ref.ensures.value r.method)
-    (all-said ReadsParameter class.Parameter _ _ _ _ c.all-parameters.ensures.class c.all-parameters.ensures.all r.parameters) r.identifiers)
+    w x (c.text.ensures x.name r.name) (one-said ReadsNamed c.args.self.now.now class.Method _ _ _ c.first.ensures c.as_ref.ensures.value r.method)
+    (all-said ReadsParameter class.Parameter _ _ _ _ c.all.ensures.class c.all.ensures.all r.parameters) r.identifiers)

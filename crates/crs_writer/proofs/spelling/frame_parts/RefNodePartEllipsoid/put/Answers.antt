@@ -8,4 +8,4 @@ pub returns : goal.returns
 returns c = written c.write.result _ _ _ c.write.ensures (λ w e r.
     w e (c.text.ensures e.name r.name) (c.nth_number.ensures e.semi_major_axis r.semi_major_axis)
     (c.nth_number-2.ensures e.inverse_flattening r.inverse_flattening)
-    (first-said ReadsUnit c.args.self.now.now class.LengthUnit _ _ _ c.first-unit.ensures c.as_ref.ensures.value r.unit) r.identifiers)
+    (first-said ReadsUnit c.args.self.now.now class.LengthUnit _ _ _ c.first.ensures c.as_ref.ensures.value r.unit) r.identifiers)

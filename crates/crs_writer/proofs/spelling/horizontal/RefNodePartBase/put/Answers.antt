@@ -7,6 +7,6 @@ use Rattle.crs_writer.proofs.spelling.horizontal.RefNodePartBase.put.Goals as go
 pub returns : goal.returns
 returns c = written c.write.result _ _ _ c.write.ensures (λ w b r.
     w b.name b.dynamic b.frame b.meridian b.unit b.identifiers (c.text.ensures b.name r.name)
-    (first-said ReadsDynamic c.args.self.now.now class.Dynamic _ _ _ c.first-dynamic.ensures c.as_ref.ensures.value r.dynamic) r.frame
-    (first-said ReadsMeridian c.args.self.now.now class.PrimeMeridian _ _ _ c.first-meridian.ensures c.as_ref-2.ensures.value r.meridian)
-    (first-said ReadsUnit c.args.self.now.now class.AngleUnit _ _ _ c.first-unit.ensures c.as_ref-3.ensures.value r.unit) r.identifiers)
+    (first-said ReadsDynamic c.args.self.now.now class.Dynamic _ _ _ c.first.ensures c.as_ref.ensures.value r.dynamic) r.frame
+    (first-said ReadsMeridian c.args.self.now.now class.PrimeMeridian _ _ _ c.first-2.ensures c.as_ref-2.ensures.value r.meridian)
+    (first-said ReadsUnit c.args.self.now.now class.AngleUnit _ _ _ c.first-3.ensures c.as_ref-3.ensures.value r.unit) r.identifiers)
