@@ -32,10 +32,10 @@ fn write_version(out: &mut Vec<u8>, version: Option<&[u8]>) -> Appended
     ensures { OnOk result (out.new.items
         ≡ out.old.items ++ others_text (opt code_item (option_copied version.entry) End)) }
 {
-    match version {
-        None => Ok(()),
-        Some(version) => write_code(out, version),
+    if let Some(version) = version {
+        return write_code(out, version);
     }
+    Ok(())
 }
 
 // The references are the citation and the URI.
