@@ -59,10 +59,8 @@ impl<'i, 'a> Node<'i, 'a> {
         ensures { IsFirst self.now class (args class self.now) result }
     {
         let items = self.items;
-        match lookup::first(items, self.id, self.class, class) {
-            None => None,
-            Some(id) => Some(Node { items, id, class }),
-        }
+        let id = lookup::first(items, self.id, self.class, class)?;
+        Some(Node { items, id, class })
     }
 
     /// All arguments of this class. Profile.
@@ -150,10 +148,7 @@ impl<'i, 'a> Node<'i, 'a> {
         ensures { (value : Option (List ℕ)) → ReadsIfAny ReadsTextOf class self.now.class (item self.now) value →
             value ≡ option_copied result }
     {
-        match self.first(class) {
-            None => None,
-            Some(found) => Some(found.text()),
-        }
+        Some(self.first(class)?.text())
     }
 
     /// The number of a node that may be in it. Profile.
@@ -162,10 +157,7 @@ impl<'i, 'a> Node<'i, 'a> {
         ensures { (value : Option Value) → ReadsIfAny ReadsNumberOf class self.now.class (item self.now) value →
             SaysIfAny (λ s v. IsNumber s.now v) result value }
     {
-        match self.first(class) {
-            None => None,
-            Some(found) => Some(found.number()),
-        }
+        Some(self.first(class)?.number())
     }
 
     /// The number of a node that is in it. Profile.
@@ -258,10 +250,7 @@ impl<'i, 'a> Node<'i, 'a> {
     {
         match self.first(Class::Word) {
             None => Direction::Unspecified,
-            Some(word) => match Direction::read(word.raw()) {
-                None => Direction::Unspecified,
-                Some(direction) => direction,
-            },
+            Some(word) => Direction::read(word.raw()).unwrap_or(Direction::Unspecified),
         }
     }
 }
