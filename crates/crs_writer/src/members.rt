@@ -12,7 +12,7 @@ ghost use Rattle.crs_writer.specs.Spans.{AreInOrder, texts_at};
 
 use crate::parts::{Appended, Spell};
 use crate::set::{FEW, MEMBER_ROOM};
-use crate::spans::{Span, put_last};
+use crate::spans::{Texts, put_last};
 use crs_leaves::append;
 use crs_nodes::{Chain, Node, lookup};
 use crs_shape::Class;
@@ -29,21 +29,15 @@ pub trait MemberPart<T: Spell>: Copy {
     fn write(&self, out: &mut Vec<u8>, level: Level) -> Appended
         ensures { OnOk result (Writes (Says self.now) (T.spelling level) out.old.items out.new.items) };
 
-    /// Puts its spelling among texts that are in order. It may be spelled in `room` first, whose bytes are lost.
+    /// Puts its spelling among texts that are in order. It may be spelled in their room first.
     ///
     /// `AllocError`: there is no memory for it.
-    fn put_among(
-        &self,
-        bytes: &mut Vec<u8>,
-        spans: &mut Vec<Span>,
-        room: &mut Vec<u8>,
-        level: Level,
-    ) -> Appended
-        requires { AreInOrder bytes.old.items spans.old.items }
-        ensures order { OnOk result (AreInOrder bytes.new.items spans.new.items) }
+    fn put_among(&self, texts: &mut Texts, level: Level) -> Appended
+        requires { AreInOrder texts.old.bytes.items texts.old.spans.items }
+        ensures order { OnOk result (AreInOrder texts.new.bytes.items texts.new.spans.items) }
         ensures texts { OnOk result ((value : T) → Says self.now value →
-            texts_at bytes.new.items spans.new.items
-            ≡ put (λ b. b) (T.spelling level value) (texts_at bytes.old.items spans.old.items)) };
+            texts_at texts.new.bytes.items texts.new.spans.items
+            ≡ put (λ b. b) (T.spelling level value) (texts_at texts.old.bytes.items texts.old.spans.items)) };
 }
 
 /// Members of a set from one on. Profile.
@@ -84,16 +78,10 @@ impl<'b, T: Spell> MemberPart<T> for &'b T {
     }
 
     #[inline(always)]
-    fn put_among(
-        &self,
-        bytes: &mut Vec<u8>,
-        spans: &mut Vec<Span>,
-        _room: &mut Vec<u8>,
-        level: Level,
-    ) -> Appended {
-        let start = bytes.len();
-        T::spell(*self, bytes, level)?;
-        put_last(bytes, spans, start)
+    fn put_among(&self, texts: &mut Texts, level: Level) -> Appended {
+        let start = texts.bytes.len();
+        T::spell(*self, &mut texts.bytes, level)?;
+        put_last(&mut texts.bytes, &mut texts.spans, start)
     }
 }
 
@@ -140,19 +128,13 @@ impl<'i, 'a, T: ReadAs<'a>> MemberPart<T> for Node<'i, 'a> {
     }
 
     // Of an item from which nothing is read it isn't known what is appended, not even that the bytes before stay.
-    fn put_among(
-        &self,
-        bytes: &mut Vec<u8>,
-        spans: &mut Vec<Span>,
-        room: &mut Vec<u8>,
-        level: Level,
-    ) -> Appended {
-        room.clear();
-        room.reserve(MEMBER_ROOM)?;
-        T::write_of(self, room, level)?;
-        let start = bytes.len();
-        append(bytes, room)?;
-        put_last(bytes, spans, start)
+    fn put_among(&self, texts: &mut Texts, level: Level) -> Appended {
+        texts.room.clear();
+        texts.room.reserve(MEMBER_ROOM)?;
+        T::write_of(self, &mut texts.room, level)?;
+        let start = texts.bytes.len();
+        append(&mut texts.bytes, &texts.room)?;
+        put_last(&mut texts.bytes, &mut texts.spans, start)
     }
 }
 

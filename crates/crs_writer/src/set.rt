@@ -8,7 +8,7 @@ ghost use Rattle.crs_writer.specs.Spans.{AreInOrder, texts_at};
 
 use crate::members::{MemberPart, MembersPart};
 use crate::parts::{Appended, Spell};
-use crate::spans::{Span, write_spans};
+use crate::spans::{Texts, write_spans};
 use crs_leaves::append;
 use crs_value::Level;
 use std::alloc::{AllocError, Global};
@@ -76,64 +76,24 @@ pub fn gather_all<T: Spell, M: MembersPart<T>>(
 }
 
 // Puts the spellings of the members among the others.
-fn gather_spans<T: Spell, M: MembersPart<T>>(
-    bytes: &mut Vec<u8>,
-    spans: &mut Vec<Span>,
-    room: &mut Vec<u8>,
+fn gather_texts<T: Spell, M: MembersPart<T>>(
+    texts: &mut Texts,
     members: M,
     level: Level,
 ) -> Appended
     requires members { M.Hold members }
-    requires order { AreInOrder bytes.old.items spans.old.items }
-    ensures order { OnOk result (AreInOrder bytes.new.items spans.new.items) }
+    requires order { AreInOrder texts.old.bytes.items texts.old.spans.items }
+    ensures order { OnOk result (AreInOrder texts.new.bytes.items texts.new.spans.items) }
     ensures texts { OnOk result ((values : List T) → M.Say members values →
-        texts_at bytes.new.items spans.new.items
-        ≡ put_all (λ b. b) (texts_at bytes.old.items spans.old.items) (map (T.spelling level) values)) }
+        texts_at texts.new.bytes.items texts.new.spans.items
+        ≡ put_all (λ b. b) (texts_at texts.old.bytes.items texts.old.spans.items) (map (T.spelling level) values)) }
 {
     let mut left = members;
     while let Some((member, others)) = left.next() {
-        member.put_among(bytes, spans, room, level)?;
+        member.put_among(texts, level)?;
         left = others;
     }
     Ok(())
-}
-
-// A member and a few others.
-fn write_few<T: Spell, P: MemberPart<T>, M: MembersPart<T>>(
-    out: &mut Vec<u8>,
-    first: &P,
-    others: &M,
-    level: Level,
-) -> Appended
-    requires { M.Hold others.now }
-    ensures { OnOk result ((value : T) (values : List T) → P.Says first.now value → M.Say others.now values →
-        out.new.items ≡ out.old.items ++ set_text (map (T.spelling level) (value ∷ values))) }
-{
-    let alloc = *out.allocator();
-    let mut room = Vec::new(alloc);
-    let mut bytes = Vec::with_capacity(alloc, FEW_ROOM)?;
-    let mut spans = Vec::with_capacity(alloc, FEW)?;
-    first.put_among(&mut bytes, &mut spans, &mut room, level)?;
-    gather_spans::<T, M>(&mut bytes, &mut spans, &mut room, *others, level)?;
-    write_spans(out, &bytes, &spans)
-}
-
-// A member and others.
-fn write_many<T: Spell, P: MemberPart<T>, M: MembersPart<T>>(
-    out: &mut Vec<u8>,
-    first: &P,
-    others: &M,
-    level: Level,
-) -> Appended
-    requires { M.Hold others.now }
-    ensures { OnOk result ((value : T) (values : List T) → P.Says first.now value → M.Say others.now values →
-        out.new.items ≡ out.old.items ++ set_text (map (T.spelling level) (value ∷ values))) }
-{
-    let alloc = *out.allocator();
-    let mut sorted = BTreeSet::new(alloc);
-    gather::<T, P>(alloc, &mut sorted, first, level)?;
-    gather_all::<T, M>(alloc, &mut sorted, *others, level)?;
-    write_sorted(out, &sorted)
 }
 
 // A set of a member and others. Most have no others, and need no order.
@@ -151,9 +111,20 @@ pub(crate) fn write_set_with<T: Spell, P: MemberPart<T>, M: MembersPart<T>>(
         append(out, b",")?;
         first.write(out, level)
     } else if others.are_few() {
-        write_few::<T, P, M>(out, first, others, level)
+        let alloc = *out.allocator();
+        let bytes = Vec::with_capacity(alloc, FEW_ROOM)?;
+        let spans = Vec::with_capacity(alloc, FEW)?;
+        let room = Vec::new(alloc);
+        let mut texts = Texts { bytes, spans, room };
+        first.put_among(&mut texts, level)?;
+        gather_texts::<T, M>(&mut texts, *others, level)?;
+        write_spans(out, &texts.bytes, &texts.spans)
     } else {
-        write_many::<T, P, M>(out, first, others, level)
+        let alloc = *out.allocator();
+        let mut sorted = BTreeSet::new(alloc);
+        gather::<T, P>(alloc, &mut sorted, first, level)?;
+        gather_all::<T, M>(alloc, &mut sorted, *others, level)?;
+        write_sorted(out, &sorted)
     }
 }
 

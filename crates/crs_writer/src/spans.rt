@@ -1,5 +1,4 @@
-//! A few texts in ascending order of their bytes, each once: their bytes one after another as they came, and in order
-//! where each is among them. A set of few members needs no more than these two vectors.
+//! A few texts in ascending order of their bytes, each once. A set of few members needs no more than three vectors.
 ghost use Rattle.std.specs.Prelude.{◌≡◌, ◌≤◌, ◌++◌, ◌∷◌, MatchOption, OnOk, drop, length, take};
 ghost use Rattle.crs_normal.specs.Ordered.{put};
 ghost use Rattle.crs_writer.specs.SetText.{commas};
@@ -15,6 +14,17 @@ use std::cmp::Ordering;
 pub struct Span {
     pub(crate) start: usize,
     pub(crate) end: usize,
+}
+
+/// Texts in order. Profile.
+#[derive(Drop)]
+pub struct Texts {
+    /// Their bytes, one after another as they came.
+    pub(crate) bytes: Vec<u8>,
+    /// Where each is among the bytes, in order.
+    pub(crate) spans: Vec<Span>,
+    /// Room for a text that is made apart first; its bytes are lost.
+    pub(crate) room: Vec<u8>,
 }
 
 fn text_at(bytes: &[u8], span: Span) -> &[u8]

@@ -1,5 +1,5 @@
 use Rattle.crs_writer.proofs.GatherLemmas.{gathering-end, gathering-first, gathering-on}
-use Rattle.crs_writer.proofs.set.gather_spans.Goals as goal
+use Rattle.crs_writer.proofs.set.gather_texts.Goals as goal
 
 pub loop-member-init : goal.loop-member-init
 loop-member-init g c =
