@@ -102,45 +102,30 @@ impl<'c, 'i, 'a> Part<Vertical<'a>> for &'c Node<'i, 'a> {
     }
 }
 
-// The parts of a compound CRS.
-#[derive(Drop)]
-struct CompoundFields<'n, H, V, T> {
-    name: &'n [u8],
-    horizontal: H,
-    vertical: V,
+// The components are the horizontal and the vertical one.
+fn write_compound<'a, H: Part<Horizontal<'a>>, V: Part<Vertical<'a>>, T: TailPart>(
+    out: &mut Vec<u8>,
+    name: &[u8],
+    components: (H, V),
     tail: T,
-}
-
-impl<'n, 'a, H: Part<Horizontal<'a>>, V: Part<Vertical<'a>>, T: TailPart> CompoundFields<
-    'n,
-    H,
-    V,
-    T,
-> {
-    fn write(self, out: &mut Vec<u8>, level: Level) -> Appended
-        ensures { OnOk result ((p : CompoundParts) → p.name ≡ self.entry.name.now →
-            H.Says self.entry.horizontal p.horizontal → V.Says self.entry.vertical p.vertical →
-            T.Says self.entry.tail p.tail → out.new.items ≡ out.old.items ++ compound_text level p) }
-    {
-        open_text(out, b"COMPOUNDCRS[\"", self.name)?;
-        self.horizontal.put(out, level)?;
-        self.vertical.put(out, level)?;
-        self.tail.put(out, level)?;
-        append(out, b"]")
-    }
+    level: Level,
+) -> Appended
+    ensures { OnOk result ((p : CompoundParts) → p.name ≡ name.now → H.Says components.0 p.horizontal →
+        V.Says components.1 p.vertical → T.Says tail p.tail → out.new.items ≡ out.old.items ++ compound_text level p) }
+{
+    open_text(out, b"COMPOUNDCRS[\"", name)?;
+    components.0.put(out, level)?;
+    components.1.put(out, level)?;
+    tail.put(out, level)?;
+    append(out, b"]")
 }
 
 impl Spell for Compound<'_> {
     ghost spelling = { compound_text };
 
     fn spell(&self, out: &mut Vec<u8>, level: Level) -> Appended {
-        CompoundFields {
-            name: self.name,
-            horizontal: &self.horizontal,
-            vertical: &self.vertical,
-            tail: &self.tail,
-        }
-        .write(out, level)
+        let components = (&self.horizontal, &self.vertical);
+        write_compound(out, self.name, components, &self.tail, level)
     }
 }
 
@@ -148,13 +133,9 @@ impl<'a> ReadAs<'a> for Compound<'a> {
     ghost Reads = { ReadsCompound };
 
     fn write_of(node: &Node<'_, 'a>, out: &mut Vec<u8>, level: Level) -> Appended {
-        CompoundFields {
-            name: node.text(),
-            horizontal: node,
-            vertical: node.first(Class::VerticalCrs).as_ref(),
-            tail: node,
-        }
-        .write(out, level)
+        let vertical = node.first(Class::VerticalCrs);
+        let components = (node, vertical.as_ref());
+        write_compound(out, node.text(), components, node, level)
     }
 }
 

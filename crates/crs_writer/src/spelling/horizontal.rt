@@ -197,50 +197,33 @@ impl<'c, 'i, 'a> Part<Base<'a>> for &'c Node<'i, 'a> {
     }
 }
 
-// The parts of a projected CRS.
-#[derive(Drop)]
-struct ProjectedFields<'n, B, C, S, T> {
-    name: &'n [u8],
-    base: B,
-    conversion: C,
-    system: S,
-    tail: T,
-}
-
-impl<
-    'n,
-    'a,
-    B: Part<Base<'a>>,
-    C: Part<Conversion<'a>>,
-    S: SystemPart,
-    T: TailPart,
-> ProjectedFields<'n, B, C, S, T> {
-    fn write(self, out: &mut Vec<u8>, level: Level) -> Appended
-        ensures { OnOk result ((p : ProjectedParts) → p.name ≡ self.entry.name.now → B.Says self.entry.base p.base →
-            C.Says self.entry.conversion p.conversion → S.Says self.entry.system p.system →
-            T.Says self.entry.tail p.tail → out.new.items ≡ out.old.items ++ projected_text level p) }
-    {
-        open_text(out, b"PROJCRS[\"", self.name)?;
-        self.base.put(out, level)?;
-        self.conversion.put(out, level)?;
-        write_system(out, self.system, level)?;
-        self.tail.put(out, level)?;
-        append(out, b"]")
-    }
+// The derivation is the base CRS and the conversion; the ends are the coordinate system and the end of the CRS.
+fn write_projected<'a, B: Part<Base<'a>>, C: Part<Conversion<'a>>, S: SystemPart, T: TailPart>(
+    out: &mut Vec<u8>,
+    name: &[u8],
+    derivation: (B, C),
+    ends: (S, T),
+    level: Level,
+) -> Appended
+    ensures { OnOk result ((p : ProjectedParts) → p.name ≡ name.now → B.Says derivation.0 p.base →
+        C.Says derivation.1 p.conversion → S.Says ends.0 p.system → T.Says ends.1 p.tail →
+        out.new.items ≡ out.old.items ++ projected_text level p) }
+{
+    open_text(out, b"PROJCRS[\"", name)?;
+    derivation.0.put(out, level)?;
+    derivation.1.put(out, level)?;
+    write_system(out, ends.0, level)?;
+    ends.1.put(out, level)?;
+    append(out, b"]")
 }
 
 impl Spell for Projected<'_> {
     ghost spelling = { projected_text };
 
     fn spell(&self, out: &mut Vec<u8>, level: Level) -> Appended {
-        ProjectedFields {
-            name: self.name,
-            base: &self.base,
-            conversion: &self.conversion,
-            system: &self.system,
-            tail: &self.tail,
-        }
-        .write(out, level)
+        let derivation = (&self.base, &self.conversion);
+        let ends = (&self.system, &self.tail);
+        write_projected(out, self.name, derivation, ends, level)
     }
 }
 
@@ -248,14 +231,10 @@ impl<'a> ReadAs<'a> for Projected<'a> {
     ghost Reads = { ReadsProjected };
 
     fn write_of(node: &Node<'_, 'a>, out: &mut Vec<u8>, level: Level) -> Appended {
-        ProjectedFields {
-            name: node.text(),
-            base: node.first(Class::BaseCrs).as_ref(),
-            conversion: node.first(Class::Conversion).as_ref(),
-            system: node,
-            tail: node,
-        }
-        .write(out, level)
+        let base = node.first(Class::BaseCrs);
+        let conversion = node.first(Class::Conversion);
+        let derivation = (base.as_ref(), conversion.as_ref());
+        write_projected(out, node.text(), derivation, (node, node), level)
     }
 }
 

@@ -5,6 +5,6 @@ use Rattle.crs_writer.proofs.FlatLemmas.{written}
 use Rattle.crs_writer.proofs.spelling.crs.CompoundReadAs.write_of.Goals as goal
 
 pub returns : goal.returns
-returns c = written c.write.result _ _ _ c.write.ensures (λ w p r.
+returns c = written c.write_compound.result _ _ _ c.write_compound.ensures (λ w p r.
     w p (c.text.ensures p.name r.name) r.horizontal
-    (one-said ReadsVertical c.args.node.now class.VerticalCrs _ _ _ c.first.ensures c.as_ref.ensures.value r.vertical) r.tail)
+    (one-said ReadsVertical c.args.node.now class.VerticalCrs _ _ _ c.first-vertical.ensures c.as_ref.ensures.value r.vertical) r.tail)

@@ -5,4 +5,4 @@ use Rattle.crs_writer.proofs.spelling.horizontal.ProjectedSpell.spell.Goals as g
 
 pub returns : goal.returns
 returns c =
-    spelled c.write.result (projected_text c.args.level) _ _ _ _ c.self.view_is c.write.ensures (λ w. w _ refl refl refl refl refl)
+    spelled c.write_projected.result (projected_text c.args.level) _ _ _ _ c.self.view_is c.write_projected.ensures (λ w. w _ refl refl refl refl refl)

@@ -6,7 +6,7 @@ use Rattle.crs_leaves.specs.Openings.{opened}
 use Rattle.crs_writer.proofs.DirectLemmas.{closed}
 use Rattle.crs_writer.proofs.FlatLemmas.{told}
 use Rattle.crs_writer.proofs.PieceLemmas.{then-more}
-use Rattle.crs_writer.proofs.spelling.crs.CompoundFields.write.Goals as goal
+use Rattle.crs_writer.proofs.spelling.crs.write_compound.Goals as goal
 
 pub returns : goal.returns
 returns g c = on_ok_weaker c.append.result (λ closes p n h v t.

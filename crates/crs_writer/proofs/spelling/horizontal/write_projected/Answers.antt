@@ -7,7 +7,7 @@ use Rattle.crs_writer.proofs.DirectLemmas.{closed}
 use Rattle.crs_writer.proofs.FlatLemmas.{told}
 use Rattle.crs_writer.proofs.PieceLemmas.{then-more}
 use Rattle.crs_writer.proofs.SystemLemmas.{then-system}
-use Rattle.crs_writer.proofs.spelling.horizontal.ProjectedFields.write.Goals as goal
+use Rattle.crs_writer.proofs.spelling.horizontal.write_projected.Goals as goal
 
 pub returns : goal.returns
 returns g c = on_ok_weaker c.append.result (λ closes p n b v s t.
