@@ -24,6 +24,13 @@ use crs_shape::Class;
 use crs_value::{Axis, Level, System, SystemType};
 use std::alloc::AllocError;
 
+// The type of an axis's system, and the axis's position.
+#[derive(Drop)]
+pub(crate) struct Seat {
+    system_type: SystemType,
+    position: u64,
+}
+
 /// The coordinate system of a CRS, which the item of the CRS has.
 pub(crate) trait SystemPart: Copy {
     ghost Says: { Self → SystemParts → Type 0 };
@@ -41,16 +48,10 @@ pub(crate) trait SystemPart: Copy {
         ensures { (s : SystemParts) → Says self.now s → length s.axes ≡ result };
 
     // The axis of a system of this type at a position after a comma, if there is one.
-    fn put_axis(
-        &self,
-        out: &mut Vec<u8>,
-        system_type: SystemType,
-        position: u64,
-        level: Level,
-    ) -> Appended
-        ensures { OnOk result ((s : SystemParts) → s.system_type ≡ system_type → Says self.now s →
+    fn put_axis(&self, out: &mut Vec<u8>, seat: Seat, level: Level) -> Appended
+        ensures { OnOk result ((s : SystemParts) → s.system_type ≡ seat.system_type → Says self.now s →
             out.new.items ≡ out.old.items ++ others_text (each item_axis
-            (with_axis level s position (axis_at position 1 s.axes) []) End)) };
+            (with_axis level s seat.position (axis_at seat.position 1 s.axes) []) End)) };
 }
 
 fn write_head<N: NumberPart, I: IdentsPart>(
@@ -81,7 +82,11 @@ fn write_axes<S: SystemPart>(
 {
     let count = system.axis_count();
     for index in 0..count {
-        system.put_axis(out, system_type, index as u64 + 1, level)?;
+        let seat = Seat {
+            system_type,
+            position: index as u64 + 1,
+        };
+        system.put_axis(out, seat, level)?;
     }
     Ok(())
 }
@@ -156,16 +161,10 @@ impl<'b, 'a> SystemPart for &'b System<'a> {
         self.axes.as_slice().len()
     }
 
-    fn put_axis(
-        &self,
-        out: &mut Vec<u8>,
-        _system_type: SystemType,
-        position: u64,
-        level: Level,
-    ) -> Appended {
-        match axis_at(self.axes.as_slice(), position) {
+    fn put_axis(&self, out: &mut Vec<u8>, seat: Seat, level: Level) -> Appended {
+        match axis_at(self.axes.as_slice(), seat.position) {
             None => Ok(()),
-            Some(axis) => write_axis_in(out, *self, axis, position, level),
+            Some(axis) => write_axis_in(out, *self, axis, seat.position, level),
         }
     }
 }
@@ -209,13 +208,6 @@ fn unit_of<'i, 'a>(crs: &Node<'i, 'a>, axis: &Node<'i, 'a>) -> Option<Node<'i, '
         None => crs.first(Class::AxisUnit),
         Some(found) => Some(found),
     }
-}
-
-// The type of an axis's system, and the axis's position.
-#[derive(Drop)]
-struct Seat {
-    system_type: SystemType,
-    position: u64,
 }
 
 // After a comma.
@@ -270,27 +262,12 @@ impl<'c, 'i, 'a> SystemPart for &'c Node<'i, 'a> {
         axes::axis_count(self.items, self.id, self.class)
     }
 
-    fn put_axis(
-        &self,
-        out: &mut Vec<u8>,
-        system_type: SystemType,
-        position: u64,
-        level: Level,
-    ) -> Appended {
+    fn put_axis(&self, out: &mut Vec<u8>, seat: Seat, level: Level) -> Appended {
         let items = self.items;
         let class = Class::Axis;
-        match axes::axis_at(items, self.id, self.class, position) {
+        match axes::axis_at(items, self.id, self.class, seat.position) {
             None => Ok(()),
-            Some(id) => write_axis_of(
-                out,
-                *self,
-                &Node { items, id, class },
-                Seat {
-                    system_type,
-                    position,
-                },
-                level,
-            ),
+            Some(id) => write_axis_of(out, *self, &Node { items, id, class }, seat, level),
         }
     }
 }
