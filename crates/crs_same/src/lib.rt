@@ -16,17 +16,15 @@ macro_rules! walk_sets {
 }
 
 mod content;
-mod conversions;
 mod crs;
-mod dynamic;
 mod found;
 mod frames;
 pub mod laws;
+mod nodes;
 pub mod parts;
 mod path;
 mod step;
 mod systems;
-mod usages;
 
 pub use content::{Borrowed, Content, Members, Text, Usages};
 pub use crs::{differences, first_part, same};
