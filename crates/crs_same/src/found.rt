@@ -87,15 +87,6 @@ impl<'b, 'a> Differences<'b, 'a> {
     {
         &self.differences
     }
-
-    // These and one more.
-    fn with(self, difference: Difference<'b, 'a>) -> Result<Differences<'b, 'a>, AllocError>
-        ensures { IfOk result (λ more. more ≡ self.entry ++ difference.entry ∷ []) }
-    {
-        let Differences { mut differences } = self;
-        differences.push(difference)?;
-        Ok(Differences { differences })
-    }
 }
 
 // What is found so far, and what is looked for.
@@ -183,16 +174,15 @@ impl<'b, 'a> Found<'b, 'a> {
         match self {
             Found::First(None) => Found::First(Some(at.path.then(step))),
             Found::First(Some(path)) => Found::First(Some(path)),
-            Found::All(differences) => {
+            Found::All(Differences { mut differences }) => {
                 let path = at.path.then(step);
-                let difference = Difference {
+                match differences.push(Difference {
                     path,
                     first,
                     second,
-                };
-                match differences.with(difference) {
-                    Ok(more) => Found::All(more),
-                    Err(error) => Found::Refused(error),
+                }) {
+                    Ok(()) => Found::All(Differences { differences }),
+                    Err(error) => Found::Refused(error.into()),
                 }
             }
             Found::Refused(error) => Found::Refused(error),

@@ -35,19 +35,13 @@ pub fn same_dynamic<'a>(a: &Dynamic<'a>, b: &Dynamic<'a>, level: Level) -> bool
 fn epoch_of(dynamic: &Option<Dynamic<'_>>) -> Option<Decimal>
     ensures { result ≡ option_map (λ d. d.epoch) dynamic.now }
 {
-    match dynamic {
-        None => None,
-        Some(dynamic) => Some(dynamic.epoch),
-    }
+    dynamic.as_ref().map(|dynamic| dynamic.epoch)
 }
 
 fn model_of<'b, 'a>(dynamic: &'b Option<Dynamic<'a>>) -> Option<&'b DeformationModel<'a>>
     ensures { option_copied result ≡ option_and_then (λ d. d.model) dynamic.entry.now }
 {
-    match dynamic {
-        None => None,
-        Some(dynamic) => dynamic.model.as_ref(),
-    }
+    dynamic.as_ref().and_then(|dynamic| dynamic.model.as_ref())
 }
 
 // What the level keeps of them.

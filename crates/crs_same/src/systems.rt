@@ -1,5 +1,5 @@
 //! Axes and coordinate systems.
-ghost use Rattle.std.specs.Prelude.{◌≡◌, ◌<◌, ◌≤◌, length, max};
+ghost use Rattle.std.specs.Prelude.{◌<◌, ◌≤◌, length, max};
 ghost use Rattle.std.specs.Option.{option_copied};
 ghost use Rattle.crs_shape.specs.Words.{direction_word, system_word};
 ghost use Rattle.crs_same.specs.declared.content.Content.TheVariants as content;
@@ -16,12 +16,6 @@ use crate::path::At;
 use crate::step::Step;
 use crs_matching::{axis_at, same_axis_meridians, same_direction};
 use crs_value::{Axis, AxisMeridian, Direction, System, SystemType};
-
-fn axis_count(system: &System<'_>) -> u64
-    ensures { result ≡ length system.now.axes }
-{
-    system.axes.as_slice().len() as u64
-}
 
 impl<'b, 'a> Found<'b, 'a> {
     #[tactic(auto, using(crate::proofs::WalkedLemmas::part_rules))]
@@ -127,7 +121,8 @@ impl<'b, 'a> Found<'b, 'a> {
             self.entry result }
     {
         let mut found = self;
-        for index in 0..axis_count(a).max(axis_count(b)) {
+        let count = a.axes.as_slice().len().max(b.axes.as_slice().len());
+        for index in 0..count as u64 {
             let position = index + 1;
             found = found.axis_at(at.then(Step::Axis(position)), a, b, position);
         }
