@@ -52,6 +52,18 @@ use crs_same::laws::parts_agree_where_same;
 use crs_value::laws::members_read_once;
 use crs_value::laws::parts::{kinds_are_sound, parts_are_sound, parts_read_once};
 
+// What the laws of parts rest on.
+macro_rules! part_laws {
+    () => {{
+        lower_laws();
+        sets_decide();
+        parts_agree_where_same();
+        members_read_once();
+        parts_read_once();
+        parts_are_sound();
+    }};
+}
+
 /// The written text of a well-formed node is closed, and no closed text is the front of another. Profile.
 pub fn closed_texts()
     ensures node { (item : Item) → AreFormed item → IsNode item → IsClosed (item_text item) }
@@ -62,19 +74,14 @@ pub fn closed_texts()
 pub fn identifiers_are_canonical()
     ensures { AreWrittenForms IsIdent (λ level. SameIdent) IsSpelledIdent ident_text }
 {
-    lower_laws();
-    members_read_once();
-    parts_are_sound();
+    part_laws!()
 }
 
 /// The spellings of units, of which `UNIT` is a kind of its own. Profile.
 pub fn units_are_canonical()
     ensures { AreWrittenForms IsUnit (SameUnit kinds.Plain) IsSpelledUnit unit_text }
 {
-    lower_laws();
-    sets_decide();
-    members_read_once();
-    parts_are_sound();
+    part_laws!()
 }
 
 /// The spellings of ellipsoids, prime meridians, members of ensembles and the meridians of axes. Profile.
@@ -84,22 +91,14 @@ pub fn frame_parts_are_canonical()
     ensures member { AreWrittenForms IsMember SameMember IsSpelledMember member_text }
     ensures along { AreWrittenForms IsAxisMeridian SameAxisMeridian IsSpelledAxisMeridian axis_meridian_text }
 {
-    lower_laws();
-    sets_decide();
-    parts_agree_where_same();
-    members_read_once();
-    parts_read_once();
-    parts_are_sound();
+    part_laws!()
 }
 
 /// The spellings of axes with their own orders and units, of which `UNIT` is a kind of its own. Profile.
 pub fn axes_are_canonical()
     ensures { AreWrittenForms IsAxis SameAxisAlone IsSpelledAxis axis_text }
 {
-    lower_laws();
-    sets_decide();
-    parts_read_once();
-    parts_are_sound();
+    part_laws!()
 }
 
 /// Axes whose texts are equal have one form. Profile.
@@ -120,12 +119,7 @@ pub fn conversions_are_canonical()
         conversion_text }
     ensures geoid_model { AreWrittenForms IsGeoidModel SameGeoidModel IsSpelledGeoidModel geoid_model_text }
 {
-    lower_laws();
-    sets_decide();
-    parts_agree_where_same();
-    members_read_once();
-    parts_read_once();
-    parts_are_sound();
+    part_laws!()
 }
 
 /// The spellings of deformation models and dynamic parts. Profile.
@@ -134,11 +128,7 @@ pub fn dynamic_parts_are_canonical()
         deformation_model_text }
     ensures dynamic { AreWrittenForms IsDynamic SameDynamic IsSpelledDynamic dynamic_text }
 {
-    lower_laws();
-    sets_decide();
-    parts_agree_where_same();
-    parts_read_once();
-    parts_are_sound();
+    part_laws!()
 }
 
 /// The spellings of boxes and extents. Profile.
@@ -146,21 +136,14 @@ pub fn extents_are_canonical()
     ensures bounding_box { AreWrittenForms IsBox (λ level. SameBox) IsSpelledBox box_text }
     ensures extent { AreWrittenForms IsExtent SameExtent IsSpelledExtent extent_text }
 {
-    lower_laws();
-    sets_decide();
-    members_read_once();
-    parts_read_once();
-    parts_are_sound();
+    part_laws!()
 }
 
 /// The spellings of usages, which are written alike at every level. Profile.
 pub fn usages_are_canonical()
     ensures { AreWrittenForms IsUsage (λ level. SameUsage) IsSpelledUsage usage_text }
 {
-    lower_laws();
-    sets_decide();
-    members_read_once();
-    parts_are_sound();
+    part_laws!()
 }
 
 /// The spellings of reference frames and ensembles: geodetic ones where they have an ellipsoid, else vertical ones. Profile.
@@ -168,11 +151,7 @@ pub fn datums_are_canonical()
     ensures datum { AreWrittenForms IsDatum (AreSame parts_of_datum) IsSpelledDatum datum_text }
     ensures ensemble { AreWrittenForms IsEnsemble (AreSame parts_of_ensemble) IsSpelledEnsemble ensemble_text }
 {
-    lower_laws();
-    sets_decide();
-    parts_agree_where_same();
-    parts_read_once();
-    parts_are_sound();
+    part_laws!()
 }
 
 /// The spellings of frames of either kind. Profile.
@@ -190,11 +169,7 @@ pub fn kinds_are_canonical()
     ensures vertical { AreWrittenForms IsVertical (AreSame parts_of_vertical) IsSpelledVertical vertical_text }
     ensures compound { AreWrittenForms IsCompound (AreSame parts_of_compound) IsSpelledCompound compound_text }
 {
-    lower_laws();
-    sets_decide();
-    parts_agree_where_same();
-    parts_read_once();
-    parts_are_sound();
+    part_laws!();
     kinds_are_sound();
     written_forms_are_equal_where_same();
 }
