@@ -1,18 +1,18 @@
-//! Names and units that count as others.
-ghost use Rattle.std.specs.Prelude.{◌≡◌, ◌++◌, [], ◌∷◌, List, OnErr, OnOk, drop, length, take, ℕ};
+//! Names and units that count as others, and where they are looked for.
+ghost use Rattle.std.specs.Prelude.{◌≡◌, ◌↔◌, ◌++◌, [], ◌∷◌, IsTrue, List, OnErr, OnOk, drop, length, take, ℕ};
 ghost use Rattle.std.specs.Option.{option_copied};
 ghost use Rattle.std.specs.Str.{bytes_eq};
 ghost use Rattle.crs_decimal.specs.Plain.{plain};
 ghost use Rattle.crs_value.specs.Sound.{Each, IsText};
-ghost use Rattle.crs_rules.specs.Firsts.{AreFound, name_digest, unit_digest};
+ghost use Rattle.crs_rules.specs.Firsts.{AreFound, IsFound, IsNoted, name_digest, place_of, unit_digest};
 ghost use Rattle.crs_rules.specs.Rules.{NameAliasParts, UnitAliasParts, first_name, first_that, is_name_alias, is_unit_alias};
 ghost use Rattle.crs_rules.specs.SoundRules.{IsNameAlias, IsUnitAlias};
 
-use crate::firsts::Firsts;
 use crs_decimal::Decimal;
 use crs_decimal::laws::{denotes_one, normal_is_one, plain_is_the_one};
 use crs_shape::Class;
 use crs_value::{Unit, UnitKind};
+use indexmap::IndexMap;
 use std::alloc::{AllocError, Global};
 use std::hash::{DefaultHasher, Hasher};
 use std::marker::Model;
@@ -88,6 +88,58 @@ impl Alias for UnitAlias {
 
     fn digest(&self) -> u64 {
         unit_digest(self.alias.as_slice(), self.alias_factor.digits())
+    }
+}
+
+// Where aliases are looked for: for each digest a place before which no alias has it. What stands there is compared, so
+// no answer rests on a digest.
+#[derive(Drop)]
+struct Firsts {
+    places: IndexMap<u64, usize>,
+}
+
+impl Model for Firsts {
+    ghost Value = { List (ℕ × ℕ) };
+
+    ghost view = { λ firsts. firsts.places.entries };
+}
+
+impl Firsts {
+    // No places. They take no memory.
+    fn new(alloc: Global) -> Firsts
+        ensures { result ≡ [] }
+    {
+        Firsts {
+            places: IndexMap::new(alloc),
+        }
+    }
+
+    // The place that is kept for a digest.
+    fn place(&self, digest: u64) -> Option<usize>
+        ensures { result ≡ place_of self.now digest }
+    {
+        self.places.get(&digest).copied()
+    }
+
+    fn finds(&self, digest: u64, at: usize) -> bool
+        ensures { IsTrue result ↔ IsFound self.now digest at }
+    {
+        match self.place(digest) {
+            None => false,
+            Some(first) => first <= at,
+        }
+    }
+
+    // Notes that an alias with this digest is at this place. Out of memory, all is as before.
+    fn note(&mut self, digest: u64, at: usize) -> Result<(), AllocError>
+        ensures noted { OnOk result (IsNoted digest at self.old self.new) }
+        ensures unchanged { OnErr result (self.new ≡ self.old) }
+    {
+        if self.finds(digest, at) {
+            return Ok(());
+        }
+        self.places.insert(digest, at)?;
+        Ok(())
     }
 }
 

@@ -5,7 +5,6 @@
 #![tactic(auto)]
 
 mod aliases;
-mod firsts;
 mod form;
 pub mod laws;
 mod rewriting;

@@ -10,8 +10,6 @@ pub(crate) mod crs;
 mod frames;
 mod order;
 mod parts;
-mod systems;
-mod usages;
 
 // A part that rules change.
 trait Part<'a>: Sized + Drop {

@@ -10,12 +10,9 @@ ghost use Rattle.crs_rules.specs.Rewritten.{projected, renamed, rewritten, units
 ghost use Rattle.crs_rules.specs.Rules.{meaning};
 
 use crate::aliases::first_name;
-use crate::laws::rules_are_sound;
 use crate::rewriting::frames::{dynamics, geodetic_frame, vertical_frame};
 use crate::rewriting::order::arrange_crs;
-use crate::rewriting::parts::{conversion, counted_name};
-use crate::rewriting::systems::system;
-use crate::rewriting::usages::tail;
+use crate::rewriting::parts::{conversion, counted_name, system, tail};
 use crate::rewriting::{Part, rewrite_each, rewrite_part};
 use crate::rules::Rules;
 use crs_shape::Class;
@@ -28,7 +25,6 @@ use std::alloc::{AllocError, Global};
 fn geodetic<'a>(alloc: Global, value: &mut Geodetic<'a>, rules: &'a Rules)
     ensures { value.new ≡ geodetic (meaning rules.now) value.old }
 {
-    rules_are_sound(rules);
     value.name = counted_name(rules.uncounted.crs_names, value.name);
     dynamics(&mut value.dynamic, rules);
     geodetic_frame(alloc, &mut value.frame, rules);
@@ -80,7 +76,6 @@ fn base_unit<'a>(unit_or_none: &mut Option<Unit<'a>>, idle: bool, rules: &'a Rul
 fn base<'a>(alloc: Global, value: &mut Base<'a>, idle: bool, rules: &'a Rules)
     ensures { value.new ≡ base (meaning rules.now) idle value.old }
 {
-    rules_are_sound(rules);
     value.name = counted_name(rules.uncounted.base_names, value.name);
     dynamics(&mut value.dynamic, rules);
     geodetic_frame(alloc, &mut value.frame, rules);
@@ -98,7 +93,6 @@ fn has_idle_base(value: &Projected<'_>) -> bool
 fn projected<'a>(alloc: Global, value: &mut Projected<'a>, rules: &'a Rules)
     ensures { value.new ≡ projected (meaning rules.now) value.old }
 {
-    rules_are_sound(rules);
     let idle = has_idle_base(value);
     value.name = counted_name(rules.uncounted.crs_names, value.name);
     base(alloc, &mut value.base, idle, rules);
@@ -129,7 +123,6 @@ fn geoid_models<'a>(models: &mut List<GeoidModel<'a>>, rules: &'a Rules)
 fn vertical<'a>(alloc: Global, value: &mut Vertical<'a>, rules: &'a Rules)
     ensures { value.new ≡ vertical (meaning rules.now) value.old }
 {
-    rules_are_sound(rules);
     value.name = counted_name(rules.uncounted.crs_names, value.name);
     dynamics(&mut value.dynamic, rules);
     vertical_frame(alloc, &mut value.frame, rules);
@@ -151,7 +144,6 @@ fn across<'a>(alloc: Global, horizontal: &mut Horizontal<'a>, rules: &'a Rules)
 fn compound<'a>(alloc: Global, value: &mut Compound<'a>, rules: &'a Rules)
     ensures { value.new ≡ compound (meaning rules.now) value.old }
 {
-    rules_are_sound(rules);
     value.name = counted_name(rules.uncounted.crs_names, value.name);
     across(alloc, &mut value.horizontal, rules);
     vertical(alloc, &mut value.vertical, rules);

@@ -20,7 +20,6 @@ impl<'a> Part<'a> for Ellipsoid<'a> {
     ghost under = { ellipsoid };
 
     fn rewrite(&mut self, rules: &'a Rules) {
-        rules_are_sound(rules);
         self.name = first_name(&rules.names, Class::Ellipsoid, self.name);
         rewrite_part(&mut self.unit, rules);
     }
@@ -30,7 +29,6 @@ impl<'a> Part<'a> for Meridian<'a> {
     ghost under = { meridian };
 
     fn rewrite(&mut self, rules: &'a Rules) {
-        rules_are_sound(rules);
         self.name = first_name(&rules.names, Class::PrimeMeridian, self.name);
         rewrite_part(&mut self.unit, rules);
     }
@@ -53,7 +51,6 @@ pub(super) fn counted_number(uncounted: bool, number: Option<Decimal>) -> Option
 fn datum<'a>(value: &mut Datum<'a>, class: Class, rules: &'a Rules)
     ensures { value.new ≡ datum (meaning rules.now) class value.old }
 {
-    rules_are_sound(rules);
     value.name = first_name(&rules.names, class, value.name);
     rewrite_part(&mut value.ellipsoid, rules);
     value.anchor = counted_text(rules.uncounted.anchors, value.anchor);
@@ -72,7 +69,6 @@ impl<'a> Part<'a> for Member<'a> {
 fn ensemble<'a>(value: &mut Ensemble<'a>, class: Class, rules: &'a Rules)
     ensures { value.new ≡ ensemble (meaning rules.now) class value.old }
 {
-    rules_are_sound(rules);
     value.name = first_name(&rules.names, class, value.name);
     rewrite_each(&mut value.members, rules);
     rewrite_part(&mut value.ellipsoid, rules);

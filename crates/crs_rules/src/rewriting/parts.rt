@@ -1,15 +1,18 @@
-//! Units, nodes that have a name and identifiers alone, and parts of conversions.
+//! Units, conversions, coordinate systems and the ends of CRSs.
 ghost use Rattle.std.specs.Prelude.{◌≡◌};
 ghost use Rattle.crs_value.specs.Sound.{IsText};
-ghost use Rattle.crs_rules.specs.Rewritten.{conversion, counted_name, named, parameter};
+ghost use Rattle.crs_rules.specs.Rewritten.{axis, axis_meridian, conversion, counted_name, extent, named, parameter, system, tail, usage};
 ghost use Rattle.crs_rules.specs.Rules.{meaning};
 
 use crate::aliases::{first_name, unit_alias};
 use crate::laws::rules_are_sound;
+use crate::rewriting::frames::counted_number;
 use crate::rewriting::{Part, rewrite_each, rewrite_part};
 use crate::rules::Rules;
 use crs_shape::Class;
-use crs_value::{Conversion, Method, Parameter, Unit};
+use crs_value::{
+    Axis, AxisMeridian, Conversion, Extent, Method, Parameter, System, Tail, Unit, Usage,
+};
 
 impl<'a> Part<'a> for Unit<'a> {
     ghost under = { λ r u. r.unit u };
@@ -33,7 +36,6 @@ impl<'a> Part<'a> for Parameter<'a> {
     ghost under = { parameter };
 
     fn rewrite(&mut self, rules: &'a Rules) {
-        rules_are_sound(rules);
         self.name = first_name(&rules.names, Class::Parameter, self.name);
         rewrite_part(&mut self.unit, rules);
     }
@@ -51,8 +53,62 @@ pub(super) fn counted_name<'a>(uncounted: bool, name: &'a [u8]) -> &'a [u8]
 pub(super) fn conversion<'a>(value: &mut Conversion<'a>, rules: &'a Rules)
     ensures { value.new ≡ conversion (meaning rules.now) value.old }
 {
-    rules_are_sound(rules);
     value.name = counted_name(rules.uncounted.conversion_names, value.name);
     method(&mut value.method, rules);
     rewrite_each(&mut value.parameters, rules);
+}
+
+impl<'a> Part<'a> for AxisMeridian<'a> {
+    ghost under = { axis_meridian };
+
+    fn rewrite(&mut self, rules: &'a Rules) {
+        rules_are_sound(rules);
+        self.unit.rewrite(rules);
+    }
+}
+
+impl<'a> Part<'a> for Axis<'a> {
+    ghost under = { axis };
+
+    fn rewrite(&mut self, rules: &'a Rules) {
+        let name = first_name(&rules.names, Class::Axis, self.name);
+        self.name = counted_name(rules.uncounted.axis_names, name);
+        rewrite_part(&mut self.meridian, rules);
+        self.order = counted_number(rules.uncounted.axis_order, self.order);
+        rewrite_part(&mut self.unit, rules);
+    }
+}
+
+pub(super) fn system<'a>(value: &mut System<'a>, rules: &'a Rules)
+    ensures { value.new ≡ system (meaning rules.now) value.old }
+{
+    rules_are_sound(rules);
+    rewrite_each(&mut value.axes, rules);
+    rewrite_part(&mut value.unit, rules);
+}
+
+impl<'a> Part<'a> for Extent<'a> {
+    ghost under = { extent };
+
+    fn rewrite(&mut self, rules: &'a Rules) {
+        rules_are_sound(rules);
+        rewrite_part(&mut self.unit, rules);
+    }
+}
+
+impl<'a> Part<'a> for Usage<'a> {
+    ghost under = { usage };
+
+    fn rewrite(&mut self, rules: &'a Rules) {
+        rules_are_sound(rules);
+        rewrite_part(&mut self.extent, rules);
+    }
+}
+
+pub(super) fn tail<'a>(value: &mut Tail<'a>, rules: &'a Rules)
+    ensures { value.new ≡ tail (meaning rules.now) value.old }
+{
+    rules_are_sound(rules);
+    rewrite_each(&mut value.usages, rules);
+    rewrite_part(&mut value.bare_parts, rules);
 }

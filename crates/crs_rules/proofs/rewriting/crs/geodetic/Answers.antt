@@ -5,4 +5,4 @@ use Rattle.crs_rules.proofs.rewriting.crs.geodetic.Goals as goal
 pub invariant_of-value : goal.invariant_of-value
 invariant_of-value c =
     simp (c.counted_name-value-inside.ensures.name, c.dynamics.ensures, c.geodetic_frame.ensures, c.rewrite_part.ensures, c.system.ensures, c.tail.ensures, ← c.rules.view_is)
-    (geodetic-sound _ (sound-meaning _ (rw (← c.rules.view_is) at c.rules_are_sound.ensures)) _ c.value.invariant)
+    (geodetic-sound _ (sound-meaning _ c.rules.invariant) _ c.value.invariant)

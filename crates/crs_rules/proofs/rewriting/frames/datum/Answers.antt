@@ -5,4 +5,4 @@ use Rattle.crs_rules.proofs.rewriting.frames.datum.Goals as goal
 pub invariant_of-value : goal.invariant_of-value
 invariant_of-value c =
     simp (c.first_name-value-inside.ensures.name, c.rewrite_part.ensures, c.counted_text-value-inside.ensures, c.counted_number-value-inside.ensures, ← c.rules.view_is)
-    (datum-sound _ c.args.class (sound-meaning _ (rw (← c.rules.view_is) at c.rules_are_sound.ensures)) _ c.value.invariant)
+    (datum-sound _ c.args.class (sound-meaning _ c.rules.invariant) _ c.value.invariant)

@@ -5,4 +5,4 @@ use Rattle.crs_rules.proofs.rewriting.frames.MeridianPart.rewrite.Goals as goal
 pub invariant_of-self : goal.invariant_of-self
 invariant_of-self c =
     simp (c.first_name-self-inside.ensures.name, c.rewrite_part.ensures, ← c.rules.view_is)
-    (meridian-sound _ (sound-meaning _ (rw (← c.rules.view_is) at c.rules_are_sound.ensures)) _ c.self.invariant)
+    (meridian-sound _ (sound-meaning _ c.rules.invariant) _ c.self.invariant)

@@ -1,6 +1,6 @@
 use Rattle.crs_rules.proofs.CrsLemmas.{system-sound}
 use Rattle.crs_rules.proofs.AliasLemmas.{sound-meaning}
-use Rattle.crs_rules.proofs.rewriting.systems.system.Goals as goal
+use Rattle.crs_rules.proofs.rewriting.parts.system.Goals as goal
 
 pub invariant_of-value : goal.invariant_of-value
 invariant_of-value c =

@@ -1,6 +1,6 @@
 use Rattle.crs_rules.proofs.PartLemmas.{tail-sound}
 use Rattle.crs_rules.proofs.AliasLemmas.{sound-meaning}
-use Rattle.crs_rules.proofs.rewriting.usages.tail.Goals as goal
+use Rattle.crs_rules.proofs.rewriting.parts.tail.Goals as goal
 
 pub invariant_of-value : goal.invariant_of-value
 invariant_of-value c =
