@@ -1,10 +1,10 @@
 //! Names and units that count as others, and where they are looked for.
-ghost use Rattle.std.specs.Prelude.{◌≡◌, ◌↔◌, ◌++◌, [], ◌∷◌, IsTrue, List, OnErr, OnOk, drop, length, take, ℕ};
+ghost use Rattle.std.specs.Prelude.{◌≡◌, ◌++◌, [], ◌∷◌, List, OnErr, OnOk, drop, length, take, ℕ};
 ghost use Rattle.std.specs.Option.{option_copied};
 ghost use Rattle.std.specs.Str.{bytes_eq};
 ghost use Rattle.crs_decimal.specs.Plain.{plain};
 ghost use Rattle.crs_value.specs.Sound.{Each, IsText};
-ghost use Rattle.crs_rules.specs.Firsts.{AreFound, IsFound, IsNoted, name_digest, place_of, unit_digest};
+ghost use Rattle.crs_rules.specs.Firsts.{AreFound, IsNoted, name_digest, place_of, unit_digest};
 ghost use Rattle.crs_rules.specs.Rules.{NameAliasParts, UnitAliasParts, first_name, first_that, is_name_alias, is_unit_alias};
 ghost use Rattle.crs_rules.specs.SoundRules.{IsNameAlias, IsUnitAlias};
 
@@ -121,21 +121,12 @@ impl Firsts {
         self.places.get(&digest).copied()
     }
 
-    fn finds(&self, digest: u64, at: usize) -> bool
-        ensures { IsTrue result ↔ IsFound self.now digest at }
-    {
-        match self.place(digest) {
-            None => false,
-            Some(first) => first <= at,
-        }
-    }
-
     // Notes that an alias with this digest is at this place. Out of memory, all is as before.
     fn note(&mut self, digest: u64, at: usize) -> Result<(), AllocError>
         ensures noted { OnOk result (IsNoted digest at self.old self.new) }
         ensures unchanged { OnErr result (self.new ≡ self.old) }
     {
-        if self.finds(digest, at) {
+        if self.place(digest).is_some_and(|first| first <= at) {
             return Ok(());
         }
         self.places.insert(digest, at)?;

@@ -3,8 +3,7 @@ ghost use Rattle.std.specs.Prelude.{◌≡◌};
 ghost use Rattle.std.specs.Option.{option_copied};
 ghost use Rattle.crs_shape.specs.declared.class.Class.TheVariants as classes;
 ghost use Rattle.crs_value.specs.Sound.{IsText};
-ghost use Rattle.crs_rules.specs.Rewritten.{counted, counted_frame, datum, dynamic, dynamics, ellipsoid, ensemble, frame_or_ensemble};
-ghost use Rattle.crs_rules.specs.Rewritten.{geodetic_frame, meridian, named, stemmed, vertical_frame};
+ghost use Rattle.crs_rules.specs.Rewritten.{counted, counted_frame, datum, dynamic, dynamics, ellipsoid, ensemble, frame_or_ensemble, meridian, named};
 ghost use Rattle.crs_rules.specs.Rules.{meaning, without_ensemble};
 
 use crate::aliases::first_name;
@@ -87,52 +86,39 @@ fn without_ensemble(name: &[u8]) -> &[u8]
     }
 }
 
-fn take_stem(frame: &mut Frame<'_>)
-    ensures { frame.new ≡ stemmed frame.old }
-{
-    match frame {
-        Frame::Datum(_) => {}
-        Frame::Ensemble(ensemble) => ensemble.name = without_ensemble(ensemble.name),
-    }
-}
-
-// A frame of the first class, or an ensemble of the second.
-fn frame_or_ensemble<'a>(
-    frame: &mut Frame<'a>,
-    class: Class,
-    ensemble_class: Class,
-    rules: &'a Rules,
-)
-    ensures { frame.new ≡ frame_or_ensemble (meaning rules.now) class ensemble_class frame.old }
-{
-    match frame {
-        Frame::Datum(found) => datum(found, class, rules),
-        Frame::Ensemble(found) => ensemble(found, ensemble_class, rules),
-    }
-}
-
 // The frame, or, where ensembles don't count, the reference frame that it counts as.
 fn count_ensemble(alloc: Global, frame: &mut Frame<'_>, uncounted: bool)
     ensures { frame.new ≡ counted_frame uncounted frame.old }
 {
     if uncounted {
-        take_stem(frame);
+        if let Frame::Ensemble(ensemble) = frame {
+            ensemble.name = without_ensemble(ensemble.name);
+        }
         frame.make_datum(alloc);
     }
 }
 
-pub(super) fn geodetic_frame<'a>(alloc: Global, frame: &mut Frame<'a>, rules: &'a Rules)
-    ensures { frame.new ≡ geodetic_frame (meaning rules.now) frame.old }
-{
-    count_ensemble(alloc, frame, rules.uncounted.ensembles);
-    frame_or_ensemble(frame, Class::GeodeticFrame, Class::GeodeticEnsemble, rules);
-}
+// The classes of geodetic frames and ensembles.
+pub(super) const GEODETIC: (Class, Class) = (Class::GeodeticFrame, Class::GeodeticEnsemble);
 
-pub(super) fn vertical_frame<'a>(alloc: Global, frame: &mut Frame<'a>, rules: &'a Rules)
-    ensures { frame.new ≡ vertical_frame (meaning rules.now) frame.old }
+// The classes of vertical frames and ensembles.
+pub(super) const VERTICAL: (Class, Class) = (Class::VerticalFrame, Class::VerticalEnsemble);
+
+// A frame of the first class, or an ensemble of the second.
+pub(super) fn rewrite_frame<'a>(
+    alloc: Global,
+    frame: &mut Frame<'a>,
+    classes: (Class, Class),
+    rules: &'a Rules,
+)
+    ensures { frame.new ≡ frame_or_ensemble (meaning rules.now) classes.0 classes.1
+        (counted_frame rules.now.uncounted.ensembles frame.old) }
 {
     count_ensemble(alloc, frame, rules.uncounted.ensembles);
-    frame_or_ensemble(frame, Class::VerticalFrame, Class::VerticalEnsemble, rules);
+    match frame {
+        Frame::Datum(found) => datum(found, classes.0, rules),
+        Frame::Ensemble(found) => ensemble(found, classes.1, rules),
+    }
 }
 
 // Deformation models under rules.

@@ -4,5 +4,5 @@ use Rattle.crs_rules.proofs.rewriting.crs.geodetic.Goals as goal
 
 pub invariant_of-value : goal.invariant_of-value
 invariant_of-value c =
-    simp (c.counted_name-value-inside.ensures.name, c.dynamics.ensures, c.geodetic_frame.ensures, c.rewrite_part.ensures, c.system.ensures, c.tail.ensures, ← c.rules.view_is)
+    simp (c.counted_name-value-inside.ensures.name, c.dynamics.ensures, c.rewrite_frame.ensures, c.rewrite_part.ensures, c.system.ensures, c.tail.ensures, ← c.rules.view_is)
     (geodetic-sound _ (sound-meaning _ c.rules.invariant) _ c.value.invariant)
