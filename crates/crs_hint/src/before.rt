@@ -1,18 +1,8 @@
 //! What comes before a place: a look at delimiters and quoted texts, token by token, which takes no memory.
-ghost use Rattle.std.specs.Prelude.{◌≤◌};
-
 use crate::glance::{back, front, is_of_word, keyword_at, looked_at, names, names_one_of, rest};
 use crate::hint::Open;
+use arrayvec::ArrayVec;
 use crs_shape::{Class, known, root_class};
-
-// A text has at most 12 open delimiters before the place of its refusal, and one may begin there.
-const MOST: usize = 13;
-
-const NONE: Open = Open {
-    begin: 0,
-    length: 0,
-    delimiter: b'[',
-};
 
 // Nodes that only a CRS or a base CRS has.
 const IN_CRS: [Class; 11] = [
@@ -32,8 +22,9 @@ const IN_CRS: [Class; 11] = [
 /// What comes before a place, or begins there.
 #[derive(Drop)]
 pub(crate) struct Before {
-    open: [Open; MOST],
-    depth: usize,
+    /// The delimiters that are open, the outermost first: at most 12 are open before the place of a text's refusal, and
+    /// one may begin there.
+    pub(crate) open: ArrayVec<Open, 13>,
     quote: Option<usize>,
     /// Whether a delimiter was closed.
     has_closed: bool,
@@ -41,15 +32,13 @@ pub(crate) struct Before {
     pub(crate) quote_missing: Option<usize>,
     /// The first node that is where none of its kind can be, and the node that it is in.
     pub(crate) outside: Option<(Open, Open)>,
-    ghost in_range: { depth ≤ 13 },
 }
 
 /// What comes before a place of a text.
 pub(crate) fn look_before(text: &[u8], place: usize) -> Before {
     let seen = front(text, place.saturating_add(400));
     let mut found = Before {
-        open: [NONE; MOST],
-        depth: 0,
+        open: ArrayVec::new(),
         quote: None,
         has_closed: false,
         quote_missing: None,
@@ -67,19 +56,14 @@ pub(crate) fn look_before(text: &[u8], place: usize) -> Before {
 }
 
 impl Before {
-    /// The delimiters that are open, the outermost first.
-    pub(crate) fn all_open(&self) -> &[Open] {
-        &self.open[..self.depth]
-    }
-
     /// The delimiter that was opened last.
     pub(crate) fn innermost(&self) -> Option<Open> {
-        self.all_open().last().copied()
+        self.open.last().copied()
     }
 
     /// Whether delimiters were opened, and all are closed again.
     pub(crate) fn is_complete(&self) -> bool {
-        self.has_closed && self.depth == 0
+        self.has_closed && self.open.is_empty()
     }
 
     // Takes the byte at `at`; false where what follows doesn't count.
@@ -96,13 +80,18 @@ impl Before {
                 at <= place
             }
             (None, b'[' | b'(') => self.enter(text, node_at(text, at, byte), place),
-            (None, b']' | b')') => self.leave(place, at),
+            (None, b']' | b')') => {
+                if at < place && self.open.pop().is_some() {
+                    self.has_closed = true;
+                }
+                at < place
+            }
             (None, _) => true,
         }
     }
 
     fn end_quote(&mut self, quoted: &[u8], begin: usize) {
-        let opening = self.innermost().unwrap_or(NONE).delimiter;
+        let opening = self.innermost().map_or(b'[', |it| it.delimiter);
         if self.quote_missing.is_none() && has_node(looked_at(quoted, 0), opening) {
             self.quote_missing = Some(begin);
         }
@@ -120,20 +109,7 @@ impl Before {
         {
             self.outside = Some((node, outer));
         }
-        if node.begin == place || self.depth >= MOST {
-            return false;
-        }
-        self.open[self.depth] = node;
-        self.depth += 1;
-        true
-    }
-
-    fn leave(&mut self, place: usize, at: usize) -> bool {
-        if at < place && self.depth > 0 {
-            self.depth -= 1;
-            self.has_closed = true;
-        }
-        at < place
+        node.begin != place && self.open.try_push(node).is_ok()
     }
 }
 
@@ -176,16 +152,15 @@ fn has_node(quoted: &[u8], opening: u8) -> bool {
 }
 
 fn is_of_node(text: &[u8], opening: u8) -> bool {
-    match text {
-        [b',', behind @ ..] => begins_node(behind, opening),
-        [b']', behind @ ..] => opening == b'[' && behind.trim_ascii_start().starts_with(b","),
-        [b')', behind @ ..] => opening == b'(' && behind.trim_ascii_start().starts_with(b","),
+    match (text, opening) {
+        ([b',', behind @ ..], _) => {
+            let keyword = keyword_at(behind);
+            let behind = rest(behind.trim_ascii_start(), keyword.len());
+            !keyword.is_empty() && behind.trim_ascii_start().first() == Some(&opening)
+        }
+        ([b']', behind @ ..], b'[') | ([b')', behind @ ..], b'(') => {
+            behind.trim_ascii_start().starts_with(b",")
+        }
         _ => false,
     }
-}
-
-fn begins_node(text: &[u8], opening: u8) -> bool {
-    let keyword = keyword_at(text);
-    let behind = rest(text.trim_ascii_start(), keyword.len());
-    !keyword.is_empty() && behind.trim_ascii_start().first() == Some(&opening)
 }

@@ -34,9 +34,11 @@ pub(crate) fn ends(text: &[u8], words: &[u8]) -> bool {
     back(text, words.len()).eq_ignore_ascii_case(words)
 }
 
-/// Whether a word is one of these, letter case aside.
-pub(crate) fn is_one_of(word: &[u8], words: &[&[u8]]) -> bool {
-    words.iter().any(|it| it.eq_ignore_ascii_case(word))
+/// Whether a word is one of these, which have blanks between, letter case aside.
+pub(crate) fn is_one_of(word: &[u8], words: &[u8]) -> bool {
+    words
+        .split(|it| *it == b' ')
+        .any(|it| it.eq_ignore_ascii_case(word))
 }
 
 /// Whether a word is a keyword of this class, letter case aside.
@@ -78,18 +80,8 @@ pub(crate) fn digit_count(text: &[u8]) -> usize {
 pub(crate) fn keyword_at(text: &[u8]) -> &[u8] {
     let text = text.trim_ascii_start();
     let word = word_at(text);
-    if !word.is_empty() && begins_open(rest(text, word.len()).trim_ascii_start()) {
-        word
-    } else {
-        b""
+    match rest(text, word.len()).trim_ascii_start() {
+        [b'[' | b'(', ..] => word,
+        _ => b"",
     }
-}
-
-fn begins_open(text: &[u8]) -> bool {
-    matches!(text.first(), Some(b'[' | b'('))
-}
-
-/// Whether the bytes begin with a closing delimiter.
-pub(crate) fn begins_close(text: &[u8]) -> bool {
-    matches!(text.first(), Some(b']' | b')'))
 }

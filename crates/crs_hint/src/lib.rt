@@ -5,15 +5,12 @@
 
 mod before;
 mod class;
-mod delimiter;
 mod front;
 mod glance;
 mod hint;
 mod meanings;
 mod place;
-mod refused;
 mod sentence;
-mod string;
 mod writing;
 
 pub use meanings::meaning;

@@ -1,22 +1,46 @@
-//! What is at the place of a refusal, or is missing before it.
-use crate::before::look_before;
-use crate::class::by_keyword;
-use crate::delimiter::{by_delimiters, by_whole_text};
-use crate::glance::{back, digit_count, front, keyword_at, looked_at, rest};
-use crate::hint::{Entry, Hint, by_first_bytes};
-use crate::refused::{BAD_CHARACTER, BAD_NUMBER, NOT_HERE, NOT_UTF8, UNKNOWN_KEYWORD};
+//! What is at the place of a refusal, is missing before it, or is open there.
+use crate::before::{Before, look_before};
+use crate::class::{by_keyword, is_of_text};
+use crate::glance::{back, digit_count, front, keyword_at, looked_at, names, rest};
+use crate::hint::{Entry, Filling, Hint, by_first_bytes, said};
+use crate::sentence;
+use crs_shape::Class;
+
+// A byte begins no token.
+const BAD_CHARACTER: u8 = 1;
+// A run isn't of the number form.
+const BAD_NUMBER: u8 = 2;
+// A quoted text isn't UTF-8.
+const NOT_UTF8: u8 = 4;
+// A quoted text has no end.
+const OPEN_TEXT: u8 = 5;
+// No text goes on with this token.
+const UNEXPECTED: u8 = 6;
+// The text ends too early.
+const UNEXPECTED_END: u8 = 7;
+// A node of a keyword that isn't known.
+const UNKNOWN_KEYWORD: u8 = 11;
+// An item that isn't allowed where it is.
+const NOT_HERE: u8 = 12;
 
 /// What is at the place of a refusal, or is missing before it.
-pub(crate) fn by_place(text: &[u8], number: u8, place: usize) -> Option<Hint<'_>> {
+pub(crate) fn by_place(text: &[u8], number: u8, place: usize) -> Option<Hint<'static>> {
     let there = looked_at(text, place);
     let before = front(text, place);
     let found = look_before(text, place);
+    let keyword = keyword_at(there);
     let hint = match number {
         BAD_CHARACTER => by_character(there),
-        BAD_NUMBER => by_number(text, place),
-        NOT_UTF8 => Some(Hint::Latin1),
-        UNKNOWN_KEYWORD => by_keyword(number, keyword_at(there)),
-        NOT_HERE => by_keyword(number, keyword_at(there)).or(by_comma(before, there)),
+        BAD_NUMBER => by_number(rest(text, place)),
+        NOT_UTF8 => said(
+            "It is Latin-1, most likely, or another encoding: write the file in UTF-8 (iconv -f \
+             ISO-8859-1 -t UTF-8 FILE).",
+        ),
+        UNKNOWN_KEYWORD => by_keyword(keyword),
+        NOT_HERE if names(keyword, Class::BaseCrs) => {
+            said("This is a derived CRS. Derived CRSs aren't read.")
+        }
+        NOT_HERE => by_keyword(keyword).or(by_comma(before, there)),
         _ => None,
     };
     by_whole_text(&found, number, there)
@@ -26,44 +50,49 @@ pub(crate) fn by_place(text: &[u8], number: u8, place: usize) -> Option<Hint<'_>
 
 // Characters by their bytes, most of them quotes that aren't straight, and what to say of each.
 const CHARACTERS: [Entry; 10] = [
-    (b"&quot;", Hint::XmlQuote),
-    (b"&#34;", Hint::XmlQuote),
-    (b"\\\"", Hint::EscapedQuote),
-    (b"\xe2\x80\x9c", Hint::TypographicQuote),
-    (b"\xe2\x80\x9d", Hint::TypographicQuote),
-    (b"\xe2\x80\x9e", Hint::TypographicQuote),
-    (b"\xc2\xab", Hint::TypographicQuote),
-    (b"\xc2\xbb", Hint::TypographicQuote),
-    (b"'", Hint::SingleQuote),
-    (b";", Hint::Semicolon),
+    (b"&quot;", sentence::XML_QUOTE, b""),
+    (b"&#34;", sentence::XML_QUOTE, b""),
+    (b"\\\"", sentence::ESCAPED_QUOTE, b""),
+    (b"\xe2\x80\x9c", sentence::TYPOGRAPHIC_QUOTE, b""),
+    (b"\xe2\x80\x9d", sentence::TYPOGRAPHIC_QUOTE, b""),
+    (b"\xe2\x80\x9e", sentence::TYPOGRAPHIC_QUOTE, b""),
+    (b"\xc2\xab", sentence::TYPOGRAPHIC_QUOTE, b""),
+    (b"\xc2\xbb", sentence::TYPOGRAPHIC_QUOTE, b""),
+    (b"'", "Texts are written in double quotes (\").", b""),
+    (b";", "Arguments are separated by commas.", b""),
 ];
 
 // What a byte is that begins no token.
-fn by_character<'a>(there: &[u8]) -> Option<Hint<'a>> {
-    let by_control = match there {
-        [byte, ..] if byte.is_ascii_control() => Some(Hint::Control(*byte)),
-        _ => None,
-    };
-    by_first_bytes(there, &CHARACTERS).or(by_control)
+fn by_character(there: &[u8]) -> Option<Hint<'static>> {
+    match there {
+        [byte, ..] if byte.is_ascii_control() => {
+            Some(Hint(
+                "A control character is here, {}: this is no text, or it was damaged.",
+                Filling::Control(*byte),
+            ))
+        }
+        _ => by_first_bytes(there, &CHARACTERS),
+    }
 }
 
 // What is where a number should begin.
-fn by_number<'a>(text: &[u8], place: usize) -> Option<Hint<'a>> {
-    let there = looked_at(text, place);
-    let is_cut_off = is_cut_off(rest(text, place)).then_some(Hint::NumberCutOff);
-    is_cut_off
-        .or(is_date(there).then_some(Hint::Date))
-        .or(has_unit(there).then_some(Hint::WithUnit))
+fn by_number(there: &[u8]) -> Option<Hint<'static>> {
+    let near = looked_at(there, 0);
+    if is_cut_off(there) {
+        said("The text ends in this number: it was cut off, most likely.")
+    } else if is_date(near) {
+        said("A date is no number: an epoch is a year, with a fraction.")
+    } else if has_unit(near) {
+        said("The number is written alone: a unit is a node of its own, behind it.")
+    } else {
+        None
+    }
 }
 
 // Whether the text ends in a number that goes on, as `298.` and `1e-` do.
 fn is_cut_off(there: &[u8]) -> bool {
     matches!(there, [.., b'+' | b'-' | b'.' | b'e' | b'E'])
-        && there.iter().all(|it| is_of_number(*it))
-}
-
-fn is_of_number(byte: u8) -> bool {
-    byte.is_ascii_digit() || matches!(byte, b'+' | b'-' | b'.' | b'e' | b'E')
+        && there.iter().all(|it| matches!(*it, b'0'..=b'9' | b'+' | b'-' | b'.' | b'e' | b'E'))
 }
 
 // `2010-01-01`
@@ -86,17 +115,24 @@ fn has_unit(there: &[u8]) -> bool {
 }
 
 // A number too many after a number, as where a comma is written for a decimal point or between thousands.
-fn by_comma<'a>(before: &[u8], there: &[u8]) -> Option<Hint<'a>> {
+fn by_comma(before: &[u8], there: &[u8]) -> Option<Hint<'static>> {
     let before = back(before, 100).trim_ascii_end();
-    if !begins_number(there) || !ends_with_number(before) {
-        return None;
+    let number = match there {
+        [b'+' | b'-', number @ ..] => number,
+        _ => there,
+    };
+    match (before, number) {
+        ([.., b'0'..=b'9', b','], [b'0'..=b'9' | b'.', ..]) => {
+            let is_of_thousands = digit_count(there) == 3 && ends_with_thousands(before);
+            said(if is_of_thousands {
+                "A number too many: most likely commas separate thousands or stand for decimal \
+                 points, here or before (6378137 for 6,378,137; 0.5 for 0,5)."
+            } else {
+                "A number too many: most likely a comma stands for a decimal point, here or before (0,5 for 0.5)."
+            })
+        }
+        _ => None,
     }
-    let is_of_thousands = digit_count(there) == 3 && ends_with_thousands(before);
-    Some(if is_of_thousands {
-        Hint::Thousands
-    } else {
-        Hint::DecimalComma
-    })
 }
 
 // Whether the digits and commas at the end are a number with a comma before each three digits, and a comma: `6,378,`.
@@ -116,13 +152,72 @@ fn ends_with_thousands(before: &[u8]) -> bool {
     begins && groups.all(|it| it.len() == 3)
 }
 
-fn begins_number(there: &[u8]) -> bool {
-    matches!(
-        there,
-        [b'0'..=b'9' | b'.', ..] | [b'+' | b'-', b'0'..=b'9' | b'.', ..]
-    )
+// What is at a place behind a complete text, or where a quote is missing before; `there` is the text from the place on.
+fn by_whole_text(found: &Before, number: u8, there: &[u8]) -> Option<Hint<'static>> {
+    if let Some(place) = found.quote_missing
+        && matches!(
+            number,
+            BAD_CHARACTER | BAD_NUMBER | OPEN_TEXT | UNEXPECTED | UNEXPECTED_END
+        )
+    {
+        return Some(Hint(
+            "A quote is missing, most likely: at the end of the quoted text that is opened at {}, or before it.",
+            Filling::Place(place),
+        ));
+    }
+    if !found.is_complete() || number > UNEXPECTED {
+        return None;
+    }
+    let keyword = keyword_at(there.strip_prefix(b",").unwrap_or(there));
+    said(if is_of_text(keyword) {
+        sentence::SECOND_TEXT
+    } else if !keyword.is_empty() {
+        "The CRS is complete before this node: a closing delimiter before it is one too many, most likely."
+    } else if matches!(there, [b']' | b')', ..]) {
+        "The CRS is complete before this delimiter: it is one too many, or one is missing before."
+    } else {
+        sentence::BEHIND
+    })
 }
 
-fn ends_with_number(before: &[u8]) -> bool {
-    matches!(before, [.., b'0'..=b'9', b','])
+// What is open before the place of a refusal, or too many there; `there` is the text from the place on.
+fn by_delimiters(found: &Before, number: u8, before: &[u8], there: &[u8]) -> Option<Hint<'static>> {
+    if number == OPEN_TEXT {
+        return Some(Hint(
+            "Still open at the end: this quoted text{}.",
+            Filling::AllOpen(b", "),
+        ));
+    }
+    let open = found.innermost()?;
+    match number {
+        UNEXPECTED_END if !matches!(before.trim_ascii_end(), [.., b']' | b')']) => {
+            Some(Hint(
+                "The text was cut off, most likely: it has no closing delimiter at its end. Still open at the end: {}.",
+                Filling::AllOpen(b""),
+            ))
+        }
+        UNEXPECTED_END => {
+            let is_more_open = found.open.len() > 1;
+            let still_open = Hint("Still open at the end: {}.", Filling::AllOpen(b""));
+            by_outside(found).or(is_more_open.then_some(still_open))
+        }
+        NOT_HERE => by_outside(found),
+        // A closing delimiter that doesn't match the opening delimiter.
+        UNEXPECTED => match (open.delimiter, there) {
+            (b'[', [b')', ..]) | (b'(', [b']', ..]) => {
+                Some(Hint("{}.", Filling::ClosedBy(open)))
+            }
+            _ => None,
+        },
+        _ => None,
+    }
+}
+
+// A node that is where none of its kind can be.
+fn by_outside(found: &Before) -> Option<Hint<'static>> {
+    let (node, outer) = found.outside?;
+    Some(Hint(
+        "{}, which is still open there: its closing delimiter is missing, most likely.",
+        Filling::Outside(node, outer),
+    ))
 }

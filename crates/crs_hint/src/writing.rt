@@ -1,15 +1,16 @@
 //! Which hints apply to a refused text, and how they are written.
 use crate::before::{keyword_of, look_before, node_at};
 use crate::class::has_transformation;
-use crate::front::by_front;
+use crate::front::{by_front, transformation_of};
 use crate::glance::{looked_at, rest};
-use crate::hint::{Hint, Open};
+use crate::hint::{Filling, Hint, Open};
 use crate::place::by_place;
-use crate::refused::LAST_OF_TEXT;
-use crate::sentence::BY_PROJ;
-use crate::string::transformation_of;
+use crate::sentence;
 use itoa::Buffer;
 use std::alloc::{AllocError, Global};
+
+// The last number of a refusal of the text itself; those of shapes and values are above it.
+const LAST_OF_TEXT: u8 = 8;
 
 // Whether there was memory for what was appended.
 type Appended = Result<(), AllocError>;
@@ -36,22 +37,29 @@ pub fn hints(alloc: Global, text: &[u8], number: u8, place: usize) -> Result<Vec
 // What to say of the place beside what is said of the whole. For a class that isn't read, only damage is named: in
 // WKT1 a second text may follow.
 fn beside<'a>(whole: Option<Hint<'a>>, there: Option<Hint<'a>>, number: u8) -> Option<Hint<'a>> {
-    let Some(whole) = whole else {
+    let Some(Hint(class, _)) = whole else {
         return there;
     };
-    let is_of_class = matches!(whole, Hint::Wkt1 | Hint::Bound | Hint::Class(_));
-    let is_of_damage = !matches!(there?, Hint::SecondText | Hint::Behind);
+    let is_of_class = [sentence::WKT1, sentence::BOUND, sentence::CLASS].contains(&class);
+    let is_of_damage = ![sentence::SECOND_TEXT, sentence::BEHIND].contains(&there?.0);
     (is_of_class && is_of_damage && number <= LAST_OF_TEXT).then_some(there?)
 }
 
 // The transformation with which a text becomes a `BOUNDCRS`.
 fn bound<'a>(whole: Option<Hint<'a>>, text: &'a [u8], front: &'a [u8]) -> Option<Hint<'a>> {
-    let word = match whole? {
-        Hint::Wkt1 if has_transformation(text) => b"TOWGS84",
-        Hint::ProjString => transformation_of(front),
-        _ => b"",
+    let Hint(kind, _) = whole?;
+    let word = if kind == sentence::WKT1 && has_transformation(text) {
+        b"TOWGS84"
+    } else if kind == sentence::PROJ_STRING {
+        transformation_of(front)
+    } else {
+        b""
     };
-    (!word.is_empty()).then_some(Hint::MakesBound(word))
+    (!word.is_empty()).then_some(Hint(
+        "With {} it becomes a BOUNDCRS, which isn't read: its source CRS loses the \
+         transformation, so keep the transformation as part of a key.",
+        Filling::Words(word),
+    ))
 }
 
 /// The node whose opening delimiter is at this place, as `CS[ at 24`, where its keyword begins; nothing where no opening
@@ -67,32 +75,48 @@ pub fn opened(alloc: Global, text: &[u8], at: usize) -> Result<Vec<u8>, AllocErr
 }
 
 fn append_hint(hint: Hint<'_>, text: &[u8], place: usize, out: &mut Vec<u8>) -> Appended {
-    let words = hint.words();
+    let Hint(words, filling) = hint;
     let (front, back) = words.split_once("{}").unwrap_or((words, ""));
     out.extend_from_slice(front.as_bytes())?;
-    append_filled(hint, text, place, out)?;
+    append_filling(filling, text, place, out)?;
     out.extend_from_slice(back.as_bytes())
 }
 
-// What is filled into its words.
-fn append_filled(hint: Hint<'_>, text: &[u8], place: usize, out: &mut Vec<u8>) -> Appended {
-    match hint {
-        Hint::Json | Hint::ProjString | Hint::Wkt1 => out.extend_from_slice(BY_PROJ),
-        Hint::Binary(words) | Hint::Archive(words) => out.extend_from_slice(words),
-        Hint::Utf16(words) | Hint::Srid(words) | Hint::Class(words) => out.extend_from_slice(words),
-        Hint::MakesBound(words) | Hint::Keyword(words) => out.extend_from_slice(words),
-        Hint::Geometry(word) | Hint::Part(word) => append_capitals(word, out),
-        Hint::Code(word) => append_shell_word(word, out),
-        Hint::EpsgCode(digits) => append_code(digits, out),
-        Hint::QuoteMissing(begin) => append_number(begin, out),
-        Hint::Control(byte) => append_byte(byte, out),
-        Hint::ClosedBy(open) => append_closing(text, open, out),
-        Hint::Outside(node, outer) => append_inside(text, node, outer, out),
-        Hint::StillOpen | Hint::CutOff => {
-            append_open(text, look_before(text, place).all_open(), true, out)
+fn append_filling(filling: Filling<'_>, text: &[u8], place: usize, out: &mut Vec<u8>) -> Appended {
+    match filling {
+        Filling::Nothing => Ok(()),
+        Filling::Words(words) => out.extend_from_slice(words),
+        Filling::Capitals(word) => append_capitals(word, out),
+        Filling::Argument(word) => append_shell_word(word, out),
+        Filling::EpsgCode(digits) => {
+            out.extend_from_slice(b"EPSG:")?;
+            out.extend_from_slice(digits)
         }
-        Hint::QuoteOpen => append_open(text, look_before(text, place).all_open(), false, out),
-        _ => Ok(()),
+        Filling::Place(begin) => append_number(begin, out),
+        Filling::Control(byte) => append_byte(byte, out),
+        // `CS[ at 24 is closed by ], not by )`
+        Filling::ClosedBy(open) => {
+            append_node(text, open, out)?;
+            match open.delimiter {
+                b'[' => out.extend_from_slice(b" is closed by ], not by )"),
+                _ => out.extend_from_slice(b" is closed by ), not by ]"),
+            }
+        }
+        // `CS[ at 24 is inside ID[ at 20`
+        Filling::Outside(node, outer) => {
+            append_node(text, node, out)?;
+            out.extend_from_slice(b" is inside ")?;
+            append_node(text, outer, out)
+        }
+        Filling::AllOpen(begin) => {
+            let mut separator = begin;
+            for open in &look_before(text, place).open {
+                out.extend_from_slice(separator)?;
+                append_node(text, *open, out)?;
+                separator = b", ";
+            }
+            Ok(())
+        }
     }
 }
 
@@ -101,11 +125,6 @@ fn append_capitals(piece: &[u8], out: &mut Vec<u8>) -> Appended {
         out.push(byte.to_ascii_uppercase())?;
     }
     Ok(())
-}
-
-fn append_code(digits: &[u8], out: &mut Vec<u8>) -> Appended {
-    out.extend_from_slice(b"EPSG:")?;
-    out.extend_from_slice(digits)
 }
 
 fn append_number(number: usize, out: &mut Vec<u8>) -> Appended {
@@ -138,11 +157,7 @@ fn append_shell_word(piece: &[u8], out: &mut Vec<u8>) -> Appended {
 }
 
 fn is_plain(byte: u8) -> bool {
-    byte.is_ascii_alphanumeric()
-        || matches!(
-            byte,
-            b'@' | b'%' | b'+' | b'=' | b':' | b',' | b'.' | b'/' | b'_' | b'-'
-        )
+    byte.is_ascii_alphanumeric() || b"@%+=:,./_-".contains(&byte)
 }
 
 // `CS[ at 24`
@@ -151,33 +166,4 @@ fn append_node(text: &[u8], node: Open, out: &mut Vec<u8>) -> Appended {
     out.push(node.delimiter)?;
     out.extend_from_slice(b" at ")?;
     append_number(node.begin, out)
-}
-
-// `CS[ at 24 is closed by ], not by )`
-fn append_closing(text: &[u8], open: Open, out: &mut Vec<u8>) -> Appended {
-    append_node(text, open, out)?;
-    match open.delimiter {
-        b'[' => out.extend_from_slice(b" is closed by ], not by )"),
-        _ => out.extend_from_slice(b" is closed by ), not by ]"),
-    }
-}
-
-// `CS[ at 24 is inside ID[ at 20`
-fn append_inside(text: &[u8], node: Open, outer: Open, out: &mut Vec<u8>) -> Appended {
-    append_node(text, node, out)?;
-    out.extend_from_slice(b" is inside ")?;
-    append_node(text, outer, out)
-}
-
-// Each after a comma, but for the first where the list begins with it.
-fn append_open(text: &[u8], all: &[Open], is_begin: bool, out: &mut Vec<u8>) -> Appended {
-    let mut is_first = is_begin;
-    for open in all {
-        if !is_first {
-            out.extend_from_slice(b", ")?;
-        }
-        append_node(text, *open, out)?;
-        is_first = false;
-    }
-    Ok(())
 }
