@@ -5,3 +5,4 @@ mod LineOutputLemmas
 mod LinesRunLemmas
 mod MarkLemmas
 mod PrefixedLemmas
+mod PrefixedLines

@@ -192,7 +192,7 @@ fn answer_text<C: TextCommand, R: Read + Drop, W: Write>(
     let alloc = prefix.alloc();
     let text = read_text(alloc, &mut Source::new(Filling::new(reader)))?;
     let (plain, status) = command.output(alloc, &text).map_err(|_| RunFault::Memory)?;
-    send(prefix, &plain, sink)?;
+    send(prefix, plain, sink)?;
     Ok(status)
 }
 
@@ -211,7 +211,7 @@ fn answer_group<A: Adding + Drop, R: Read + Drop, W: Write>(
     ensures fault { IfErr result (IsFileFault NoFront prefix.now (R.remaining reader) sink.old sink.new) }
 {
     let (plain, status) = grouped(prefix.alloc(), level, adding, listing, reader)?;
-    send(prefix, &plain, sink)?;
+    send(prefix, plain, sink)?;
     Ok(status)
 }
 
@@ -268,9 +268,9 @@ fn answer_lines<C: TextCommand + Drop, R: Read + Drop, W: Write>(
 }
 
 // Writes these bytes, each line after a prefix.
-fn send<W: Write>(prefix: &Prefix, plain: &[u8], sink: &mut Sink<W>) -> Result<(), RunFault>
+fn send<W: Write>(prefix: &Prefix, plain: Vec<u8>, sink: &mut Sink<W>) -> Result<(), RunFault>
     requires { IsHealthy sink.old }
-    ensures sent { OnOk result (Appends sink.old.contents sink.new.contents (prefixed prefix.now plain.now)) }
+    ensures sent { OnOk result (Appends sink.old.contents sink.new.contents (prefixed prefix.now plain.items)) }
     ensures healthy { OnOk result (IsHealthy sink.new) }
     ensures fault { IfErr result (IsSendFault sink.new) }
 {

@@ -1,7 +1,8 @@
 //! What commands write for the text of a line, and lines after a prefix.
-ghost use Rattle.std.specs.Prelude.{◌≡◌, ◌++◌, ◌∷◌, [], IfOk, OnOk, if◌then◌else◌};
-ghost use Rattle.crs_desk.specs.Prefixed.{begun, prefixed};
+ghost use Rattle.std.specs.Prelude.{◌≡◌, ◌++◌, IfOk, OnOk, drop, if◌then◌else◌};
+ghost use Rattle.crs_desk.specs.Prefixed.{prefixed};
 
+use bstr::ByteSlice;
 use crs_group::is_blank;
 use crs_runs::TextCommand;
 use std::alloc::{AllocError, Global};
@@ -40,7 +41,7 @@ impl<C: TextCommand> TextCommand for Prefixed<'_, C> {
 
     fn output(&self, alloc: Global, text: &[u8]) -> Result<(Vec<u8>, u8), AllocError> {
         let (plain, status) = self.command.output(alloc, text)?;
-        Ok((prefix_lines(self.prefix, &plain)?, status))
+        Ok((prefix_lines(self.prefix, plain)?, status))
     }
 }
 
@@ -66,28 +67,29 @@ impl Prefix {
     }
 }
 
-// These bytes, each of their lines after a prefix.
-pub(crate) fn prefix_lines(prefix: &Prefix, bytes: &[u8]) -> Result<Vec<u8>, AllocError>
-    ensures { IfOk result (λ lines. lines.items ≡ prefixed prefix.now bytes.now) }
+// These bytes, each of their lines after a prefix; where that is nothing, the bytes as they are.
+pub(crate) fn prefix_lines(prefix: &Prefix, bytes: Vec<u8>) -> Result<Vec<u8>, AllocError>
+    ensures { IfOk result (λ lines. lines.items ≡ prefixed prefix.now bytes.items) }
 {
+    if prefix.bytes.is_empty() && !prefix.in_object {
+        return Ok(bytes);
+    }
     let mut lines = Vec::new(prefix.alloc());
-    let mut begins = true;
-    for byte in bytes {
-        append_byte(&mut lines, begins, prefix, *byte)?;
-        begins = *byte == b'\n';
+    for line in bytes.as_slice().lines_with_terminator() {
+        append_line(&mut lines, prefix, line)?;
     }
     Ok(lines)
 }
 
-// Appends a byte of a line, after the prefix where it is the first.
-fn append_byte(out: &mut Vec<u8>, begins: bool, prefix: &Prefix, byte: u8) -> Result<(), AllocError>
-    ensures { OnOk result (out.new.items ≡ out.old.items ++ (if begins then begun prefix.now byte else byte ∷ [])) }
+// Appends a line after the prefix, which takes the place of its first byte where lines are objects.
+fn append_line(out: &mut Vec<u8>, prefix: &Prefix, line: &[u8]) -> Result<(), AllocError>
+    ensures { OnOk result (out.new.items ≡ out.old.items ++ (prefix.now.bytes
+        ++ (if prefix.now.in_object then drop 1 line.now else line.now))) }
 {
-    if begins {
-        out.extend_from_slice(&prefix.bytes)?;
-        if prefix.in_object {
-            return Ok(());
-        }
-    }
-    out.extend_from_slice(&[byte])
+    out.extend_from_slice(&prefix.bytes)?;
+    out.extend_from_slice(if prefix.in_object {
+        line.get(1..).unwrap_or(b"")
+    } else {
+        line
+    })
 }

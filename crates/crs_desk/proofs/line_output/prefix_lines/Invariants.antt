@@ -1,6 +1,9 @@
-use Rattle.std.proofs.Common.{◌≡◌, ◌++◌, drop}
-use Rattle.crs_desk.specs.Prefixed.{prefixed, prefixed_from}
+use Rattle.std.proofs.Common.{◌≡◌, ◌++◌}
+use Rattle.std.specs.List.{flat_map}
+use Rattle.bstr.specs.Text.{lines_of}
+use Rattle.crs_desk.proofs.PrefixedLines.{behind_prefix}
 use Rattle.crs_desk.proofs.line_output.prefix_lines.Given as goal
 
-abbrev pub invariant-loop-byte : goal.invariant-loop-byte
-invariant-loop-byte l = l.lines.items ++ prefixed_from l.begins l.prefix (drop l.byte-index l.bytes) ≡ prefixed l.prefix l.bytes
+abbrev pub invariant-loop-line : goal.invariant-loop-line
+invariant-loop-line l =
+    l.lines.items ++ flat_map (behind_prefix l.prefix) l.line-iterator ≡ flat_map (behind_prefix l.prefix) (lines_of l.fn.bytes.items)
