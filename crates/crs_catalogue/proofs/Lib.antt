@@ -8,5 +8,6 @@ pub mod ListLemmas
 pub mod OneCatalogueLemmas
 pub mod PartitionLemmas
 pub mod PlaceLemmas
+pub mod TabLemmas
 pub mod UnitedLemmas
 pub mod FaultLemmas

@@ -1,8 +1,9 @@
 //! Lines that begin with a name and a tab, and the names of lines.
-ghost use Rattle.std.specs.Prelude.{◌≡◌, ◌+◌, ◌++◌, ◌<◌, ◌≤◌, ◌∷◌, [], OnOk, drop, length, slice_get, unwrap_or};
+ghost use Rattle.std.specs.Prelude.{◌≡◌, ◌++◌, ◌<◌, ◌∷◌, [], MatchOption, OnOk, length, slice_get, unwrap_or};
 ghost use Rattle.crs_catalogue.specs.GroupCutting.{IsNamed, text_in};
-ghost use Rattle.crs_catalogue.specs.Names.{is_of_name, name_at, name_of, tab_at, text_behind};
+ghost use Rattle.crs_catalogue.specs.Names.{name_at, name_of, tab_at};
 
+use bstr::ByteSlice;
 use itoa::Buffer;
 use std::alloc::{AllocError, Global};
 use std::marker::Model;
@@ -68,12 +69,10 @@ impl Names {
     fn add(&mut self, number: u64, line: &[u8]) -> Result<(), AllocError>
         ensures { OnOk result (self.new ≡ self.old ++ name_of number line.now ∷ []) }
     {
-        let at = tab_at(line);
-        if at < line.len() {
-            return self.push(&line[..at]);
+        match first_tab(line) {
+            Some(at) => self.push(&line[..at]),
+            None => self.push(Buffer::new().format(number).as_bytes()),
         }
-        let mut digits = Buffer::new();
-        self.push(digits.format(number).as_bytes())
     }
 
     fn push(&mut self, name: &[u8]) -> Result<(), AllocError>
@@ -105,43 +104,24 @@ impl Names {
     }
 }
 
-// The text of a line, where lines have names or not.
+// The text of a line: what is behind its first tab where lines have names and it has a tab, else the whole line.
 pub(crate) fn text_in(named: bool, line: &[u8]) -> &[u8]
     ensures { result.now ≡ text_in named line.now }
 {
-    if named { text_behind(line) } else { line }
-}
-
-// What is behind the first tab; the whole line where it has none.
-fn text_behind(line: &[u8]) -> &[u8]
-    ensures { result.now ≡ text_behind line.now }
-{
-    let at = tab_at(line);
-    if at < line.len() {
-        behind(line, at)
-    } else {
-        line
+    if !named {
+        return line;
+    }
+    match first_tab(line) {
+        Some(at) => &line[at + 1..],
+        None => line,
     }
 }
 
-// What is behind the byte at this place.
-fn behind(line: &[u8], at: usize) -> &[u8]
-    requires { at < length line.now }
-    ensures { result.now ≡ drop (at + 1) line.now }
+// The place of the first tab of a line.
+#[tactic(auto, using(crate::proofs::TabLemmas::tab_found))]
+fn first_tab(line: &[u8]) -> Option<usize>
+    ensures { MatchOption result (tab_at line.now ≡ length line.now)
+        (λ at. (tab_at line.now ≡ at) × (at < length line.now)) }
 {
-    &line[at + 1..]
-}
-
-// How many bytes are before the first tab.
-fn tab_at(line: &[u8]) -> usize
-    ensures value { result ≡ tab_at line.now }
-    ensures within { result ≤ length line.now }
-{
-    line.iter().take_while(|byte| is_of_name(**byte)).count()
-}
-
-fn is_of_name(byte: u8) -> bool
-    ensures { result ≡ is_of_name byte }
-{
-    byte != b'\t'
+    line.find_byte(b'\t')
 }
