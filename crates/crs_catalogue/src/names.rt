@@ -8,41 +8,19 @@ use itoa::Buffer;
 use std::alloc::{AllocError, Global};
 use std::marker::Model;
 
-// The name of a line.
-#[derive(Drop)]
-struct Name {
-    bytes: Vec<u8>,
-}
-
-impl Model for Name {
-    ghost use Rattle.std.specs.Prelude.{ℕ, List};
-
-    ghost Value = { List ℕ };
-
-    ghost view = { λ name. name.bytes.items };
-}
-
-impl Name {
-    fn as_bytes(&self) -> &[u8]
-        ensures { result.now ≡ self.now }
-    {
-        &self.bytes
-    }
-}
-
 // The names of lines, in the order of their numbers.
 #[derive(Drop)]
 pub(crate) struct Names {
     alloc: Global,
-    names: Vec<Name>,
+    names: Vec<Vec<u8>>,
 }
 
 impl Model for Names {
-    ghost use Rattle.std.specs.Prelude.{ℕ, List};
+    ghost use Rattle.std.specs.Prelude.{ℕ, List, map};
 
     ghost Value = { List (List ℕ) };
 
-    ghost view = { λ names. names.names.items };
+    ghost view = { λ names. map (λ name. name.items) names.names.items };
 }
 
 impl Names {
@@ -79,7 +57,7 @@ impl Names {
         ensures { OnOk result (self.new ≡ self.old ++ name.now ∷ []) }
     {
         let bytes = Vec::from_slice(self.alloc, name)?;
-        self.names.push(Name { bytes })?;
+        self.names.push(bytes)?;
         Ok(())
     }
 
@@ -98,7 +76,7 @@ impl Names {
         ensures { result.now ≡ unwrap_or (slice_get self.now at) [] }
     {
         match self.names.get(at) {
-            Some(name) => name.as_bytes(),
+            Some(name) => name.as_slice(),
             None => b"",
         }
     }
