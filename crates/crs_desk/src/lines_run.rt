@@ -83,13 +83,12 @@ pub(crate) fn run_lines<C: TextCommand, R: Read, W: Write>(
     let mut room = make_room(alloc).map_err(|_| RunFault::Memory)?;
     let mut cutter = LineCutter::new(alloc);
     let room = room.as_mut_slice();
-    read_through(alloc, command, &mut cutter, source, room, sink)?;
-    cutter.finish(alloc, command, sink)
+    read_through(command, &mut cutter, source, room, sink)?;
+    cutter.finish(command, sink)
 }
 
 // Cuts all bytes of the source.
 fn read_through<C: TextCommand, R: Read, W: Write>(
-    alloc: Global,
     command: &C,
     cutter: &mut LineCutter,
     source: &mut Stream<R>,
@@ -111,7 +110,7 @@ fn read_through<C: TextCommand, R: Read, W: Write>(
         if count == 0 {
             return Ok(());
         }
-        cutter.take(alloc, command, &room[..count], sink)?;
+        cutter.take(command, &room[..count], sink)?;
     }
     Err(RunFault::TooManyReads)
 }
@@ -135,15 +134,6 @@ impl Model for LineWriter {
 }
 
 impl LineWriter {
-    fn new(alloc: Global) -> LineWriter
-        ensures { result ≡ record { out = []; status = 0 } }
-    {
-        LineWriter {
-            out: Vec::new(alloc),
-            status: 0,
-        }
-    }
-
     // The greatest status so far.
     fn status(&self) -> u8
         ensures { result ≡ self.now.status }
@@ -152,15 +142,11 @@ impl LineWriter {
     }
 
     // One more line.
-    fn put<C: TextCommand>(
-        &mut self,
-        alloc: Global,
-        command: &C,
-        text: &[u8],
-    ) -> Result<(), RunFault>
+    fn put<C: TextCommand>(&mut self, command: &C, text: &[u8]) -> Result<(), RunFault>
         ensures put { OnOk result (IsPut (C.Output command.now) text.now self.old self.new) }
         ensures fault { IfErr result (λ fault. fault ≡ RunFault.Memory) }
     {
+        let alloc = *self.out.allocator();
         let (line, status) = command.output(alloc, text).map_err(|_| RunFault::Memory)?;
         append_bytes(&mut self.out, &line)?;
         self.status = self.status.max(status);
@@ -213,8 +199,12 @@ impl LineCutter {
     fn new(alloc: Global) -> LineCutter
         ensures { result ≡ record { writer = record { out = []; status = 0 }; partial = []; lines = 0 } }
     {
+        let writer = LineWriter {
+            out: Vec::new(alloc),
+            status: 0,
+        };
         LineCutter {
-            writer: LineWriter::new(alloc),
+            writer,
             partial: Vec::new(alloc),
             lines: 0,
         }
@@ -223,7 +213,6 @@ impl LineCutter {
     // The next piece of the bytes. What is written for the lines that it ends is sent.
     fn take<C: TextCommand, W: Write>(
         &mut self,
-        alloc: Global,
         command: &C,
         piece: &[u8],
         sink: &mut Sink<W>,
@@ -241,7 +230,7 @@ impl LineCutter {
         lines_are_cut();
         let mut rest = piece;
         while let Some((line, left)) = split_line(rest) {
-            self.end_line(alloc, command, line, sink)?;
+            self.end_line(command, line, sink)?;
             rest = left;
         }
         self.writer.send(sink)?;
@@ -251,7 +240,6 @@ impl LineCutter {
     // The status of all lines: what follows the last line feed is one, if it has a byte.
     fn finish<C: TextCommand, W: Write>(
         &mut self,
-        alloc: Global,
         command: &C,
         sink: &mut Sink<W>,
     ) -> Result<u8, RunFault>
@@ -262,7 +250,7 @@ impl LineCutter {
             IsLinesCut (C.Output command.now) before bytes self.old sink.old →
             IsStopped (C.Output command.now) true before bytes sink.new fault) }
     {
-        self.end_last(alloc, command)?;
+        self.end_last(command)?;
         self.writer.send(sink)?;
         Ok(self.writer.status())
     }
@@ -270,7 +258,6 @@ impl LineCutter {
     // The bytes before a line feed: after what was kept they complete a line.
     fn end_line<C: TextCommand, W: Write>(
         &mut self,
-        alloc: Global,
         command: &C,
         line: &[u8],
         sink: &mut Sink<W>,
@@ -290,7 +277,7 @@ impl LineCutter {
         if self.is_over(line) {
             return Err(self.over(sink));
         }
-        self.put_line(alloc, command, line)?;
+        self.put_line(command, line)?;
         self.lines += 1;
         self.writer.send_block(sink)
     }
@@ -307,20 +294,15 @@ impl LineCutter {
     }
 
     // What is written for the line that ends with these bytes.
-    fn put_line<C: TextCommand>(
-        &mut self,
-        alloc: Global,
-        command: &C,
-        line: &[u8],
-    ) -> Result<(), RunFault>
+    fn put_line<C: TextCommand>(&mut self, command: &C, line: &[u8]) -> Result<(), RunFault>
         ensures put { OnOk result (PutsLine (C.Output command.now) line.now self.old self.new) }
         ensures fault { IfErr result (λ fault. fault ≡ RunFault.Memory) }
     {
         if self.partial.is_empty() {
-            return self.writer.put(alloc, command, text_of(line));
+            return self.writer.put(command, text_of(line));
         }
         append_bytes(&mut self.partial, line)?;
-        self.writer.put(alloc, command, text_of(&self.partial))?;
+        self.writer.put(command, text_of(&self.partial))?;
         self.partial.clear();
         Ok(())
     }
@@ -338,7 +320,7 @@ impl LineCutter {
     }
 
     // What is written for the line that has no line feed, if it has a byte.
-    fn end_last<C: TextCommand>(&mut self, alloc: Global, command: &C) -> Result<(), RunFault>
+    fn end_last<C: TextCommand>(&mut self, command: &C) -> Result<(), RunFault>
         ensures put { OnOk result ((before after : SinkState) (bytes : List ℕ) →
             IsLinesCut (C.Output command.now) before bytes self.old after →
             IsPutOut (C.Output command.now) true before bytes self.new.writer after) }
@@ -348,7 +330,7 @@ impl LineCutter {
         if self.partial.is_empty() {
             return Ok(());
         }
-        self.writer.put(alloc, command, &self.partial)
+        self.writer.put(command, &self.partial)
     }
 
     // Whether the line is too long with these bytes.
