@@ -2,7 +2,7 @@
 ghost use Rattle.std.specs.Prelude.{◌≡◌, ◌<◌, ◌≤◌, ◌↔◌, IfOk, IfErr, IsErrOf, true, false, ◌++◌, ◌∷◌, [], codes, ℕ};
 ghost use Rattle.std.specs.Prelude.{List, MatchResult, Some};
 ghost use Rattle.crs_runs.specs.Ending.{IsAnswered, IsRunFault};
-ghost use Rattle.crs_runs.specs.Output.{IsCanonOutput, IsCheckOutput, WritesFound, kind_word};
+ghost use Rattle.crs_runs.specs.Output.{IsCanonOutput, IsCheckOutput, kind_word};
 ghost use Rattle.crs_streams.specs.Streams.{fresh_sink, fresh_source};
 ghost use Rattle.crs_text.specs.Refusal.{refused_text};
 ghost use Rattle.crs_text.specs.Fault.{refusal_of};
@@ -87,22 +87,20 @@ pub fn run_check<R: Read, W: Write>(
 {
     let feeder = read_pieces(alloc, r)?;
     let found = judged(&feeder).map_err(|_| RunFault::Memory)?;
-    write_answer(alloc, &CheckAnswer { found }, w)
+    write_answer(alloc, &found, w)
 }
 
-// The kind of the CRS that a text spells, or the refusal.
-#[derive(Drop)]
-struct CheckAnswer {
-    found: Result<Kind, Refusal>,
-}
-
-impl Answer for CheckAnswer {
+// The line of a kind or of a refusal, and the status.
+impl Answer for Result<Kind, Refusal> {
     ghost use Rattle.crs_runs.specs.Output.{WritesFound};
 
-    ghost Output = { λ s written status. WritesFound s.found written status };
+    ghost Output = { λ s written status. WritesFound s written status };
 
     fn output(&self, alloc: Global) -> Result<(Vec<u8>, u8), AllocError> {
-        found_output(alloc, &self.found)
+        match *self {
+            Ok(kind) => Ok((accepted_line(alloc, kind)?, 0)),
+            Err(refusal) => Ok((refused_line(alloc, b"", refusal)?, 1)),
+        }
     }
 }
 
@@ -117,17 +115,7 @@ impl TextCommand for CheckText {
 
     fn output(&self, alloc: Global, text: &[u8]) -> Result<(Vec<u8>, u8), AllocError> {
         let found = kind_of_text(alloc, text)?;
-        found_output(alloc, &found)
-    }
-}
-
-// The line of a kind or of a refusal, and the status.
-fn found_output(alloc: Global, found: &Result<Kind, Refusal>) -> Result<(Vec<u8>, u8), AllocError>
-    ensures { IfOk result (λ output. WritesFound found.now output.0.items output.1) }
-{
-    match *found {
-        Ok(kind) => Ok((accepted_line(alloc, kind)?, 0)),
-        Err(refusal) => Ok((refused_line(alloc, b"", refusal)?, 1)),
+        found.output(alloc)
     }
 }
 

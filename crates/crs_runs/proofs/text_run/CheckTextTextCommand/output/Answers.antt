@@ -4,6 +4,6 @@ use Rattle.crs_runs.proofs.text_run.CheckTextTextCommand.output.Goals as goal
 
 pub returns : goal.returns
 returns c =
-    IfOk-weaker c.found_output.result _ _
+    IfOk-weaker c.output.result _ _
     (λ output. found-written c.args.text.now c.in_ok-found.found output.0.items output.1 c.in_ok-found.ensures)
-    c.found_output.ensures
+    c.output.ensures
