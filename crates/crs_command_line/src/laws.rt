@@ -98,7 +98,7 @@ pub fn canon_and_check_have_lines()
 /// `--`. The level is `full` there. The word after `--level` is the level of `explain`, alone, before two texts and
 /// after them, where no word is a flag. With `--json` `explain` is asked for JSON. The words after each `--first=` say
 /// which parts `explain` is to tell first.
-pub fn explain_takes_two_texts_at_most()
+pub fn explain_takes_texts_and_options()
     ensures alone { (program : Text) →
         asked (program ∷ codes "explain" ∷ []) ≡ Some (Explain (plainly (codes "full"))) }
     ensures one { (program first : Text) → is_plain_word first ≡ true →

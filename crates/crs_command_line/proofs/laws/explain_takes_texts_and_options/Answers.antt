@@ -1,7 +1,7 @@
 use Rattle.std.proofs.Common.{[], codes, refl, ◌∷◌}
 use Rattle.clap.proofs.OnLiterals.{clap_on_literals}
 use Rattle.crs_command_line.proofs.LineLemmas.{explain, literal, plainly_given, words_asked}
-use Rattle.crs_command_line.proofs.laws.explain_takes_two_texts_at_most.Goals as goal
+use Rattle.crs_command_line.proofs.laws.explain_takes_texts_and_options.Goals as goal
 
 pub returns : goal.returns
 unfolding clap_on_literals
