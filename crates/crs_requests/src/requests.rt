@@ -77,19 +77,12 @@ pub enum Request {
 impl Drop for Request {
     fn drop(self) {
         match self {
-            Request::Canon(_) => {}
-            Request::Check => {}
-            Request::Same(_, _, _) => {}
-            Request::Group(_) => {}
-            Request::CanonLines(_) => {}
-            Request::CheckLines => {}
+            Request::Check | Request::CheckLines => {}
+            Request::Canon(_) | Request::CanonLines(_) | Request::Group(_) => {}
             Request::Explain(_) => {}
-            Request::ExplainText(_, _) => {}
-            Request::ExplainPair(_, _, _) => {}
-            Request::GroupListed(_, _) => {}
-            Request::Files(_, _) => {}
-            Request::FilesUnder(_, _, _) => {}
-            Request::TextsUnder(_, _, _) => {}
+            Request::GroupListed(_, _) | Request::ExplainText(_, _) | Request::Files(_, _) => {}
+            Request::Same(_, _, _) | Request::ExplainPair(_, _, _) => {}
+            Request::FilesUnder(_, _, _) | Request::TextsUnder(_, _, _) => {}
         }
     }
 }
@@ -119,14 +112,8 @@ impl Request {
                 over_two(alloc, Task::ExplainPair(options), first, second, rules)
             }
             Request::Files(task, names) => Ok(Request::FilesUnder(task, names, rules)),
-            Request::Check => Ok(Request::Check),
-            Request::CheckLines => Ok(Request::CheckLines),
-            Request::FilesUnder(task, names, others) => Ok(Request::FilesUnder(
-                task, names, others,
-            )),
-            Request::TextsUnder(task, texts, others) => Ok(Request::TextsUnder(
-                task, texts, others,
-            )),
+            // A check has no rules, and what has some keeps them.
+            asked => Ok(asked),
         }
     }
 }
@@ -157,15 +144,10 @@ pub enum Task {
 impl Drop for Task {
     fn drop(self) {
         match self {
-            Task::Canon(_) => {}
-            Task::Check => {}
-            Task::Group(_) => {}
+            Task::Check | Task::CheckLines => {}
+            Task::Canon(_) | Task::CanonLines(_) | Task::Group(_) | Task::Same(_) => {}
             Task::GroupListed(_, _) => {}
-            Task::CanonLines(_) => {}
-            Task::CheckLines => {}
-            Task::Explain(_) => {}
-            Task::Same(_) => {}
-            Task::ExplainPair(_) => {}
+            Task::Explain(_) | Task::ExplainPair(_) => {}
         }
     }
 }
