@@ -24,9 +24,7 @@ const LINES: [(&str, &[&str], &[&str]); 4] = [
 ];
 
 pub fn check(alloc: Global, tally: &mut Tally, texts: Texts<'_>) {
-    tally.count("crs_desk::run_canon", writes_canon(alloc, texts));
-    tally.count("crs_desk::run_check", writes_kind(alloc, texts));
-    tally.count("crs_desk::run_same", writes_part(alloc, texts));
+    check_runs(alloc, tally, texts);
     tally.count("crs_desk::request", is_refused(alloc));
     for (command, line, words) in LINES {
         let agrees = asks(alloc, line, command, words);
@@ -34,35 +32,28 @@ pub fn check(alloc: Global, tally: &mut Tally, texts: Texts<'_>) {
     }
 }
 
-// With a line feed after the text.
-fn writes_canon(alloc: Global, texts: Texts<'_>) -> bool {
-    let mut written = Vec::new(alloc);
-    let mut sink = Sink::new(&mut written);
-    let mut source = Source::new(texts.named("height"));
-    let run: Result<u8, RunFault> = run_canon(alloc, Level::Full, &mut source, &mut sink);
-    let expected = texts.named("height_canonical");
-    is_status(&run, 0) && written.as_slice().strip_suffix(b"\n".as_slice()) == Some(expected)
-}
-
-fn writes_kind(alloc: Global, texts: Texts<'_>) -> bool {
-    let mut written = Vec::new(alloc);
-    let mut sink = Sink::new(&mut written);
-    let mut source = Source::new(texts.named("height"));
-    let run: Result<u8, RunFault> = run_check(alloc, &mut source, &mut sink);
-    is_status(&run, 0) && written.as_slice() == b"accepted vertical\n".as_slice()
-}
-
-fn writes_part(alloc: Global, texts: Texts<'_>) -> bool {
-    let mut written = Vec::new(alloc);
-    let mut sink = Sink::new(&mut written);
-    let first = texts.named("paris");
-    let second = texts.named("paris_in_grads");
-    let run: Result<u8, RunFault> = run_same(alloc, Level::Full, first, second, &mut sink);
-    is_status(&run, 1) && written.as_slice() == b"different meridian/unit\n".as_slice()
-}
-
-fn is_status(run: &Result<u8, RunFault>, status: u8) -> bool {
-    matches!(run, Ok(own) if *own == status)
+// Of each command the first text that it is run over, its status, and what it writes before a line feed.
+fn check_runs(alloc: Global, tally: &mut Tally, texts: Texts<'_>) {
+    let canonical = texts.named("height_canonical");
+    let runs: [(&str, &str, u8, &[u8]); 3] = [
+        ("run_canon", "height", 0, canonical),
+        ("run_check", "height", 0, b"accepted vertical"),
+        ("run_same", "paris", 1, b"different meridian/unit"),
+    ];
+    for (command, text, status, answer) in runs {
+        let (text, second) = (texts.named(text), texts.named("paris_in_grads"));
+        let mut written = Vec::new(alloc);
+        let mut sink = Sink::new(&mut written);
+        let mut source = Source::new(text);
+        let run: Result<u8, RunFault> = match command {
+            "run_canon" => run_canon(alloc, Level::Full, &mut source, &mut sink),
+            "run_check" => run_check(alloc, &mut source, &mut sink),
+            _ => run_same(alloc, Level::Full, text, second, &mut sink),
+        };
+        let agrees = matches!(run, Ok(own) if own == status)
+            && written.as_slice().strip_suffix(b"\n".as_slice()) == Some(answer);
+        tally.count_in("crs_desk::", command, agrees);
+    }
 }
 
 // No command has this name.

@@ -11,26 +11,22 @@ use crs_same::parts::{
     same_method, same_parameter, same_projected, same_unit, same_usage, same_vertical,
 };
 use crs_value::{
-    Axis, Base, Compound, Conversion, Crs, Dynamic, Frame, Geodetic, Level, Method, Parameter,
-    Projected, Tail, Usage, Vertical,
+    Base, Compound, Conversion, Crs, Frame, Geodetic, Level, Method, Projected, Tail, Vertical,
 };
 use std::alloc::{AllocError, Global};
 
-// Counts the two items of a node: the call that compares nodes of its kind, and what its type implements.
+// Counts the two items of a node: the call that compares nodes of its kind, and what its type implements. A node that may
+// be missing is `in` something.
 macro_rules! count_node {
-    ($tally:ident, $alloc:ident, $same:ident, $kind:ident, $node:expr) => {
+    ($tally:ident, $alloc:ident; $same:ident of $kind:ident is $node:expr) => {
         let is_same = $same($node, $node, Level::Full);
         $tally.count_in("crs_same::parts::", stringify!($same), is_same);
         let is_own = is_own($node, $alloc);
         $tally.count_in("crs_canon::Canonical for ", stringify!($kind), is_own);
     };
-}
-
-// The same of a node that may be missing.
-macro_rules! count_optional {
-    ($tally:ident, $alloc:ident, $same:ident, $kind:ident, $node:expr) => {
+    ($tally:ident, $alloc:ident; $same:ident of $kind:ident in $node:expr) => {
         if let Some(node) = $node {
-            count_node!($tally, $alloc, $same, $kind, node);
+            count_node!($tally, $alloc; $same of $kind is node);
         }
     };
 }
@@ -70,106 +66,78 @@ fn is_own<T: Canonical + Written>(node: &T, alloc: Global) -> bool {
 }
 
 fn walk_projected(crs: &Projected<'_>, tally: &mut Tally, alloc: Global) {
-    count_node!(tally, alloc, same_projected, Projected, crs);
+    count_node!(tally, alloc; same_projected of Projected is crs);
     walk_base(&crs.base, tally, alloc);
     walk_conversion(&crs.conversion, tally, alloc);
     if let [axis, ..] = crs.system.axes.as_slice() {
-        walk_axis(axis, tally, alloc);
+        count_node!(tally, alloc; same_axis of Axis is axis);
+        count_node!(tally, alloc; same_axis_meridian of AxisMeridian in &axis.meridian);
     }
 }
 
 fn walk_base(base: &Base<'_>, tally: &mut Tally, alloc: Global) {
-    count_node!(tally, alloc, same_base, Base, base);
-    count_optional!(tally, alloc, same_meridian, Meridian, &base.meridian);
+    count_node!(tally, alloc; same_base of Base is base);
+    count_node!(tally, alloc; same_meridian of Meridian in &base.meridian);
     walk_frame(&base.frame, tally, alloc);
 }
 
 fn walk_frame(frame: &Frame<'_>, tally: &mut Tally, alloc: Global) {
-    count_node!(tally, alloc, same_frame, Frame, frame);
+    count_node!(tally, alloc; same_frame of Frame is frame);
     match frame {
         Frame::Datum(datum) => {
-            count_node!(tally, alloc, same_datum, Datum, datum);
-            count_optional!(tally, alloc, same_ellipsoid, Ellipsoid, &datum.ellipsoid);
+            count_node!(tally, alloc; same_datum of Datum is datum);
+            count_node!(tally, alloc; same_ellipsoid of Ellipsoid in &datum.ellipsoid);
         }
         Frame::Ensemble(ensemble) => {
-            count_node!(tally, alloc, same_ensemble, Ensemble, ensemble);
+            count_node!(tally, alloc; same_ensemble of Ensemble is ensemble);
             let first = ensemble.members.as_slice().first();
-            count_optional!(tally, alloc, same_member, Member, first);
+            count_node!(tally, alloc; same_member of Member in first);
         }
     }
 }
 
 fn walk_conversion(conversion: &Conversion<'_>, tally: &mut Tally, alloc: Global) {
-    count_node!(tally, alloc, same_conversion, Conversion, conversion);
+    count_node!(tally, alloc; same_conversion of Conversion is conversion);
     walk_method(&conversion.method, tally, alloc);
     if let [parameter, ..] = conversion.parameters.as_slice() {
-        walk_parameter(parameter, tally, alloc);
+        count_node!(tally, alloc; same_parameter of Parameter is parameter);
+        count_node!(tally, alloc; same_unit of Unit in &parameter.unit);
     }
 }
 
 fn walk_method(method: &Method<'_>, tally: &mut Tally, alloc: Global) {
-    count_node!(tally, alloc, same_method, Method, method);
+    count_node!(tally, alloc; same_method of Method is method);
     let first = method.identifiers.as_slice().first();
-    count_optional!(tally, alloc, same_ident, Ident, first);
-}
-
-fn walk_parameter(parameter: &Parameter<'_>, tally: &mut Tally, alloc: Global) {
-    count_node!(tally, alloc, same_parameter, Parameter, parameter);
-    count_optional!(tally, alloc, same_unit, Unit, &parameter.unit);
-}
-
-fn walk_axis(axis: &Axis<'_>, tally: &mut Tally, alloc: Global) {
-    count_node!(tally, alloc, same_axis, Axis, axis);
-    count_optional!(
-        tally,
-        alloc,
-        same_axis_meridian,
-        AxisMeridian,
-        &axis.meridian
-    );
+    count_node!(tally, alloc; same_ident of Ident in first);
 }
 
 fn walk_geodetic(crs: &Geodetic<'_>, tally: &mut Tally, alloc: Global) {
-    count_node!(tally, alloc, same_geodetic, Geodetic, crs);
+    count_node!(tally, alloc; same_geodetic of Geodetic is crs);
     walk_frame(&crs.frame, tally, alloc);
     walk_tail(&crs.tail, tally, alloc);
 }
 
 fn walk_compound(crs: &Compound<'_>, tally: &mut Tally, alloc: Global) {
-    count_node!(tally, alloc, same_compound, Compound, crs);
-    count_node!(tally, alloc, same_horizontal, Horizontal, &crs.horizontal);
+    count_node!(tally, alloc; same_compound of Compound is crs);
+    count_node!(tally, alloc; same_horizontal of Horizontal is &crs.horizontal);
     walk_vertical(&crs.vertical, tally, alloc);
 }
 
 fn walk_vertical(crs: &Vertical<'_>, tally: &mut Tally, alloc: Global) {
-    count_node!(tally, alloc, same_vertical, Vertical, crs);
+    count_node!(tally, alloc; same_vertical of Vertical is crs);
     if let Some(dynamic) = &crs.dynamic {
-        walk_dynamic(dynamic, tally, alloc);
+        count_node!(tally, alloc; same_dynamic of Dynamic is dynamic);
+        count_node!(tally, alloc; same_deformation_model of DeformationModel in &dynamic.model);
     }
     let first = crs.geoid_models.as_slice().first();
-    count_optional!(tally, alloc, same_geoid_model, GeoidModel, first);
+    count_node!(tally, alloc; same_geoid_model of GeoidModel in first);
     walk_tail(&crs.tail, tally, alloc);
-}
-
-fn walk_dynamic(dynamic: &Dynamic<'_>, tally: &mut Tally, alloc: Global) {
-    count_node!(tally, alloc, same_dynamic, Dynamic, dynamic);
-    count_optional!(
-        tally,
-        alloc,
-        same_deformation_model,
-        DeformationModel,
-        &dynamic.model
-    );
 }
 
 fn walk_tail(tail: &Tail<'_>, tally: &mut Tally, alloc: Global) {
     if let [usage, ..] = tail.usages.as_slice() {
-        walk_usage(usage, tally, alloc);
+        count_node!(tally, alloc; same_usage of Usage is usage);
+        count_node!(tally, alloc; same_box of BoundingBox in &usage.bbox);
+        count_node!(tally, alloc; same_extent of Extent in &usage.extent);
     }
-}
-
-fn walk_usage(usage: &Usage<'_>, tally: &mut Tally, alloc: Global) {
-    count_node!(tally, alloc, same_usage, Usage, usage);
-    count_optional!(tally, alloc, same_box, BoundingBox, &usage.bbox);
-    count_optional!(tally, alloc, same_extent, Extent, &usage.extent);
 }
