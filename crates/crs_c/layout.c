@@ -13,26 +13,29 @@ struct sizes {
     size_t explained, entry;
 };
 
+/* Each struct with a mark in each field. */
+struct marks {
+    struct crsdesk_refusal refusal;
+    struct crsdesk_standing standing;
+    struct crsdesk_line line;
+    struct crsdesk_piece piece;
+    struct crsdesk_rules_standing rules_standing;
+    struct crsdesk_form form;
+    struct crsdesk_explained explained;
+    struct crsdesk_entry entry;
+};
+
 struct sizes crsdesk_layout_sizes(void);
-struct crsdesk_refusal crsdesk_layout_refusal(void);
-struct crsdesk_standing crsdesk_layout_standing(void);
-struct crsdesk_line crsdesk_layout_line(void);
-struct crsdesk_piece crsdesk_layout_piece(void);
-struct crsdesk_rules_standing crsdesk_layout_rules_standing(void);
-struct crsdesk_form crsdesk_layout_form(void);
-struct crsdesk_explained crsdesk_layout_explained(void);
-struct crsdesk_entry crsdesk_layout_entry(void);
+struct marks crsdesk_layout_marks(void);
 
 static int differing;
 
-/* A struct that hasn't the library's size isn't asked for, since it is returned by value. */
-static int has_size(const char *name, size_t here, size_t there)
+static void has_size(const char *name, size_t here, size_t there)
 {
     if (here == there)
-        return 1;
+        return;
     printf("struct %s has %zu bytes in the header and %zu in the library\n", name, here, there);
     differing = 1;
-    return 0;
 }
 
 static void marks(const char *name, int are_there)
@@ -109,21 +112,25 @@ int main(void)
           sizes.alignment);
     holds("crsdesk_rules", sizeof(struct crsdesk_rules), _Alignof(struct crsdesk_rules), sizes.rules,
           sizes.rules_alignment);
-    if (has_size("crsdesk_refusal", sizeof(struct crsdesk_refusal), sizes.refusal))
-        marks("crsdesk_refusal", is_marked_refusal(crsdesk_layout_refusal()));
-    if (has_size("crsdesk_standing", sizeof(struct crsdesk_standing), sizes.standing))
-        marks("crsdesk_standing", is_marked_standing(crsdesk_layout_standing()));
-    if (has_size("crsdesk_line", sizeof(struct crsdesk_line), sizes.line))
-        marks("crsdesk_line", is_marked_line(crsdesk_layout_line()));
-    if (has_size("crsdesk_piece", sizeof(struct crsdesk_piece), sizes.piece))
-        marks("crsdesk_piece", is_marked_piece(crsdesk_layout_piece()));
-    if (has_size("crsdesk_rules_standing", sizeof(struct crsdesk_rules_standing), sizes.rules_standing))
-        marks("crsdesk_rules_standing", is_marked_rules_standing(crsdesk_layout_rules_standing()));
-    if (has_size("crsdesk_form", sizeof(struct crsdesk_form), sizes.form))
-        marks("crsdesk_form", is_marked_form(crsdesk_layout_form()));
-    if (has_size("crsdesk_explained", sizeof(struct crsdesk_explained), sizes.explained))
-        marks("crsdesk_explained", is_marked_explained(crsdesk_layout_explained()));
-    if (has_size("crsdesk_entry", sizeof(struct crsdesk_entry), sizes.entry))
-        marks("crsdesk_entry", is_marked_entry(crsdesk_layout_entry()));
+    has_size("crsdesk_refusal", sizeof(struct crsdesk_refusal), sizes.refusal);
+    has_size("crsdesk_standing", sizeof(struct crsdesk_standing), sizes.standing);
+    has_size("crsdesk_line", sizeof(struct crsdesk_line), sizes.line);
+    has_size("crsdesk_piece", sizeof(struct crsdesk_piece), sizes.piece);
+    has_size("crsdesk_rules_standing", sizeof(struct crsdesk_rules_standing), sizes.rules_standing);
+    has_size("crsdesk_form", sizeof(struct crsdesk_form), sizes.form);
+    has_size("crsdesk_explained", sizeof(struct crsdesk_explained), sizes.explained);
+    has_size("crsdesk_entry", sizeof(struct crsdesk_entry), sizes.entry);
+    /* The marks are returned by value, so that they aren't asked for where a struct hasn't the library's size. */
+    if (differing)
+        return differing;
+    struct marks it = crsdesk_layout_marks();
+    marks("crsdesk_refusal", is_marked_refusal(it.refusal));
+    marks("crsdesk_standing", is_marked_standing(it.standing));
+    marks("crsdesk_line", is_marked_line(it.line));
+    marks("crsdesk_piece", is_marked_piece(it.piece));
+    marks("crsdesk_rules_standing", is_marked_rules_standing(it.rules_standing));
+    marks("crsdesk_form", is_marked_form(it.form));
+    marks("crsdesk_explained", is_marked_explained(it.explained));
+    marks("crsdesk_entry", is_marked_entry(it.entry));
     return differing;
 }

@@ -2,15 +2,9 @@
 use prog.Memory.{size, align}
 use denote.Param.{layout}
 use Rattle.std.specs.Prelude.{replicate}
+use Rattle.crs_c.specs.declared.layout.Marks.{Marks}
 use Rattle.crs_c.specs.declared.layout.Sizes.{Sizes}
-use Rattle.crs_calls.specs.declared.canon.Entry.{Entry}
-use Rattle.crs_calls.specs.declared.explain.Explained.{Explained}
 use Rattle.crs_calls.specs.declared.refused.Refused.{Refused}
-use Rattle.crs_calls.specs.declared.catalogue.Numbered.{Numbered}
-use Rattle.crs_calls.specs.declared.piece.Piece.{Piece}
-use Rattle.crs_calls.specs.declared.catalogue.Standing.{Standing}
-use Rattle.crs_calls.specs.declared.rules.Form.{Form}
-use Rattle.crs_calls.specs.declared.rules.RulesStanding.{RulesStanding}
 use Rattle.crs_calls.specs.contracts.canon.Entry as entry
 use Rattle.crs_calls.specs.contracts.explain.Explained as explained
 use Rattle.crs_calls.specs.contracts.refused.Refused as refused
@@ -44,50 +38,37 @@ sizes =
 abbrev pub marked_refusal : Refused
 marked_refusal = record { place = 1111111111111111111; number = 2222222222 }
 
--- where a line was placed, with a mark in each field
-abbrev pub marked_standing : Standing
-marked_standing =
-    record { group = 3333333333333333333; refused = marked_refusal; code = 4000000004 }
-
--- a line with a mark in each field
-abbrev pub marked_line : Numbered
-marked_line = record { number = 5555555555555555555; code = 4000000006 }
-
--- a piece with a mark in each field
-abbrev pub marked_piece : Piece
-marked_piece =
-    record { bytes = replicate 240 7; length = 8888888888888888888; code = 4000000009 }
-
--- what is answered of a rules file, with a mark in each field
-abbrev pub marked_rules_standing : RulesStanding
-marked_rules_standing = record {
-  line = 1111111111111111112;
-  place = 2222222222222222223;
-  number = 3333333333333333334;
-  code = 4000000010;
-}
-
--- what is answered of a text under rules, with a mark in each field
-abbrev pub marked_form : Form
-marked_form =
-    record { length = 5555555555555555556; refused = marked_refusal; code = 4000000011 }
-
--- a refusal and its place as a person counts, with a mark in each field
-abbrev pub marked_explained : Explained
-marked_explained = record {
-  refused = marked_refusal;
-  line = 1111111111111111113;
-  column = 2222222222222222224;
-  node = 3333333333333333335;
-}
-
--- a text of many, with a mark in each field
-abbrev pub marked_entry : Entry
-marked_entry = record {
-  begin = 1111111111111111114;
-  end = 2222222222222222225;
-  written_end = 3333333333333333336;
-  place = 4444444444444444445;
-  number = 2222222226;
-  code = 4000000012;
-}
+-- each of the structs with a mark in each field
+abbrev pub marks : Marks
+marks =
+    record {
+      refusal = marked_refusal;
+      standing = record {
+        group = 3333333333333333333;
+        refused = marked_refusal;
+        code = 4000000004;
+      };
+      line = record { number = 5555555555555555555; code = 4000000006 };
+      piece = record { bytes = replicate 240 7; length = 8888888888888888888; code = 4000000009 };
+      rules_standing = record {
+        line = 1111111111111111112;
+        place = 2222222222222222223;
+        number = 3333333333333333334;
+        code = 4000000010;
+      };
+      form = record { length = 5555555555555555556; refused = marked_refusal; code = 4000000011 };
+      explained = record {
+        refused = marked_refusal;
+        line = 1111111111111111113;
+        column = 2222222222222222224;
+        node = 3333333333333333335;
+      };
+      entry = record {
+        begin = 1111111111111111114;
+        end = 2222222222222222225;
+        written_end = 3333333333333333336;
+        place = 4444444444444444445;
+        number = 2222222226;
+        code = 4000000012;
+      };
+    }

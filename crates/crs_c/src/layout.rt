@@ -1,9 +1,7 @@
 //! How the structs that C shares with the library are laid out in memory. `layout.c` compares it with the header when
 //! the library is built; the finished library doesn't export these calls.
 ghost use Rattle.std.specs.Prelude.{◌≡◌};
-ghost use Rattle.crs_c.specs.Layout.{marked_entry, marked_explained, marked_form, marked_line};
-ghost use Rattle.crs_c.specs.Layout.{marked_piece, marked_refusal};
-ghost use Rattle.crs_c.specs.Layout.{marked_rules_standing, marked_standing, sizes};
+ghost use Rattle.crs_c.specs.Layout.{marked_refusal, marks, sizes};
 
 use crs_calls::{
     Entry, Explained, Form, HeldRules, Numbered, Piece, Refused, RulesStanding, Standing,
@@ -62,101 +60,82 @@ pub extern "C" fn crsdesk_layout_sizes() -> Sizes
     }
 }
 
-/// A refusal with a mark in each field.
+/// The structs, with a mark in each field.
+#[repr(C)]
+#[derive(Drop)]
+pub struct Marks {
+    /// A refusal.
+    pub refusal: Refused,
+    /// Where a text was placed.
+    pub standing: Standing,
+    /// A line's number.
+    pub line: Numbered,
+    /// A piece of a text.
+    pub piece: Piece,
+    /// What is answered of a rules file.
+    pub rules_standing: RulesStanding,
+    /// What is answered of a text under rules.
+    pub form: Form,
+    /// A refusal and its place as a person counts.
+    pub explained: Explained,
+    /// A text of many.
+    pub entry: Entry,
+}
+
+/// The marks.
 #[unsafe(no_mangle)]
-pub extern "C" fn crsdesk_layout_refusal() -> Refused
+pub extern "C" fn crsdesk_layout_marks() -> Marks
+    ensures { result ≡ marks }
+{
+    Marks {
+        refusal: marked_refusal(),
+        standing: Standing {
+            group: 3_333_333_333_333_333_333,
+            refused: marked_refusal(),
+            code: 4_000_000_004,
+        },
+        line: Numbered {
+            number: 5_555_555_555_555_555_555,
+            code: 4_000_000_006,
+        },
+        piece: Piece {
+            bytes: [7; 240],
+            length: 8_888_888_888_888_888_888,
+            code: 4_000_000_009,
+        },
+        rules_standing: RulesStanding {
+            line: 1_111_111_111_111_111_112,
+            place: 2_222_222_222_222_222_223,
+            number: 3_333_333_333_333_333_334,
+            code: 4_000_000_010,
+        },
+        form: Form {
+            length: 5_555_555_555_555_555_556,
+            refused: marked_refusal(),
+            code: 4_000_000_011,
+        },
+        explained: Explained {
+            refused: marked_refusal(),
+            line: 1_111_111_111_111_111_113,
+            column: 2_222_222_222_222_222_224,
+            node: 3_333_333_333_333_333_335,
+        },
+        entry: Entry {
+            begin: 1_111_111_111_111_111_114,
+            end: 2_222_222_222_222_222_225,
+            written_end: 3_333_333_333_333_333_336,
+            place: 4_444_444_444_444_444_445,
+            number: 2_222_222_226,
+            code: 4_000_000_012,
+        },
+    }
+}
+
+fn marked_refusal() -> Refused
     ensures { result ≡ marked_refusal }
 {
     Refused {
         place: 1_111_111_111_111_111_111,
         number: 2_222_222_222,
-    }
-}
-
-/// Where a text was placed, with a mark in each field.
-#[unsafe(no_mangle)]
-pub extern "C" fn crsdesk_layout_standing() -> Standing
-    ensures { result ≡ marked_standing }
-{
-    Standing {
-        group: 3_333_333_333_333_333_333,
-        refused: crsdesk_layout_refusal(),
-        code: 4_000_000_004,
-    }
-}
-
-/// A line's number with a mark in each field.
-#[unsafe(no_mangle)]
-pub extern "C" fn crsdesk_layout_line() -> Numbered
-    ensures { result ≡ marked_line }
-{
-    Numbered {
-        number: 5_555_555_555_555_555_555,
-        code: 4_000_000_006,
-    }
-}
-
-/// A piece of a text with a mark in each field.
-#[unsafe(no_mangle)]
-pub extern "C" fn crsdesk_layout_piece() -> Piece
-    ensures { result ≡ marked_piece }
-{
-    Piece {
-        bytes: [7; 240],
-        length: 8_888_888_888_888_888_888,
-        code: 4_000_000_009,
-    }
-}
-
-/// What is answered of a rules file, with a mark in each field.
-#[unsafe(no_mangle)]
-pub extern "C" fn crsdesk_layout_rules_standing() -> RulesStanding
-    ensures { result ≡ marked_rules_standing }
-{
-    RulesStanding {
-        line: 1_111_111_111_111_111_112,
-        place: 2_222_222_222_222_222_223,
-        number: 3_333_333_333_333_333_334,
-        code: 4_000_000_010,
-    }
-}
-
-/// What is answered of a text under rules, with a mark in each field.
-#[unsafe(no_mangle)]
-pub extern "C" fn crsdesk_layout_form() -> Form
-    ensures { result ≡ marked_form }
-{
-    Form {
-        length: 5_555_555_555_555_555_556,
-        refused: crsdesk_layout_refusal(),
-        code: 4_000_000_011,
-    }
-}
-
-/// A refusal and its place as a person counts, with a mark in each field.
-#[unsafe(no_mangle)]
-pub extern "C" fn crsdesk_layout_explained() -> Explained
-    ensures { result ≡ marked_explained }
-{
-    Explained {
-        refused: crsdesk_layout_refusal(),
-        line: 1_111_111_111_111_111_113,
-        column: 2_222_222_222_222_222_224,
-        node: 3_333_333_333_333_333_335,
-    }
-}
-
-/// A text of many, with a mark in each field.
-#[unsafe(no_mangle)]
-pub extern "C" fn crsdesk_layout_entry() -> Entry
-    ensures { result ≡ marked_entry }
-{
-    Entry {
-        begin: 1_111_111_111_111_111_114,
-        end: 2_222_222_222_222_222_225,
-        written_end: 3_333_333_333_333_333_336,
-        place: 4_444_444_444_444_444_445,
-        number: 2_222_222_226,
-        code: 4_000_000_012,
     }
 }

@@ -17,11 +17,7 @@ pub use catalogue::{
 pub use crs_calls::{
     Entry, Explained, Form, HeldRules, Numbered, Piece, Refused, RulesStanding, Standing,
 };
-pub use layout::{
-    Sizes, crsdesk_layout_entry, crsdesk_layout_explained, crsdesk_layout_form,
-    crsdesk_layout_line, crsdesk_layout_piece, crsdesk_layout_refusal,
-    crsdesk_layout_rules_standing, crsdesk_layout_sizes, crsdesk_layout_standing,
-};
+pub use layout::{Marks, Sizes, crsdesk_layout_marks, crsdesk_layout_sizes};
 pub use names::{crsdesk_refusal_name, crsdesk_version};
 pub use pairs::{crsdesk_difference_pieces, crsdesk_differences, crsdesk_first_part, crsdesk_same};
 pub use rules::{
