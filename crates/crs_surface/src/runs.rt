@@ -35,17 +35,16 @@ fn is_grouped(alloc: Global, catalogue: &[u8], answer: &[u8]) -> bool {
     let mut sink = Sink::new(&mut written);
     let mut source = Source::new(catalogue);
     let grouped: Result<Summary, RunFault> = run_group(alloc, Level::Full, &mut source, &mut sink);
-    matches!(grouped, Ok(summary) if is_summary(&summary) && written.as_slice() == answer)
-}
-
-fn is_summary(summary: &Summary) -> bool {
-    let Summary {
-        lines,
-        blank,
-        refused,
-        groups,
-    } = summary;
-    *lines == 7 && *blank == 1 && *refused == 1 && *groups == 2
+    let is_summary = matches!(
+        grouped,
+        Ok(Summary {
+            lines: 7,
+            blank: 1,
+            refused: 1,
+            groups: 2
+        })
+    );
+    is_summary && written.as_slice() == answer
 }
 
 fn is_source() -> bool {
