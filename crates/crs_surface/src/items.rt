@@ -26,8 +26,8 @@ fn is_incomplete(alloc: Global) -> bool {
 }
 
 fn check_root(tally: &mut Tally, items: &Items<'_>, other: &Items<'_>) {
-    let root: ItemId = copied(&items.root());
-    let has_root = items.contains(root) && other.contains(other.root());
+    let root: ItemId = items.root();
+    let has_root = items.contains(copied(&root)) && other.contains(other.root());
     tally.count("crs_text::Items::root", has_root);
     tally.count("crs_text::Items::place", items.place(root) == 0);
     tally.count("crs_text::Items::size", items.size(root) == 13);
