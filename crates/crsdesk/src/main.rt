@@ -8,7 +8,6 @@ mod order;
 mod output;
 mod runs;
 mod telling;
-mod under;
 
 use crs_desk::{
     ExplainOptions, GroupFlags, Level, LineWord, Listing, Manner, PLAIN, Request, RequestFault,
@@ -17,14 +16,13 @@ use crs_desk::{
 use fault::Fault;
 use order::{WORDS, order_of};
 use runs::{
-    canon, canon_lines, check, check_lines, explain, explain_text, explain_texts, files, group,
-    same_texts, text_of,
+    canon, canon_lines, check, check_lines, explain, explain_text, explain_texts, group,
+    same_texts, text_of, under,
 };
 use std::alloc::{AllocError, Global};
 use std::process::ExitCode;
 use std::{env, io};
 use telling::tell_bad_words;
-use under::{files_under, texts_under};
 
 const FAULT: u8 = 2;
 
@@ -97,14 +95,12 @@ fn answer(rt: &HostRuntime, wanted: &Request) -> Result<u8, Fault> {
             let (first, second) = (text_of(rt, first), text_of(rt, second));
             explain_texts(rt, options, level, None, first, second)
         }
-        Request::Files(task, names) => {
-            files(rt, task, names.as_slice(), judged_level(rt, task)?, None)
-        }
+        Request::Files(task, names) => under(rt, task, true, names.as_slice(), &[]),
         Request::FilesUnder(task, names, rules) => {
-            files_under(rt, task, names.as_slice(), rules.as_slice())
+            under(rt, task, true, names.as_slice(), rules.as_slice())
         }
         Request::TextsUnder(task, texts, rules) => {
-            texts_under(rt, task, texts.as_slice(), rules.as_slice())
+            under(rt, task, false, texts.as_slice(), rules.as_slice())
         }
     }
 }

@@ -1,15 +1,17 @@
-//! The runs of the commands, over standard input and output, over texts, and over files.
+//! The runs of the commands, over standard input and output, over texts, and over files, also under rules, of which the
+//! files are read first.
 use crate::fault::Fault;
 use crate::input::{Input, Opener, tell_fault};
 use crate::order::order_of;
 use crate::output::Output;
-use crate::telling::tell_of;
-use crate::{listing_of, manner_of};
+use crate::telling::{tell_of, tell_refused};
+use crate::{judged_level, listing_of, manner_of};
 use crs_desk::{
-    ExplainOptions, FileTask, Filling, Level, LineWord, Listing, Manner, PLAIN, Rules, RunFault,
-    Sink, Source, Stream, Summary, Task, read_text, run_canon, run_canon_lines, run_check,
-    run_check_lines, run_explain, run_explain_pair, run_explain_pair_under, run_explain_text,
-    run_files, run_group_listing, run_same, run_same_under,
+    ExplainOptions, FileTask, Filling, Level, LineWord, Listing, Manner, PLAIN, Rules, RulesFault,
+    RulesReader, RunFault, Sink, Source, Stream, Summary, Task, read_text, run_canon,
+    run_canon_lines, run_check, run_check_lines, run_explain, run_explain_pair,
+    run_explain_pair_under, run_explain_text, run_files, run_group_listing, run_same,
+    run_same_under,
 };
 use std::path::Path;
 
@@ -76,65 +78,91 @@ pub fn explain(rt: &HostRuntime, how: Manner) -> Result<u8, Fault> {
     over_standard!(rt, text => run_explain(how))
 }
 
-/// What a task asks of files, at its level, under rules where there are some. They are lent: a function that owns rules is
-/// slow to prove.
-pub fn files(
-    rt: &HostRuntime,
-    task: &Task,
-    names: &[LineWord],
+// A task at its level, under rules where there are some. They are lent: a function that owns rules is slow to prove.
+#[derive(Clone, Copy)]
+struct TaskAt<'a> {
+    rt: &'a HostRuntime,
+    task: &'a Task,
     level: Level,
-    rules: Option<&Rules>,
-) -> Result<u8, Fault> {
-    let each = match (task, rules) {
-        (Task::Same(_), _) | (Task::ExplainPair(_), _) => {
-            return two_files(rt, task, names, level, rules);
-        }
-        (Task::Explain(options), _) => FileTask::Explain(manner_of(options)),
-        (Task::Check, _) => FileTask::Check,
-        (Task::CheckLines, _) => FileTask::CheckLines,
-        (Task::Canon(_), None) => FileTask::Canon(level),
-        (Task::Canon(_), Some(rules)) => FileTask::Form(level, rules),
-        (Task::CanonLines(_), None) => FileTask::CanonLines(level),
-        (Task::CanonLines(_), Some(rules)) => FileTask::FormLines(level, rules),
-        (Task::Group(_), None) => FileTask::Group(level, PLAIN),
-        (Task::Group(_), Some(rules)) => FileTask::FormGroup(level, PLAIN, rules),
-        (Task::GroupListed(_, flags), None) => FileTask::Group(level, listing_of(flags)),
-        (Task::GroupListed(_, flags), Some(rules)) => {
-            FileTask::FormGroup(level, listing_of(flags), rules)
-        }
-    };
-    to_standard!(rt, run_files(each, names, &Opener { rt: *rt }))
+    rules: Option<&'a Rules>,
 }
 
-// What a task asks of the texts of two files: a request for two names two. The faults of both are told.
-fn two_files(
-    rt: &HostRuntime,
-    task: &Task,
-    names: &[LineWord],
-    level: Level,
-    rules: Option<&Rules>,
-) -> Result<u8, Fault> {
-    let [first, second, ..] = names else {
-        return Err(Fault::Told);
-    };
-    let first = file_text(rt, first.as_str());
-    let second = file_text(rt, second.as_str());
-    two_texts(rt, task, level, rules, &first?, &second?)
-}
-
-/// What a task asks of two texts, under rules where there are some.
-pub fn two_texts(
-    rt: &HostRuntime,
-    task: &Task,
-    level: Level,
-    rules: Option<&Rules>,
-    a: &[u8],
-    b: &[u8],
-) -> Result<u8, Fault> {
-    match task {
-        Task::ExplainPair(options) => explain_texts(rt, options, level, rules, a, b),
-        _ => same_texts(rt, level, rules, a, b),
+impl TaskAt<'_> {
+    // What the task asks of files.
+    fn files(self, names: &[LineWord]) -> Result<u8, Fault> {
+        let (rt, level) = (self.rt, self.level);
+        let each = match (self.task, self.rules) {
+            (Task::Same(_), _) | (Task::ExplainPair(_), _) => return self.two_files(names),
+            (Task::Explain(options), _) => FileTask::Explain(manner_of(options)),
+            (Task::Check, _) => FileTask::Check,
+            (Task::CheckLines, _) => FileTask::CheckLines,
+            (Task::Canon(_), None) => FileTask::Canon(level),
+            (Task::Canon(_), Some(rules)) => FileTask::Form(level, rules),
+            (Task::CanonLines(_), None) => FileTask::CanonLines(level),
+            (Task::CanonLines(_), Some(rules)) => FileTask::FormLines(level, rules),
+            (Task::Group(_), None) => FileTask::Group(level, PLAIN),
+            (Task::Group(_), Some(rules)) => FileTask::FormGroup(level, PLAIN, rules),
+            (Task::GroupListed(_, flags), None) => FileTask::Group(level, listing_of(flags)),
+            (Task::GroupListed(_, flags), Some(rules)) => {
+                FileTask::FormGroup(level, listing_of(flags), rules)
+            }
+        };
+        to_standard!(rt, run_files(each, names, &Opener { rt: *rt }))
     }
+
+    // What the task asks of the texts of two files: a request for two names two. The faults of both are told.
+    fn two_files(self, names: &[LineWord]) -> Result<u8, Fault> {
+        let [first, second, ..] = names else {
+            return Err(Fault::Told);
+        };
+        let first = file_text(self.rt, first.as_str());
+        let second = file_text(self.rt, second.as_str());
+        self.two_texts(&first?, &second?)
+    }
+
+    // What the task asks of texts.
+    fn texts(self, texts: &[LineWord]) -> Result<u8, Fault> {
+        match (self.task, texts) {
+            (Task::Explain(options), [text]) => explain_text(self.rt, manner_of(options), text),
+            (_, [first, second, ..]) => {
+                let (first, second) = (text_of(self.rt, first), text_of(self.rt, second));
+                self.two_texts(first, second)
+            }
+            _ => Err(Fault::Told),
+        }
+    }
+
+    fn two_texts(self, a: &[u8], b: &[u8]) -> Result<u8, Fault> {
+        let (rt, level, rules) = (self.rt, self.level, self.rules);
+        match self.task {
+            Task::ExplainPair(options) => explain_texts(rt, options, level, rules, a, b),
+            _ => same_texts(rt, level, rules, a, b),
+        }
+    }
+}
+
+/// What is asked of files, or else of texts, under the rules of files where there are some. The level is judged before
+/// anything is read.
+pub fn under(
+    rt: &HostRuntime,
+    task: &Task,
+    are_files: bool,
+    words: &[LineWord],
+    names: &[LineWord],
+) -> Result<u8, Fault> {
+    let level = judged_level(rt, task)?;
+    let read = rules_of(rt, names)?;
+    let rules = if names.is_empty() { None } else { Some(&read) };
+    let asked = TaskAt {
+        rt,
+        task,
+        level,
+        rules,
+    };
+    if are_files {
+        return asked.files(words);
+    }
+    asked.texts(words)
 }
 
 /// Whether two texts spell the same CRS, or the same under rules.
@@ -174,8 +202,8 @@ pub fn explain_texts(
     }
 }
 
-/// The text of a file. Its fault is told.
-pub fn file_text(rt: &HostRuntime, name: &str) -> Result<Vec<u8>, Fault> {
+// The text of a file. Its fault is told.
+fn file_text(rt: &HostRuntime, name: &str) -> Result<Vec<u8>, Fault> {
     let mut input = match Input::open(rt, name) {
         Ok(input) => input,
         Err(error) => {
@@ -223,4 +251,30 @@ pub fn text_of<'w>(rt: &HostRuntime, word: &'w LineWord) -> &'w [u8] {
         tell_of(rt, name, "this is a file; with --files its text is read");
     }
     name.as_bytes()
+}
+
+// The rules of these files together. The fault of the first that has one is told.
+fn rules_of(rt: &HostRuntime, names: &[LineWord]) -> Result<Rules, Fault> {
+    let mut reader = RulesReader::new(rt.alloc());
+    read_all(rt, names, &mut reader)?;
+    Ok(reader.into_rules())
+}
+
+fn read_all(rt: &HostRuntime, names: &[LineWord], reader: &mut RulesReader) -> Result<(), Fault> {
+    for name in names {
+        read_rules(rt, name.as_str(), reader)?;
+    }
+    Ok(())
+}
+
+fn read_rules(rt: &HostRuntime, name: &str, reader: &mut RulesReader) -> Result<(), Fault> {
+    let text = file_text(rt, name)?;
+    match reader.read(rt.alloc(), &text) {
+        Ok(()) => Ok(()),
+        Err(RulesFault::Refused(refusal)) => {
+            tell_refused(rt, name, &refusal);
+            Err(Fault::Told)
+        }
+        Err(RulesFault::Memory(_)) => Err(Fault::Run(RunFault::Memory)),
+    }
 }
