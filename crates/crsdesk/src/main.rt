@@ -9,16 +9,10 @@ mod output;
 mod runs;
 mod telling;
 
-use crs_desk::{
-    ExplainOptions, GroupFlags, Level, LineWord, Listing, Manner, PLAIN, Request, RequestFault,
-    RunFault, Task, request,
-};
+use crs_desk::{Request, RequestFault, RunFault, request};
 use fault::Fault;
-use order::{WORDS, order_of};
-use runs::{
-    canon, canon_lines, check, check_lines, explain, explain_text, explain_texts, group,
-    same_texts, text_of, under,
-};
+use order::WORDS;
+use runs::answer;
 use std::alloc::{AllocError, Global};
 use std::process::ExitCode;
 use std::{env, io};
@@ -67,86 +61,6 @@ fn command_words(rt: &HostRuntime) -> io::Result<Vec<String>> {
 
 fn texts_of(alloc: Global, words: &[String]) -> Result<Vec<&str>, AllocError> {
     words.iter().map(|word| word.as_str()).collect(alloc)
-}
-
-// The level is judged before anything is read.
-fn answer(rt: &HostRuntime, wanted: &Request) -> Result<u8, Fault> {
-    match wanted {
-        Request::Canon(level) => canon(rt, level_of(level)?),
-        Request::Check => check(rt),
-        Request::Same(first, second, level) => {
-            let level = level_of(level)?;
-            same_texts(rt, level, None, text_of(rt, first), text_of(rt, second))
-        }
-        Request::Group(level) => group(rt, level_of(level)?, PLAIN),
-        Request::GroupListed(level, flags) => group(rt, level_of(level)?, listing_of(flags)),
-        Request::CanonLines(level) => canon_lines(rt, level_of(level)?),
-        Request::CheckLines => check_lines(rt),
-        Request::Explain(options) => {
-            judge(rt, options)?;
-            explain(rt, manner_of(options))
-        }
-        Request::ExplainText(text, options) => {
-            judge(rt, options)?;
-            explain_text(rt, manner_of(options), text)
-        }
-        Request::ExplainPair(first, second, options) => {
-            let level = judge(rt, options)?;
-            let (first, second) = (text_of(rt, first), text_of(rt, second));
-            explain_texts(rt, options, level, None, first, second)
-        }
-        Request::Files(task, names) => under(rt, task, true, names.as_slice(), &[]),
-        Request::FilesUnder(task, names, rules) => {
-            under(rt, task, true, names.as_slice(), rules.as_slice())
-        }
-        Request::TextsUnder(task, texts, rules) => {
-            under(rt, task, false, texts.as_slice(), rules.as_slice())
-        }
-    }
-}
-
-// The level of a task, of which the words are judged.
-pub(crate) fn judged_level(rt: &HostRuntime, task: &Task) -> Result<Level, Fault> {
-    match task {
-        Task::Canon(level)
-        | Task::CanonLines(level)
-        | Task::Group(level)
-        | Task::GroupListed(level, _)
-        | Task::Same(level) => level_of(level),
-        Task::Explain(options) | Task::ExplainPair(options) => judge(rt, options),
-        Task::Check | Task::CheckLines => Ok(Level::Full),
-    }
-}
-
-// Judges the words that have no bearing on one text, and answers the level among them.
-fn judge(rt: &HostRuntime, options: &ExplainOptions) -> Result<Level, Fault> {
-    let level = level_of(&options.level)?;
-    order_of(rt.alloc(), options)?;
-    Ok(level)
-}
-
-pub(crate) fn listing_of(flags: &GroupFlags) -> Listing {
-    Listing {
-        repeated: flags.repeated,
-        names: flags.names,
-        json: flags.json,
-    }
-}
-
-pub(crate) fn level_of(word: &LineWord) -> Result<Level, Fault> {
-    match word.as_str() {
-        "full" => Ok(Level::Full),
-        "definition" => Ok(Level::Definition),
-        _ => Err(Fault::Level),
-    }
-}
-
-pub(crate) fn manner_of(options: &ExplainOptions) -> Manner {
-    if options.json {
-        Manner::Objects
-    } else {
-        Manner::Lines
-    }
 }
 
 // Each fault is a line, and some have a second one that says more. A failure of standard error itself can't be told.

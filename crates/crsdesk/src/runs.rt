@@ -5,13 +5,12 @@ use crate::input::{Input, Opener, tell_fault};
 use crate::order::order_of;
 use crate::output::Output;
 use crate::telling::{tell_of, tell_refused};
-use crate::{judged_level, listing_of, manner_of};
 use crs_desk::{
-    ExplainOptions, FileTask, Filling, Level, LineWord, Listing, Manner, PLAIN, Rules, RulesFault,
-    RulesReader, RunFault, Sink, Source, Stream, Summary, Task, read_text, run_canon,
-    run_canon_lines, run_check, run_check_lines, run_explain, run_explain_pair,
-    run_explain_pair_under, run_explain_text, run_files, run_group_listing, run_same,
-    run_same_under,
+    ExplainOptions, FileTask, Filling, GroupFlags, Level, LineWord, Listing, Manner, PLAIN,
+    Request, Rules, RulesFault, RulesReader, RunFault, Sink, Source, Stream, Summary, Task,
+    read_text, run_canon, run_canon_lines, run_check, run_check_lines, run_explain,
+    run_explain_pair, run_explain_pair_under, run_explain_text, run_files, run_group_listing,
+    run_same, run_same_under,
 };
 use std::path::Path;
 
@@ -44,38 +43,95 @@ macro_rules! reader {
     (lines $input:ident) => { Stream::new(&mut $input) };
 }
 
-/// The canonical text of standard input.
-pub fn canon(rt: &HostRuntime, level: Level) -> Result<u8, Fault> {
-    over_standard!(rt, text => run_canon(level))
+/// Answers what a line asks for. The level is judged before anything is read.
+pub fn answer(rt: &HostRuntime, wanted: &Request) -> Result<u8, Fault> {
+    match wanted {
+        Request::Canon(level) => over_standard!(rt, text => run_canon(level_of(level)?)),
+        Request::Check => over_standard!(rt, text => run_check()),
+        Request::Same(first, second, level) => {
+            let level = level_of(level)?;
+            same_texts(rt, level, None, text_of(rt, first), text_of(rt, second))
+        }
+        Request::Group(level) => group(rt, level_of(level)?, PLAIN),
+        Request::GroupListed(level, flags) => group(rt, level_of(level)?, listing_of(flags)),
+        Request::CanonLines(level) => {
+            over_standard!(rt, lines => run_canon_lines(level_of(level)?))
+        }
+        Request::CheckLines => over_standard!(rt, lines => run_check_lines()),
+        Request::Explain(options) => {
+            judge(rt, options)?;
+            over_standard!(rt, text => run_explain(manner_of(options)))
+        }
+        Request::ExplainText(text, options) => {
+            judge(rt, options)?;
+            explain_text(rt, manner_of(options), text)
+        }
+        Request::ExplainPair(first, second, options) => {
+            let level = judge(rt, options)?;
+            let (first, second) = (text_of(rt, first), text_of(rt, second));
+            explain_texts(rt, options, level, None, first, second)
+        }
+        Request::Files(task, names) => under(rt, task, true, names.as_slice(), &[]),
+        Request::FilesUnder(task, names, rules) => {
+            under(rt, task, true, names.as_slice(), rules.as_slice())
+        }
+        Request::TextsUnder(task, texts, rules) => {
+            under(rt, task, false, texts.as_slice(), rules.as_slice())
+        }
+    }
 }
 
-/// The canonical text of each line of standard input.
-pub fn canon_lines(rt: &HostRuntime, level: Level) -> Result<u8, Fault> {
-    over_standard!(rt, lines => run_canon_lines(level))
+// The level of a task, of which the words are judged.
+fn judged_level(rt: &HostRuntime, task: &Task) -> Result<Level, Fault> {
+    match task {
+        Task::Canon(level)
+        | Task::CanonLines(level)
+        | Task::Group(level)
+        | Task::GroupListed(level, _)
+        | Task::Same(level) => level_of(level),
+        Task::Explain(options) | Task::ExplainPair(options) => judge(rt, options),
+        Task::Check | Task::CheckLines => Ok(Level::Full),
+    }
 }
 
-/// What standard input spells.
-pub fn check(rt: &HostRuntime) -> Result<u8, Fault> {
-    over_standard!(rt, text => run_check())
+// Judges the words that have no bearing on one text, and answers the level among them.
+fn judge(rt: &HostRuntime, options: &ExplainOptions) -> Result<Level, Fault> {
+    let level = level_of(&options.level)?;
+    order_of(rt.alloc(), options)?;
+    Ok(level)
 }
 
-/// What each line of standard input spells.
-pub fn check_lines(rt: &HostRuntime) -> Result<u8, Fault> {
-    over_standard!(rt, lines => run_check_lines())
+fn listing_of(flags: &GroupFlags) -> Listing {
+    Listing {
+        repeated: flags.repeated,
+        names: flags.names,
+        json: flags.json,
+    }
 }
 
-/// The catalogue of the lines of standard input, with these groups. Status 1 where a line was refused.
-pub fn group(rt: &HostRuntime, level: Level, listing: Listing) -> Result<u8, Fault> {
+fn level_of(word: &LineWord) -> Result<Level, Fault> {
+    match word.as_str() {
+        "full" => Ok(Level::Full),
+        "definition" => Ok(Level::Definition),
+        _ => Err(Fault::Level),
+    }
+}
+
+fn manner_of(options: &ExplainOptions) -> Manner {
+    if options.json {
+        Manner::Objects
+    } else {
+        Manner::Lines
+    }
+}
+
+// The catalogue of the lines of standard input, with these groups. Status 1 where a line was refused.
+fn group(rt: &HostRuntime, level: Level, listing: Listing) -> Result<u8, Fault> {
     over_standard!(rt, text => run_group_listing(level, listing).map(status_of))
 }
 
 fn status_of(summary: Summary) -> u8 {
     u8::from(summary.refused > 0)
-}
-
-/// What standard input spells, or why it is refused, explained.
-pub fn explain(rt: &HostRuntime, how: Manner) -> Result<u8, Fault> {
-    over_standard!(rt, text => run_explain(how))
 }
 
 // A task at its level, under rules where there are some. They are lent: a function that owns rules is slow to prove.
@@ -141,9 +197,9 @@ impl TaskAt<'_> {
     }
 }
 
-/// What is asked of files, or else of texts, under the rules of files where there are some. The level is judged before
-/// anything is read.
-pub fn under(
+// What is asked of files, or else of texts, under the rules of files where there are some. The level is judged before
+// anything is read.
+fn under(
     rt: &HostRuntime,
     task: &Task,
     are_files: bool,
@@ -165,8 +221,8 @@ pub fn under(
     asked.texts(words)
 }
 
-/// Whether two texts spell the same CRS, or the same under rules.
-pub fn same_texts(
+// Whether two texts spell the same CRS, or the same under rules.
+fn same_texts(
     rt: &HostRuntime,
     level: Level,
     rules: Option<&Rules>,
@@ -179,14 +235,14 @@ pub fn same_texts(
     }
 }
 
-/// What a text spells, or why it is refused, explained.
-pub fn explain_text(rt: &HostRuntime, how: Manner, word: &LineWord) -> Result<u8, Fault> {
+// What a text spells, or why it is refused, explained.
+fn explain_text(rt: &HostRuntime, how: Manner, word: &LineWord) -> Result<u8, Fault> {
     let text = text_of(rt, word);
     to_standard!(rt, run_explain_text(how, text))
 }
 
-/// All parts in which two texts differ, or differ under rules.
-pub fn explain_texts(
+// All parts in which two texts differ, or differ under rules.
+fn explain_texts(
     rt: &HostRuntime,
     options: &ExplainOptions,
     level: Level,
@@ -243,9 +299,9 @@ fn written(answer: Result<u8, RunFault>, output: &Output) -> Result<u8, Fault> {
     }
 }
 
-/// The text that a word is. A word without an opening delimiter is no text. Where it names a file, the user most likely
-/// meant that file's text.
-pub fn text_of<'w>(rt: &HostRuntime, word: &'w LineWord) -> &'w [u8] {
+// The text that a word is. A word without an opening delimiter is no text. Where it names a file, the user most likely
+// meant that file's text.
+fn text_of<'w>(rt: &HostRuntime, word: &'w LineWord) -> &'w [u8] {
     let name = word.as_str();
     if !name.contains(['[', '(']) && Path::new(name).is_file(rt) {
         tell_of(rt, name, "this is a file; with --files its text is read");
