@@ -3,6 +3,16 @@
 //! with all their fields and variants. The examples of `docs/CALLING.md` are here too.
 #![tactic(auto)]
 
+// Whether a value is one of the first variants. Its type has these and the others, and no more.
+macro_rules! is_one_of {
+    ($value:expr, $kind:ident { $($one:ident),+ } not { $($other:ident),+ }) => {
+        match $value {
+            $($kind::$one)|+ => true,
+            $($kind::$other)|+ => false,
+        }
+    };
+}
+
 mod bounds;
 mod canonical;
 mod catalogues;

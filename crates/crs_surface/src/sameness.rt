@@ -80,39 +80,23 @@ fn is_written(alloc: Global, path: &Path, text: &str) -> bool {
     written.is_ok() && out.as_slice() == text.as_bytes()
 }
 
+// The word of each variant of a type, which has no more than these.
+macro_rules! word_of {
+    ($value:expr, $kind:ident { $($variant:ident $(($field:ident))? $word:literal),+ }) => {
+        match $value {
+            $($kind::$variant $(($field))? => $word,)+
+        }
+    };
+}
+
 // The word of a step; for an axis, without its position.
 fn step_word(step: &Step) -> &'static str {
-    match step {
-        Step::Kind => "kind",
-        Step::Name => "name",
-        Step::Dynamic => "dynamic",
-        Step::Epoch => "epoch",
-        Step::Model => "model",
-        Step::Datum => "datum",
-        Step::Meridian => "meridian",
-        Step::System => "system",
-        Step::Usage => "usage",
-        Step::Id => "id",
-        Step::Remark => "remark",
-        Step::Base => "base",
-        Step::Conversion => "conversion",
-        Step::Geoid => "geoid",
-        Step::Horizontal => "horizontal",
-        Step::Vertical => "vertical",
-        Step::Unit => "unit",
-        Step::Ellipsoid => "ellipsoid",
-        Step::Anchor => "anchor",
-        Step::AnchorEpoch => "anchorepoch",
-        Step::Members => "members",
-        Step::Accuracy => "accuracy",
-        Step::SemiMajor => "semimajor",
-        Step::Flattening => "flattening",
-        Step::Longitude => "longitude",
-        Step::SystemType => "type",
-        Step::Dimension => "dimension",
-        Step::Axis(_position) => "axis",
-        Step::Direction => "direction",
-        Step::Method => "method",
-        Step::Parameters => "parameters",
-    }
+    word_of!(step, Step {
+        Kind "kind", Name "name", Dynamic "dynamic", Epoch "epoch", Model "model", Datum "datum", Meridian "meridian",
+        System "system", Usage "usage", Id "id", Remark "remark", Base "base", Conversion "conversion", Geoid "geoid",
+        Horizontal "horizontal", Vertical "vertical", Unit "unit", Ellipsoid "ellipsoid", Anchor "anchor",
+        AnchorEpoch "anchorepoch", Members "members", Accuracy "accuracy", SemiMajor "semimajor",
+        Flattening "flattening", Longitude "longitude", SystemType "type", Dimension "dimension",
+        Axis(_position) "axis", Direction "direction", Method "method", Parameters "parameters"
+    })
 }

@@ -23,52 +23,14 @@ fn has_classes() -> bool {
 }
 
 fn is_crs(class: Class) -> bool {
-    match class {
-        Class::GeodeticCrs
-        | Class::GeographicCrs
-        | Class::ProjectedCrs
-        | Class::VerticalCrs
-        | Class::CompoundCrs => true,
-        Class::Number
-        | Class::Text
-        | Class::Word
-        | Class::BaseCrs
-        | Class::Dynamic
-        | Class::FrameEpoch
-        | Class::DeformationModel
-        | Class::GeodeticFrame
-        | Class::VerticalFrame
-        | Class::GeodeticEnsemble
-        | Class::VerticalEnsemble
-        | Class::Member
-        | Class::EnsembleAccuracy
-        | Class::Anchor
-        | Class::AnchorEpoch
-        | Class::Ellipsoid
-        | Class::PrimeMeridian
-        | Class::PlainUnit
-        | Class::LengthUnit
-        | Class::AngleUnit
-        | Class::ScaleUnit
-        | Class::AxisUnit
-        | Class::CoordinateSystem
-        | Class::Axis
-        | Class::AxisMeridian
-        | Class::Order
-        | Class::Conversion
-        | Class::Method
-        | Class::Parameter
-        | Class::GeoidModel
-        | Class::Usage
-        | Class::Scope
-        | Class::Area
-        | Class::BoundingBox
-        | Class::VerticalExtent
-        | Class::Identifier
-        | Class::Citation
-        | Class::Uri
-        | Class::Remark => false,
-    }
+    is_one_of!(class, Class {
+        GeodeticCrs, GeographicCrs, ProjectedCrs, VerticalCrs, CompoundCrs
+    } not {
+        Number, Text, Word, BaseCrs, Dynamic, FrameEpoch, DeformationModel, GeodeticFrame, VerticalFrame,
+        GeodeticEnsemble, VerticalEnsemble, Member, EnsembleAccuracy, Anchor, AnchorEpoch, Ellipsoid, PrimeMeridian,
+        PlainUnit, LengthUnit, AngleUnit, ScaleUnit, AxisUnit, CoordinateSystem, Axis, AxisMeridian, Order, Conversion,
+        Method, Parameter, GeoidModel, Usage, Scope, Area, BoundingBox, VerticalExtent, Identifier, Citation, Uri, Remark
+    })
 }
 
 fn has_slots() -> bool {

@@ -63,54 +63,32 @@ fn kind_in(made: Result<Crs<'_>, Fault>) -> Result<Kind, Fault> {
 }
 
 fn is_whole(level: Level) -> bool {
-    match level {
-        Level::Full => true,
-        Level::Definition => false,
-    }
+    is_one_of!(level, Level { Full } not { Definition })
 }
 
 fn has_types() -> bool {
-    is_earthly(SystemType::Cartesian) && SystemType::Cartesian.word() == "Cartesian"
+    let word: &'static str = SystemType::Cartesian.word();
+    is_earthly(SystemType::Cartesian) && word == "Cartesian"
 }
 
 fn is_earthly(system_type: SystemType) -> bool {
-    match system_type {
-        SystemType::Cartesian | SystemType::Ellipsoidal | SystemType::Spherical => true,
-        SystemType::Vertical => false,
-    }
+    is_one_of!(system_type, SystemType { Cartesian, Ellipsoidal, Spherical } not { Vertical })
 }
 
 fn has_directions() -> bool {
+    let word: &'static str = Direction::NorthNorthEast.word();
     is_compass(Direction::NorthNorthEast)
-        && Direction::NorthNorthEast.word() == "northNorthEast"
+        && word == "northNorthEast"
         && Direction::GeocentricX.word() == "geocentricX"
 }
 
 fn is_compass(direction: Direction) -> bool {
-    match direction {
-        Direction::North
-        | Direction::NorthNorthEast
-        | Direction::NorthEast
-        | Direction::EastNorthEast
-        | Direction::East
-        | Direction::EastSouthEast
-        | Direction::SouthEast
-        | Direction::SouthSouthEast
-        | Direction::South
-        | Direction::SouthSouthWest
-        | Direction::SouthWest
-        | Direction::WestSouthWest
-        | Direction::West
-        | Direction::WestNorthWest
-        | Direction::NorthWest
-        | Direction::NorthNorthWest => true,
-        Direction::GeocentricX
-        | Direction::GeocentricY
-        | Direction::GeocentricZ
-        | Direction::Up
-        | Direction::Down
-        | Direction::Unspecified => false,
-    }
+    is_one_of!(direction, Direction {
+        North, NorthNorthEast, NorthEast, EastNorthEast, East, EastSouthEast, SouthEast, SouthSouthEast, South,
+        SouthSouthWest, SouthWest, WestSouthWest, West, WestNorthWest, NorthWest, NorthNorthWest
+    } not {
+        GeocentricX, GeocentricY, GeocentricZ, Up, Down, Unspecified
+    })
 }
 
 /// Whether a value is written as this text.

@@ -9,28 +9,26 @@ macro_rules! put_fields {
     };
 }
 
-// The same as a node with this keyword, which may depend on a field.
+// The same as a node with this keyword, which may depend on a field; what comes `then` stands behind the node.
 macro_rules! put_node {
-    ($value:ident, $out:ident, $keyword:expr => $kind:ident { $($field:ident $(: $how:ident $(($word:literal))?)?),+ }) => {
-        let $kind { $($field),+ } = $value;
+    ($value:ident, $out:ident, $keyword:expr => $kind:ident { $($field:ident $(: $how:ident $(($word:literal))?)?),+ } $(then $more:ident)*) => {
+        let $kind { $($field,)+ $($more),* } = $value;
         $out.open($keyword);
         $(put_field!($out, $field $(, $how $(($word))?)?);)+
         $out.close();
+        $($more.put($out);)*
     };
 }
 
 macro_rules! put_field {
     ($out:ident, $field:ident) => { $field.put($out) };
     ($out:ident, $field:ident, in_keyword) => {};
+    ($out:ident, $field:ident, as_word) => { $out.word($field.word().as_bytes()) };
     ($out:ident, $field:ident, $how:ident) => { $out.$how($field) };
     ($out:ident, $field:ident, $how:ident ($word:literal)) => { $out.$how($word, $field) };
 }
 
-mod conversions;
-mod crss;
-mod frames;
-mod systems;
-mod tails;
+mod values;
 
 use crs_decimal::Decimal;
 use crs_value::List;
