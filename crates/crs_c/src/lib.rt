@@ -2,6 +2,16 @@
 //! crate below answers. Results are put at places of the caller's; a code says which.
 #![tactic(auto)]
 
+// The answer at the level of this number.
+macro_rules! at_level {
+    ($level:ident => $answer:expr) => {
+        match level_numbered($level) {
+            Some($level) => $answer,
+            None => NO_LEVEL,
+        }
+    };
+}
+
 mod catalogue;
 mod layout;
 mod names;

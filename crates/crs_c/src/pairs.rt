@@ -27,10 +27,7 @@ pub extern "C" fn crsdesk_same(
         (record { answer = is_same.new; refused = refused.new })
         result }
 {
-    match level_numbered(level) {
-        Some(level) => same_at(alloc, first, second, level, is_same, refused),
-        None => NO_LEVEL,
-    }
+    at_level!(level => same_at(alloc, first, second, level, is_same, refused))
 }
 
 /// The first part in which the CRSs of two texts differ at a level: the words of its path, with `/` between them; no
@@ -55,10 +52,7 @@ pub extern "C" fn crsdesk_first_part(
         (record { answer = record { items = out.new; told = length.new }; refused = refused.new })
         result }
 {
-    match level_numbered(level) {
-        Some(level) => part_at(alloc, first, second, level, out, length, refused),
-        None => NO_LEVEL,
-    }
+    at_level!(level => part_at(alloc, first, second, level, out, length, refused))
 }
 
 /// All parts in which the CRSs of two texts differ at a level, a line each: the path, and the values in the first and
@@ -83,10 +77,7 @@ pub extern "C" fn crsdesk_differences(
         (record { answer = record { items = out.new; told = length.new }; refused = refused.new })
         result }
 {
-    match level_numbered(level) {
-        Some(level) => differences_at(alloc, first, second, level, out, length, refused),
-        None => NO_LEVEL,
-    }
+    at_level!(level => differences_at(alloc, first, second, level, out, length, refused))
 }
 
 /// All parts in which the CRSs of two texts differ at a level, three pieces each: the path, and the values in the first
@@ -115,10 +106,5 @@ pub extern "C" fn crsdesk_difference_pieces(
         (record { answer = buffers_of out.new length.new ends.new count.new; refused = refused.new })
         result }
 {
-    match level_numbered(level) {
-        Some(level) => pieces_at(
-            alloc, first, second, level, out, length, ends, count, refused,
-        ),
-        None => NO_LEVEL,
-    }
+    at_level!(level => pieces_at(alloc, first, second, level, out, length, ends, count, refused))
 }

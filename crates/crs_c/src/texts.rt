@@ -99,10 +99,7 @@ pub extern "C" fn crsdesk_canon(
         (record { answer = record { items = out.new; told = length.new }; refused = refused.new })
         result }
 {
-    match level_numbered(level) {
-        Some(level) => canon_at(alloc, text, level, out, length, refused),
-        None => NO_LEVEL,
-    }
+    at_level!(level => canon_at(alloc, text, level, out, length, refused))
 }
 
 /// The canonical texts, at a level, of many texts in one buffer, written one after the other into another. The text of
@@ -127,8 +124,5 @@ pub extern "C" fn crsdesk_canon_each(
         (record { entries = entries.new; out = out.new; done = done.new })
         result }
 {
-    match level_numbered(level) {
-        Some(level) => each_at(alloc, texts, entries, level, out, done),
-        None => NO_LEVEL,
-    }
+    at_level!(level => each_at(alloc, texts, entries, level, out, done))
 }
