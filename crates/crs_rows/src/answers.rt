@@ -1,5 +1,5 @@
 //! From the name of a call to its answer.
-use crate::nodes::{Part, put_part};
+use crate::nodes::put_part;
 use crate::sameness::{Told, put_comparison};
 use crate::{canonical, numbers, pieces, shapes, texts, values};
 use crs_suite::{Answer, Calls, Row};
@@ -48,13 +48,13 @@ fn put_answer_of_shape(out: &mut Answer, row: &Row<'_>) {
         "differences" => put_comparison(out, row, Told::Paths),
         "values" => put_comparison(out, row, Told::Values),
         "same_axis" => put_comparison(out, row, Told::Axes),
-        "Axis::write" => put_part(out, row, Part::Axis, "no axis"),
-        "Dynamic::write" => put_part(out, row, Part::Dynamic, "no dynamic part"),
-        "DeformationModel::write" => put_part(out, row, Part::Model, "no model"),
-        "Usage::write" => put_part(out, row, Part::Usage, "no usage"),
-        "Extent::write" => put_part(out, row, Part::Extent, "no extent"),
-        "Ident::write" => put_part(out, row, Part::Ident, "no identifier"),
-        "Set::write" => put_part(out, row, Part::Idents, "no set"),
+        "Axis::write" => put_part(out, row, "axis"),
+        "Dynamic::write" => put_part(out, row, "dynamic part"),
+        "DeformationModel::write" => put_part(out, row, "model"),
+        "Usage::write" => put_part(out, row, "usage"),
+        "Extent::write" => put_part(out, row, "extent"),
+        "Ident::write" => put_part(out, row, "identifier"),
+        "Set::write" => put_part(out, row, "set"),
         _ => out.put("no such call"),
     }
 }

@@ -3,7 +3,6 @@ mod appending;
 mod texts;
 mod values;
 
-use crate::nodes::Part;
 use crs_suite::{part_at, unusable};
 use crs_text::Fault;
 use std::io;
@@ -13,15 +12,9 @@ pub fn try_call(rt: &(impl Print + AllocGlobal), name: &str, parts: &[&[u8]]) ->
     let text = part_at(parts, 0);
     let second = part_at(parts, 1);
     match name {
-        "Canonical::write crs" => appending::try_part(rt, Part::Crs, text),
-        "Canonical::write axis" => appending::try_part(rt, Part::Axis, text),
-        "Canonical::write unit" => appending::try_part(rt, Part::Unit, text),
-        "Canonical::write frame" => appending::try_part(rt, Part::Frame, text),
-        "Canonical::write usage" => appending::try_part(rt, Part::Usage, text),
-        "Canonical::write identifier" => appending::try_part(rt, Part::Ident, text),
         "Decimal::write" => appending::try_number(rt, text),
         "Path::write" => appending::try_path(rt, text, second),
-        "Set::write" => appending::try_part(rt, Part::Idents, text),
+        "Set::write" => appending::try_part(rt, "set", text),
         "read_items" => texts::try_read(rt, text),
         "Feeder::feed" => texts::try_feed(rt, parts, parts.len().saturating_sub(1)),
         "Feeder::feed all" => texts::try_feed(rt, parts, 0),
@@ -31,7 +24,10 @@ pub fn try_call(rt: &(impl Print + AllocGlobal), name: &str, parts: &[&[u8]]) ->
         "canon" => values::try_canon(rt, text),
         "canon_of" => values::try_canon_of(rt, text),
         "differences" => values::try_differences(rt, text, second),
-        _ => Err(unusable()),
+        _ => match name.split_once(' ') {
+            Some(("Canonical::write", part)) => appending::try_part(rt, part, text),
+            _ => Err(unusable()),
+        },
     }
 }
 

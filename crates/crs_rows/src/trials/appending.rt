@@ -1,5 +1,5 @@
 //! Calls that append to a vector.
-use crate::nodes::Part;
+use crate::nodes::append_part;
 use crate::trials::unmade;
 use crs_decimal::Decimal;
 use crs_same::{Path, first_part};
@@ -28,16 +28,16 @@ impl Appended for Path {
     }
 }
 
-// A part of a CRS; nothing where it has no such part.
+// A part of a CRS by its name; nothing where it has no such part.
 #[derive(Clone, Copy)]
 struct PartOf<'c, 'a> {
     crs: &'c Crs<'a>,
-    part: Part,
+    part: &'c str,
 }
 
 impl Appended for PartOf<'_, '_> {
     fn append(&self, out: &mut Vec<u8>) -> Result<(), AllocError> {
-        match self.part.append(self.crs, Level::Full, out) {
+        match append_part(self.crs, self.part, Level::Full, out) {
             Some(Err(error)) => Err(error),
             Some(Ok(_)) | None => Ok(()),
         }
@@ -97,7 +97,7 @@ pub fn try_path<'a>(
 }
 
 /// `Canonical::write` of a part of the CRS that a text spells, or `Set::write` of its identifiers.
-pub fn try_part(rt: &(impl Print + AllocGlobal), part: Part, text: &[u8]) -> io::Result<()> {
+pub fn try_part(rt: &(impl Print + AllocGlobal), part: &str, text: &[u8]) -> io::Result<()> {
     about_crs(
         rt.alloc(),
         text,
