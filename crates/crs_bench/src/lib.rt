@@ -4,16 +4,12 @@
 #![tactic(auto)]
 
 mod entry;
-mod items_stage;
-mod stage;
-mod tally;
-mod text_stage;
+mod stages;
 mod timing;
-mod value_stage;
 
 use anyhow::{Context, Result, ensure};
 use entry::{Entry, Measure, entries_of};
-use stage::{Kind, STAGES, Stage};
+use stages::{Kind, STAGES, Stage};
 use std::alloc::{AllocError, Global};
 use std::rt::{Clock, Files};
 use std::{fs, io};

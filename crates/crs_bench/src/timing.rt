@@ -1,13 +1,46 @@
-//! How long a stage takes.
+//! What a stage comes to, and how long it takes.
 
 use crate::entry::{Entry, Measure, accepted};
-use crate::tally::Tally;
 use crs_group::Catalogue;
 use crs_value::Level;
 use std::alloc::{AllocError, Global};
 use std::rt::Clock;
 use std::time::{Duration, Instant};
 use std::{fmt, io};
+
+/// Counts over all texts of a round.
+#[derive(Clone, Copy, Default)]
+pub struct Tally {
+    /// How many texts.
+    pub texts: u64,
+    /// How many bytes the texts have.
+    pub bytes: u64,
+    /// How many were counted in the texts that weren't refused.
+    pub counted: u64,
+    /// How many texts were refused.
+    pub refused: u64,
+}
+
+impl Tally {
+    /// One text more, in which so many were counted; None where it was refused.
+    pub fn add(&mut self, text: &[u8], counted: Option<usize>) {
+        self.texts = self.texts.saturating_add(1);
+        self.bytes = self.bytes.saturating_add(text.len() as u64);
+        match counted {
+            Some(count) => self.counted = self.counted.saturating_add(count as u64),
+            None => self.refused = self.refused.saturating_add(1),
+        }
+    }
+}
+
+impl fmt::Display for Tally {
+    fn fmt<W: fmt::Write>(&self, f: &mut fmt::Formatter<W>) -> fmt::Result {
+        let texts = self.texts;
+        let bytes = self.bytes;
+        let refused = self.refused;
+        write!(f, "{texts} texts, {bytes} bytes, {refused} refused")
+    }
+}
 
 /// The time that some rounds over a catalogue took, and what each of them came to.
 #[derive(Clone, Copy)]
@@ -26,7 +59,7 @@ pub fn timed<'t, T: Drop, M: Measure<'t, T> + Copy>(
     entries: &[Entry<'t, T>],
 ) -> io::Result<Timing> {
     let start = Instant::now(rt)?;
-    let mut tally = Tally::EMPTY;
+    let mut tally = Tally::default();
     for round in 0..rounds {
         let mut before = Catalogue::new(rt.alloc(), Level::Full);
         tally = tally_of(rt.alloc(), measure, entries, &mut before)?;
@@ -45,7 +78,7 @@ fn tally_of<'t, T: Drop, M: Measure<'t, T> + Copy>(
     entries: &[Entry<'t, T>],
     before: &mut Catalogue,
 ) -> Result<Tally, AllocError> {
-    let mut tally = Tally::EMPTY;
+    let mut tally = Tally::default();
     for (index, entry) in entries.iter().enumerate() {
         let next = entries.get(index.saturating_add(1)).unwrap_or(entry);
         let counted = match &entry.given {
