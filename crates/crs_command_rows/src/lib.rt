@@ -13,21 +13,12 @@ use std::io;
 use std::rt::Files;
 pub use trials::try_call;
 
-const FILES: [&str; 9] = [
-    "runs",
-    "streams",
-    "checks",
-    "same_runs",
-    "lines",
-    "catalogues",
-    "group_runs",
-    "line_runs",
-    "level_runs",
-];
+const FILES: &str =
+    "runs streams checks same_runs lines catalogues group_runs line_runs level_runs";
 
 /// Runs each file of rows, and prints the rows that differ, and then a count for the file.
 pub fn run_rows(rt: &(impl Files + Print + AllocGlobal)) -> io::Result<()> {
-    run_files(rt, &FILES, &Answers)
+    run_files(rt, FILES, &Answers)
 }
 
 // The calls of this suite.

@@ -19,25 +19,10 @@ use std::io;
 use std::rt::Files;
 pub use trials::try_call;
 
-const FILES: [&str; 15] = [
-    "decimals",
-    "refusals",
-    "tokens",
-    "utf8",
-    "items",
-    "prefixes",
-    "pieces",
-    "shapes",
-    "tables",
-    "values",
-    "dynamic",
-    "canon",
-    "same",
-    "levels",
-    "long_sets",
-];
+const FILES: &str =
+    "decimals refusals tokens utf8 items prefixes pieces shapes tables values dynamic canon same levels long_sets";
 
 /// Runs each file of rows, and prints the rows that differ, and then a count for the file.
 pub fn run_rows(rt: &(impl Files + Print + AllocGlobal)) -> io::Result<()> {
-    run_files(rt, &FILES, &Answers)
+    run_files(rt, FILES, &Answers)
 }

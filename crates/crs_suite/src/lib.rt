@@ -4,7 +4,6 @@
 
 mod about;
 mod answer;
-mod asked;
 mod escapes;
 mod rows;
 mod streams;
@@ -12,8 +11,7 @@ mod trial;
 
 pub use about::{about_both, about_crs, about_items, about_value, kind_word};
 pub use answer::Answer;
-pub use asked::{call_of, part_at, unusable};
 pub use escapes::{split_blank, split_line};
 pub use rows::{Calls, Row, run_files};
 pub use streams::{Manner, Page, Pieces};
-pub use trial::{Trial, Turn, run_call, run_trial};
+pub use trial::{Trial, Turn, call_of, part_at, run_call, run_trial, unusable};

@@ -42,13 +42,14 @@ impl Tally {
     }
 }
 
-/// Runs the rows of files of these names, each in `NAME.rows`, and prints those that differ, and then a count for the file.
+/// Runs the rows of files of these names, with blanks between them, each in `NAME.rows`, and prints those that differ, and
+/// then a count for the file.
 pub fn run_files<C: Calls>(
     rt: &(impl Files + Print + AllocGlobal),
-    names: &[&str],
+    names: &str,
     calls: &C,
 ) -> io::Result<()> {
-    for name in names {
+    for name in names.split(' ') {
         let path = format!(in rt.alloc(); "{name}.rows")?;
         let text = fs::read_to_string(rt, path.as_str())?;
         let Tally { rows, differ } = tally_of(rt, path.as_str(), text.as_str(), calls)?;

@@ -34,26 +34,18 @@ impl Manner {
             is_interrupted: false,
         };
         for word in words.split(' ') {
-            match word {
-                "" => (),
-                "endless" => manner.is_endless = true,
-                "interrupted" => manner.is_interrupted = true,
-                _ => manner.read_count(word)?,
+            match word.split_once('=').unwrap_or((word, "")) {
+                ("", "") => (),
+                ("endless", "") => manner.is_endless = true,
+                ("interrupted", "") => manner.is_interrupted = true,
+                ("pieces", count) => manner.piece = count.parse().ok()?,
+                ("fails", count) => manner.fails_at = count.parse().ok()?,
+                ("takes", count) => manner.takes = count.parse().ok()?,
+                ("stops", count) => manner.stops_at = count.parse().ok()?,
+                _ => return None,
             }
         }
         Some(manner)
-    }
-
-    fn read_count(&mut self, word: &str) -> Option<()> {
-        let (name, count) = word.split_once('=')?;
-        match name {
-            "pieces" => self.piece = count.parse().ok()?,
-            "fails" => self.fails_at = count.parse().ok()?,
-            "takes" => self.takes = count.parse().ok()?,
-            "stops" => self.stops_at = count.parse().ok()?,
-            _ => return None,
-        }
-        Some(())
     }
 
     fn failure(&self) -> io::Error {

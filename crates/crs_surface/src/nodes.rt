@@ -33,14 +33,7 @@ macro_rules! count_node {
 
 /// Checks the nodes of canonical texts, which have all kinds of node.
 pub fn check(alloc: Global, tally: &mut Tally, texts: Texts<'_>) {
-    for name in [
-        "projected",
-        "polar",
-        "ensemble",
-        "compound",
-        "dynamic",
-        "extent",
-    ] {
+    for name in "projected polar ensemble compound dynamic extent".split(' ') {
         let agrees = holds(alloc, texts.named(name), |crs| walk_crs(crs, tally, alloc));
         tally.count("crs_canon::Canonical for Crs", agrees);
     }
