@@ -34,13 +34,9 @@ pub enum Fault {
 impl Drop for Fault {
     fn drop(self) {
         match self {
-            Fault::Word => {}
-            Fault::Level => {}
-            Fault::Part => {}
-            Fault::Read(_) => {}
-            Fault::Write(_) => {}
+            Fault::Word | Fault::Level | Fault::Part | Fault::Told => {}
+            Fault::Read(_) | Fault::Write(_) => {}
             Fault::Run(_) => {}
-            Fault::Told => {}
         }
     }
 }
