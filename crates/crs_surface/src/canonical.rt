@@ -1,8 +1,5 @@
 //! Canonical texts, and sets.
-use crate::bounds::{are_equal, hash_of};
-use crate::refusals::is_refused_at;
-use crate::tally::Tally;
-use crate::texts::{Texts, holds};
+use crate::asking::{Tally, Texts, are_equal, hash_of, holds, is_refused_at};
 use crs_canon::{Canon, Set, canon, canon_of};
 use crs_text::Fault;
 use crs_value::{Crs, Ident, Level};

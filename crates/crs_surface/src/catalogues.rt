@@ -1,7 +1,5 @@
 //! Catalogues.
-use crate::refusals::is_refusal_of;
-use crate::tally::Tally;
-use crate::texts::Texts;
+use crate::asking::{Tally, Texts, is_refusal_of};
 use crs_group::{Catalogue, Placed};
 use crs_text::Refusal;
 use crs_value::Level;

@@ -1,6 +1,5 @@
 //! Decimals.
-use crate::bounds::{are_equal, copied};
-use crate::tally::Tally;
+use crate::asking::{Tally, are_equal, copied};
 use crs_decimal::{Decimal, NumberFault};
 use std::alloc::{AllocError, Global};
 

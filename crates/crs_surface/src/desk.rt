@@ -1,6 +1,5 @@
 //! Commands, and the reading of command lines.
-use crate::tally::Tally;
-use crate::texts::Texts;
+use crate::asking::{Tally, Texts};
 use crs_desk::{LineWord, Request, RequestFault, request, run_canon, run_check, run_same};
 use crs_group::{RunFault, Sink, Source};
 use crs_suite::about_value;

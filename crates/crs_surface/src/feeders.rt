@@ -1,7 +1,5 @@
 //! Texts in pieces.
-use crate::refusals::is_refused_at;
-use crate::tally::Tally;
-use crate::texts::Texts;
+use crate::asking::{Tally, Texts, is_refused_at};
 use crs_text::{Fault, Feeder, Items};
 use std::alloc::Global;
 

@@ -1,8 +1,5 @@
 //! The items of a text.
-use crate::bounds::copied;
-use crate::refusals::is_refused_at;
-use crate::tally::Tally;
-use crate::texts::Texts;
+use crate::asking::{Tally, Texts, copied, is_refused_at};
 use crs_decimal::Decimal;
 use crs_text::{Fault, ItemId, ItemKind, Items, read_items};
 use std::alloc::Global;

@@ -13,7 +13,7 @@ macro_rules! is_one_of {
     };
 }
 
-mod bounds;
+mod asking;
 mod canonical;
 mod catalogues;
 mod decimals;
@@ -26,17 +26,14 @@ mod refusals;
 mod runs;
 mod sameness;
 mod shapes;
-mod tally;
-mod texts;
 mod values;
 mod written;
 
+use asking::{Tally, Texts};
 pub use examples::print_all as print_examples;
 use std::alloc::Global;
 use std::rt::Files;
 use std::{fs, io};
-use tally::Tally;
-use texts::Texts;
 
 /// Calls every item, and prints the names of those that answer otherwise than they must, and a count.
 pub fn check_all(rt: &(impl Files + Print + AllocGlobal)) -> io::Result<()> {

@@ -1,6 +1,5 @@
 //! Nodes that are compared and written by themselves: in a canonical text each is written as it stands.
-use crate::tally::Tally;
-use crate::texts::{Texts, holds};
+use crate::asking::{Tally, Texts, holds};
 use crate::values::is_text_of;
 use crate::written::Written;
 use crs_canon::Canonical;

@@ -1,6 +1,5 @@
 //! Refusals and faults.
-use crate::bounds::{copied, is_error};
-use crate::tally::Tally;
+use crate::asking::{Tally, copied, is_error, is_refusal_of};
 use crs_text::{Fault, Refusal};
 use std::alloc::{AllocError, Global};
 
@@ -32,20 +31,6 @@ fn is_made() -> bool {
         && Refusal::new(9, 0).is_none()
         && Refusal::new(14, 0).is_none()
         && Refusal::new(30, 0).is_none()
-}
-
-/// Whether no value was made, but this refusal.
-pub fn is_refused_at<T: Drop>(made: Result<T, Fault>, number: u8, place: usize) -> bool {
-    match made {
-        Err(Fault::Refused(refusal)) => is_refusal_of(&refusal, number, place),
-        Err(Fault::Memory(_error)) => false,
-        Ok(_value) => false,
-    }
-}
-
-/// Whether a refusal has this number and this place.
-pub fn is_refusal_of(refusal: &Refusal, number: u8, place: usize) -> bool {
-    refusal.number() == number && refusal.place() == place
 }
 
 fn is_refusal(refusal: Refusal) -> bool {

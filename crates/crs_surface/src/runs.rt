@@ -1,6 +1,5 @@
 //! The run over a catalogue, its streams and its faults.
-use crate::bounds::is_error;
-use crate::tally::Tally;
+use crate::asking::{Tally, is_error};
 use crs_group::{RunFault, Sink, Source, Summary, run_group};
 use crs_suite::{Manner, Page, Pieces};
 use crs_value::Level;

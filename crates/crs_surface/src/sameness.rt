@@ -1,6 +1,5 @@
 //! Sameness, and the first part that differs.
-use crate::tally::Tally;
-use crate::texts::Texts;
+use crate::asking::{Tally, Texts};
 use crs_same::{Path, Step, first_part, same};
 use crs_suite::about_both;
 use crs_value::{Crs, Level};

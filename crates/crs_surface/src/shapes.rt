@@ -1,7 +1,5 @@
 //! Classes, slots and shapes.
-use crate::refusals::is_refusal_of;
-use crate::tally::Tally;
-use crate::texts::Texts;
+use crate::asking::{Tally, Texts, is_refusal_of};
 use crs_shape::{Class, Slot, class_of, fit, fit_root, known, root_class, slots};
 use crs_text::{Items, Refusal, read_items};
 use std::alloc::Global;

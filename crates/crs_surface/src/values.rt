@@ -1,7 +1,5 @@
 //! Values.
-use crate::refusals::is_refused_at;
-use crate::tally::Tally;
-use crate::texts::{Texts, holds};
+use crate::asking::{Tally, Texts, holds, is_refused_at};
 use crate::written::{Text, Written};
 use crs_text::{Fault, Items, read_items};
 use crs_value::{Crs, Direction, Kind, Level, SystemType, read, value_of};
