@@ -1,18 +1,14 @@
 //! All parts in which two CRSs differ, each as three texts.
-ghost use Rattle.std.specs.Prelude.{◌≡◌, ◌++◌, ◌∷◌, [], IfOk, MatchOption, OnOk};
+ghost use Rattle.std.specs.Prelude.{◌≡◌, ◌++◌, ◌∷◌, [], IfOk, OnOk};
 ghost use Rattle.crs_same.specs.Paths.{path_text};
-ghost use Rattle.crs_same.specs.SameCrs.{SameCrs};
 ghost use Rattle.crs_canon.specs.ContentText.{IsContentText};
 ghost use Rattle.crs_explain.specs.Appended.{AppendsTexts};
 ghost use Rattle.crs_explain.specs.Differing.{AreDifferenceTexts, AreTexts, AreTextsOf};
 ghost use Rattle.crs_explain.specs.DifferingTexts.{AreTextsOfOne, PartTexts};
-ghost use Rattle.crs_explain.specs.InOrder.{AreOrderedTexts};
 
-use crate::names::Name;
-use crate::order::put_in_order;
 use crate::set_texts::Sets;
 use crs_canon::write_content;
-use crs_same::{Content, Difference, Differences, differences, same};
+use crs_same::{Content, Difference, Differences, differences};
 use crs_value::{Crs, Level};
 use std::alloc::{AllocError, Global};
 use std::marker::Model;
@@ -71,26 +67,6 @@ fn append_texts(
         append_part(alloc, level, difference, out)?;
     }
     Ok(())
-}
-
-/// The same, in the order of some words; None exactly where the CRSs are the same. The CRSs come first: what is called with
-/// a CRS behind another reference is slow to prove.
-pub(crate) fn ordered_texts<'a>(
-    alloc: Global,
-    a: &Crs<'a>,
-    b: &Crs<'a>,
-    level: Level,
-    words: &[Name],
-) -> Result<Option<Vec<DifferenceTexts>>, AllocError>
-    ensures { IfOk result (λ found. MatchOption found (SameCrs level a.now b.now)
-        (λ texts. (¬ SameCrs level a.now b.now) × AreOrderedTexts words.now level a.now b.now texts.items)) }
-{
-    if same(a, b, level) {
-        return Ok(None);
-    }
-    let mut texts = difference_texts(alloc, a, b, level)?;
-    put_in_order(words, &mut texts)?;
-    Ok(Some(texts))
 }
 
 fn append_part(

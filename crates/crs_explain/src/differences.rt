@@ -1,13 +1,14 @@
-//! All parts in which two CRSs differ, for a person to read and for a program to use.
-ghost use Rattle.std.specs.Prelude.{◌≡◌, ◌++◌, IfOk, MatchOption, OnOk};
-ghost use Rattle.std.specs.List.{flat_map};
+//! All parts in which two CRSs differ, for a person to read and for a program to use, and their order.
+ghost use Rattle.std.specs.Prelude.{◌≡◌, ◌++◌, ◌≤◌, IfOk, MatchOption, OnOk, false, length, true};
+ghost use Rattle.std.specs.List.{flat_map, prefix_len};
 ghost use Rattle.crs_explain.specs.Differing.{AreDifferencePieces, IsDifferencesText, difference_line, part_pieces, shown};
-ghost use Rattle.crs_explain.specs.InOrder.{IsOrderedText};
+ghost use Rattle.crs_explain.specs.InOrder.{AreInOrder, AreOrderedTexts, IsOrderedText, has_step_from, is_of_word, rank, word_at};
 ghost use Rattle.crs_same.specs.SameCrs.{SameCrs};
 
-use crate::difference_texts::{DifferenceTexts, difference_texts, ordered_texts};
+use crate::difference_texts::{DifferenceTexts, difference_texts};
 use crate::names::Name;
 use crate::pieces::Pieces;
+use crs_same::same;
 use crs_streams::append_escaped;
 use crs_value::{Crs, Level};
 use std::alloc::{AllocError, Global};
@@ -69,7 +70,9 @@ pub fn difference_pieces<'a>(
     let differences = difference_texts(alloc, a, b, level)?;
     let mut pieces = Pieces::new(alloc);
     for difference in &differences {
-        append_part(difference, &mut pieces)?;
+        pieces.push(&difference.path)?;
+        pieces.push(&difference.first)?;
+        pieces.push(&difference.second)?;
     }
     Ok(pieces)
 }
@@ -79,28 +82,14 @@ fn lines_of(alloc: Global, differences: &[DifferenceTexts]) -> Result<Vec<u8>, A
 {
     let mut lines = Vec::new(alloc);
     for difference in differences {
-        append_line(difference, &mut lines)?;
+        append_escaped(&difference.path, &mut lines)?;
+        lines.extend_from_slice(b": ")?;
+        append_value(&difference.first, &mut lines)?;
+        lines.extend_from_slice(b" | ")?;
+        append_value(&difference.second, &mut lines)?;
+        lines.extend_from_slice(b"\n")?;
     }
     Ok(lines)
-}
-
-fn append_line(difference: &DifferenceTexts, out: &mut Vec<u8>) -> Result<(), AllocError>
-    ensures { OnOk result (out.new.items ≡ out.old.items ++ difference_line difference.now) }
-{
-    append_escaped(&difference.path, out)?;
-    out.extend_from_slice(b": ")?;
-    append_value(&difference.first, out)?;
-    out.extend_from_slice(b" | ")?;
-    append_value(&difference.second, out)?;
-    out.extend_from_slice(b"\n")
-}
-
-fn append_part(difference: &DifferenceTexts, out: &mut Pieces) -> Result<(), AllocError>
-    ensures { OnOk result (out.new ≡ out.old ++ part_pieces difference.now) }
-{
-    out.push(&difference.path)?;
-    out.push(&difference.first)?;
-    out.push(&difference.second)
 }
 
 // `none` where there are no bytes.
@@ -111,4 +100,72 @@ fn append_value(bytes: &[u8], out: &mut Vec<u8>) -> Result<(), AllocError>
         return out.extend_from_slice(b"none");
     }
     append_escaped(bytes, out)
+}
+
+/// The texts of each part that differs in the order of some words; None exactly where the CRSs are the same. The CRSs come
+/// first: what is called with
+/// a CRS behind another reference is slow to prove.
+pub(crate) fn ordered_texts<'a>(
+    alloc: Global,
+    a: &Crs<'a>,
+    b: &Crs<'a>,
+    level: Level,
+    words: &[Name],
+) -> Result<Option<Vec<DifferenceTexts>>, AllocError>
+    ensures { IfOk result (λ found. MatchOption found (SameCrs level a.now b.now)
+        (λ texts. (¬ SameCrs level a.now b.now) × AreOrderedTexts words.now level a.now b.now texts.items)) }
+{
+    if same(a, b, level) {
+        return Ok(None);
+    }
+    let mut texts = difference_texts(alloc, a, b, level)?;
+    put_in_order(words, &mut texts)?;
+    Ok(Some(texts))
+}
+
+// Puts parts that differ into the order of some words: first those that a user names by words of their paths.
+fn put_in_order(words: &[Name], parts: &mut Vec<DifferenceTexts>) -> Result<(), AllocError>
+    ensures { OnOk result (AreInOrder words.now parts.old.items parts.new.items) }
+{
+    parts.sort_by_key(|part| rank(words, part))?;
+    Ok(())
+}
+
+fn rank(words: &[Name], part: &DifferenceTexts) -> usize
+    ensures { result ≡ rank words.now part.now }
+{
+    words
+        .iter()
+        .take_while(|word| !has_step(&part.path, word.bytes()))
+        .count()
+}
+
+fn has_step(path: &[u8], word: &[u8]) -> bool
+    ensures { result ≡ has_step_from true false word.now path.now }
+{
+    let mut begins = true;
+    let mut is_quoted = false;
+    let mut left = path;
+    while let [byte, rest @ ..] = left {
+        if begins && word_at(left) == word {
+            return true;
+        }
+        begins = !is_quoted && *byte == b'/';
+        is_quoted = if *byte == b'"' { !is_quoted } else { is_quoted };
+        left = rest;
+    }
+    false
+}
+
+fn word_at(path: &[u8]) -> &[u8]
+    ensures { result.now ≡ word_at path.now }
+{
+    &path[..word_length(path)]
+}
+
+fn word_length(path: &[u8]) -> usize
+    ensures value { result ≡ prefix_len is_of_word path.now }
+    ensures within { result ≤ length path.now }
+{
+    path.iter().take_while(|byte| **byte > b'[').count()
 }

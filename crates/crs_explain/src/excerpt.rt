@@ -1,12 +1,12 @@
 //! The piece of a line at a place, and below it a caret under the place.
 ghost use Rattle.std.specs.Prelude.{◌≡◌, ◌++◌, ◌≤◌, ◌-◌, ℕ, List, IfOk, IfSome, OnOk, length, take, drop};
-ghost use Rattle.crs_explain.specs.Excerpt.{IsExcerpt, blanks, blanks_below, printed_text, shown_place};
+ghost use Rattle.crs_explain.specs.Excerpt.{IsExcerpt, blanks, blanks_below, is_hidden, printed, printed_text, shown_place};
 
 use crate::place::rest_of;
-use crate::printed::printed;
 use bstr::{ByteSlice, ByteVec};
 use crs_text::position_of;
 use std::alloc::{AllocError, Global};
+use ucd_category::GeneralCategory;
 use unicode_width::UnicodeWidthChar;
 
 // How many characters of the line are shown before the place, and from the place on.
@@ -112,4 +112,36 @@ fn blanks(columns: Option<usize>) -> &'static [u8]
         Some(columns) => &b"   "[..columns],
         None => b"",
     }
+}
+
+// The character as it is printed: a blank for a tab, and the replacement character for what can't be printed, such as
+// control characters, ends of lines, and what reverses the direction of a text.
+fn printed(c: char) -> char
+    ensures { result ≡ printed c }
+{
+    if c == '\t' {
+        ' '
+    } else if c == ' ' {
+        c
+    } else if is_hidden(GeneralCategory::for_char(c)) {
+        '\u{fffd}'
+    } else {
+        c
+    }
+}
+
+fn is_hidden(category: GeneralCategory) -> bool
+    ensures { result ≡ is_hidden category }
+{
+    matches!(
+        category,
+        GeneralCategory::Control
+            | GeneralCategory::Format
+            | GeneralCategory::Surrogate
+            | GeneralCategory::PrivateUse
+            | GeneralCategory::Unassigned
+            | GeneralCategory::SpaceSeparator
+            | GeneralCategory::LineSeparator
+            | GeneralCategory::ParagraphSeparator
+    )
 }

@@ -1,19 +1,113 @@
-//! What is found at the place of a refusal, and what could stand there.
-ghost use Rattle.std.specs.Prelude.{◌≡◌, ◌↔◌, IfOk, IsTrue, filter};
+//! What is found at the place of a refusal, and what could stand there: as texts, and in a line for a person.
+ghost use Rattle.std.specs.Prelude.{◌≡◌, ◌++◌, ◌↔◌, IfOk, IsTrue, None, OnOk, filter};
 ghost use Rattle.crs_shape.specs.Expected.{may_come};
 ghost use Rattle.crs_shape.specs.FaultPlace.{IsShapeNumber};
 ghost use Rattle.crs_shape.specs.Keywords.{every_class};
+ghost use Rattle.crs_explain.specs.Expectation.{expected_line, node_at, or_nothing};
 ghost use Rattle.crs_explain.specs.Expected.{IsExpected, IsExpectedIn};
 ghost use Rattle.crs_explain.specs.ExpectedClasses.{IsShapeExpected, node_word};
 
-use crate::axes::axes_expected;
-use crate::class_names::push_names;
-use crate::expected_texts::ExpectedTexts;
-use crate::place::{append_found, append_name, rest_of, word_at};
-use crate::unknown_word::word_expected;
+use crate::names::{Name, append_listed, push_names};
+use crate::place::{append_found, name_text, rest_of, word_at};
+use crate::system::{axes_expected, word_expected};
 use crs_shape::{Class, Expected, classes, expected, nearest};
+use crs_streams::append_number;
 use crs_text::{Fault, Items, Refusal, laws, read_items};
 use std::alloc::{AllocError, Global};
+use std::marker::Model;
+
+/// What is found at a place, and the names of what could stand there. Profile.
+#[derive(Drop)]
+pub(crate) struct ExpectedTexts {
+    /// The keyword of the node in which that is; no bytes where the text is of no class.
+    pub(crate) node: Vec<u8>,
+    /// Where the node begins.
+    pub(crate) place: usize,
+    pub(crate) found: Vec<u8>,
+    pub(crate) names: Vec<Name>,
+    /// The name that was likely meant; no bytes where none is near. No public clause says which.
+    pub(crate) meant: Vec<u8>,
+}
+
+impl Model for ExpectedTexts {
+    ghost use Rattle.crs_explain.specs.Expectation.{Expectation};
+
+    ghost Value = { Expectation };
+
+    ghost view = { λ e. record {
+      node = e.node.items;
+      place = e.place;
+      found = e.found.items;
+      names = e.names.items;
+    } };
+}
+
+impl ExpectedTexts {
+    /// Nothing that is found or could stand there.
+    pub(crate) fn nothing(alloc: Global) -> ExpectedTexts
+        ensures { result ≡ or_nothing None }
+    {
+        ExpectedTexts {
+            node: Vec::new(alloc),
+            place: 0,
+            found: Vec::new(alloc),
+            names: Vec::new(alloc),
+            meant: Vec::new(alloc),
+        }
+    }
+
+    /// Appends the line of what is found and what could stand there, `in GEOGCRS at 0: found AXIS, expected CS`; nothing
+    /// where there are no names.
+    pub(crate) fn append_line(&self, out: &mut Vec<u8>) -> Result<(), AllocError>
+        ensures { OnOk result (out.new.items ≡ out.old.items ++ expected_line self.now) }
+    {
+        if self.names.is_empty() {
+            return Ok(());
+        }
+        append_node(&self.node, self.place, out)?;
+        out.extend_from_slice(b": found ")?;
+        out.extend_from_slice(&self.found)?;
+        out.extend_from_slice(b", expected ")?;
+        append_listed(&self.names, out)?;
+        out.extend_from_slice(b"\n")
+    }
+}
+
+/// What is expected, or nothing where that isn't known.
+pub(crate) fn or_nothing<'e>(
+    expected: &'e Option<ExpectedTexts>,
+    nothing: &'e ExpectedTexts,
+) -> &'e ExpectedTexts
+    requires { nothing.now ≡ or_nothing None }
+    ensures { result.now ≡ or_nothing expected.now }
+{
+    match expected {
+        Some(expected) => expected,
+        None => nothing,
+    }
+}
+
+/// The name that was likely meant; no bytes where none is near.
+pub(crate) fn meant_in(expected: &Option<ExpectedTexts>) -> &[u8] {
+    match expected {
+        Some(expected) => &expected.meant,
+        None => b"",
+    }
+}
+
+// `in GEOGCRS at 0`, or `at 0` where there is no keyword.
+fn append_node(word: &[u8], place: usize, out: &mut Vec<u8>) -> Result<(), AllocError>
+    ensures { OnOk result (out.new.items ≡ out.old.items ++ node_at word.now place) }
+{
+    if word.is_empty() {
+        out.extend_from_slice(b"at ")?;
+        return append_number(place, out);
+    }
+    out.extend_from_slice(b"in ")?;
+    out.extend_from_slice(word)?;
+    out.extend_from_slice(b" at ")?;
+    append_number(place, out)
+}
 
 // The numbers of a word that isn't known, and of axes that are more or fewer than the dimension.
 const UNKNOWN_WORD: u8 = 21;
@@ -103,11 +197,10 @@ fn meant_at(alloc: Global, there: &[u8], expected: &Expected) -> Result<Vec<u8>,
 fn node_text(alloc: Global, there: &[u8], parent: Option<Class>) -> Result<Vec<u8>, AllocError>
     ensures { IfOk result (λ node. node.items ≡ node_word parent there.now) }
 {
-    let mut node = Vec::new(alloc);
-    if parent.is_some() {
-        append_name(word_at(there), &mut node)?;
+    match parent {
+        Some(_) => name_text(alloc, word_at(there)),
+        None => Ok(Vec::new(alloc)),
     }
-    Ok(node)
 }
 
 // The classes that may come, in the order of the table.

@@ -5,27 +5,20 @@
 #![tactic(auto)]
 
 mod around;
-mod axes;
-mod class_names;
 mod difference_texts;
 mod differences;
 mod excerpt;
 mod expected;
-mod expected_texts;
-mod explanation;
 pub mod laws;
-mod meant;
 mod names;
 mod objects;
-mod order;
 mod pieces;
 mod place;
-mod printed;
 mod refusal;
 mod sentences;
 mod set_texts;
+mod system;
 mod units;
-mod unknown_word;
 
 pub use differences::{difference_pieces, differences_text, ordered_differences_text};
 pub use names::Name as StepWord;

@@ -1,10 +1,14 @@
-//! Names of what could stand at a place, each by itself, listed, and as an array of JSON; and the words of paths.
+//! Names of what could stand at a place, each by itself, listed, as an array of JSON, and of classes; and the words of
+//! paths.
 ghost use Rattle.std.specs.Prelude.{◌≡◌, ◌++◌, ◌∷◌, [], IfOk, OnOk};
 ghost use Rattle.crs_explain.specs.Expectation.{listed};
+ghost use Rattle.crs_explain.specs.ExpectedClasses.{class_names, names_of};
 ghost use Rattle.crs_streams.specs.Json.{json_array, json_more, json_text};
 
 use crate::pieces::Pieces;
+use crs_shape::{Class, keywords};
 use crs_streams::json::append_text;
+use crs_text::Keyword;
 use std::alloc::{AllocError, Global};
 use std::marker::Model;
 
@@ -104,4 +108,41 @@ fn append_more(names: &[Name], out: &mut Vec<u8>) -> Result<(), AllocError>
         append_text(name.bytes(), out)?;
     }
     Ok(())
+}
+
+/// Adds the names of classes, and the end of the node where it may end.
+pub(crate) fn push_names(
+    classes: &[Class],
+    may_end: bool,
+    out: &mut Vec<Name>,
+) -> Result<(), AllocError>
+    ensures { OnOk result (out.new.items ≡ out.old.items ++ names_of classes.now may_end) }
+{
+    for class in classes {
+        push_class(*class, out)?;
+    }
+    if may_end {
+        push_name(b"its closing delimiter", out)?;
+    }
+    Ok(())
+}
+
+// The names of a class: its first keyword, or what it is where it has none.
+fn push_class(class: Class, out: &mut Vec<Name>) -> Result<(), AllocError>
+    ensures { OnOk result (out.new.items ≡ out.old.items ++ class_names class) }
+{
+    if class == Class::Number {
+        push_name(b"a number", out)
+    } else if class == Class::Text {
+        push_name(b"a text in quotes", out)
+    } else if class == Class::Word {
+        push_name(b"a word", out)
+    } else if class == Class::AxisUnit {
+        push_name(b"LENGTHUNIT", out)?;
+        push_name(b"ANGLEUNIT", out)
+    } else {
+        // A class that is none of these has a keyword.
+        let keyword = keywords(class).first().unwrap_or(&Keyword::Id);
+        push_name(keyword.spelling(), out)
+    }
 }

@@ -1,21 +1,19 @@
 //! Refusals and parts that differ as objects of JSON, each in a line.
 ghost use Rattle.std.specs.Prelude.{◌≡◌, ◌++◌, ◌≤◌, IfOk, MatchOption, OnOk, length};
 ghost use Rattle.crs_explain.specs.InOrder.{AreOrderedObjects};
-ghost use Rattle.crs_explain.specs.Json.{IsRefusalObject, difference_object, expected_members};
-ghost use Rattle.crs_explain.specs.Json.{place_members, sentence_members, which_member};
+ghost use Rattle.crs_explain.specs.Json.{IsRefusalObject, expected_members, which_member};
 ghost use Rattle.crs_same.specs.SameCrs.{SameCrs};
 
-use crate::difference_texts::{DifferenceTexts, ordered_texts};
-use crate::expected_texts::ExpectedTexts;
-use crate::explanation::explanation;
+use crate::differences::ordered_texts;
+use crate::expected::ExpectedTexts;
 use crate::names::{Name, append_array};
 use crate::place::word_at;
-use crate::sentences::SentenceTexts;
+use crate::refusal::explanation;
 use crs_streams::append_number;
 use crs_streams::json::{
     append_key, append_number_member, append_text, append_text_member, append_value_member,
 };
-use crs_text::{Position, Refusal};
+use crs_text::Refusal;
 use crs_value::{Crs, Level};
 use std::alloc::{AllocError, Global};
 
@@ -35,12 +33,20 @@ pub fn refusal_object(
     ensures { IfOk result (λ object. IsRefusalObject which.now text.now refusal object.items) }
 {
     let explanation = explanation(alloc, text, refusal)?;
+    let sentences = &explanation.sentences;
     let mut out = Vec::from_slice(alloc, b"{")?;
     append_which(which, &mut out)?;
-    append_place(refusal, explanation.position, &mut out)?;
+    out.extend_from_slice(b"\"refused\":")?;
+    append_number(usize::from(refusal.number()), &mut out)?;
+    append_text_member(b"name", refusal.name().as_bytes(), &mut out)?;
+    append_number_member(b"place", refusal.place(), &mut out)?;
+    append_number_member(b"line", explanation.position.line, &mut out)?;
+    append_number_member(b"column", explanation.position.column, &mut out)?;
     append_text_member(b"excerpt", &explanation.excerpt, &mut out)?;
     append_expected(&explanation.expected, &mut out)?;
-    append_sentences(&explanation.sentences, &mut out)?;
+    append_value_member(b"clue", &sentences.open_or_meant, &mut out)?;
+    append_text_member(b"meaning", &sentences.meaning, &mut out)?;
+    append_value_member(b"hints", &sentences.hints, &mut out)?;
     out.extend_from_slice(b"}\n")?;
     Ok(out)
 }
@@ -66,19 +72,13 @@ pub fn difference_objects<'a>(
     };
     let mut objects = Vec::new(alloc);
     for difference in &differences {
-        append_difference(difference, &mut objects)?;
+        objects.extend_from_slice(b"{\"path\":")?;
+        append_text(&difference.path, &mut objects)?;
+        append_value_member(b"first", &difference.first, &mut objects)?;
+        append_value_member(b"second", &difference.second, &mut objects)?;
+        objects.extend_from_slice(b"}\n")?;
     }
     Ok(Some(objects))
-}
-
-fn append_difference(difference: &DifferenceTexts, out: &mut Vec<u8>) -> Result<(), AllocError>
-    ensures { OnOk result (out.new.items ≡ out.old.items ++ difference_object difference.now) }
-{
-    out.extend_from_slice(b"{\"path\":")?;
-    append_text(&difference.path, out)?;
-    append_value_member(b"first", &difference.first, out)?;
-    append_value_member(b"second", &difference.second, out)?;
-    out.extend_from_slice(b"}\n")
 }
 
 // `"text":"first",`, or nothing where there is one text.
@@ -91,17 +91,6 @@ fn append_which(which: &[u8], out: &mut Vec<u8>) -> Result<(), AllocError>
     out.extend_from_slice(b"\"text\":")?;
     append_text(word_at(which), out)?;
     out.extend_from_slice(b",")
-}
-
-fn append_place(refusal: Refusal, position: Position, out: &mut Vec<u8>) -> Result<(), AllocError>
-    ensures { OnOk result (out.new.items ≡ out.old.items ++ place_members refusal position) }
-{
-    out.extend_from_slice(b"\"refused\":")?;
-    append_number(usize::from(refusal.number()), out)?;
-    append_text_member(b"name", refusal.name().as_bytes(), out)?;
-    append_number_member(b"place", refusal.place(), out)?;
-    append_number_member(b"line", position.line, out)?;
-    append_number_member(b"column", position.column, out)
 }
 
 fn append_expected(expected: &Option<ExpectedTexts>, out: &mut Vec<u8>) -> Result<(), AllocError>
@@ -117,12 +106,4 @@ fn append_expected(expected: &Option<ExpectedTexts>, out: &mut Vec<u8>) -> Resul
     append_text_member(b"found", &expected.found, out)?;
     append_key(b"expected", out)?;
     append_array(&expected.names, out)
-}
-
-fn append_sentences(sentences: &SentenceTexts, out: &mut Vec<u8>) -> Result<(), AllocError>
-    ensures { OnOk result (out.new.items ≡ out.old.items ++ sentence_members sentences.now) }
-{
-    append_value_member(b"clue", &sentences.open_or_meant, out)?;
-    append_text_member(b"meaning", &sentences.meaning, out)?;
-    append_value_member(b"hints", &sentences.hints, out)
 }

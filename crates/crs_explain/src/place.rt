@@ -1,7 +1,7 @@
 //! What is at a place of a well-formed text.
-ghost use Rattle.std.specs.Prelude.{◌≡◌, ◌++◌, ◌≤◌, IfOk, OnOk, drop, length, take};
+ghost use Rattle.std.specs.Prelude.{◌≡◌, ◌++◌, ◌≤◌, IfOk, OnOk, drop, length};
 ghost use Rattle.std.specs.List.{prefix_len};
-ghost use Rattle.crs_explain.specs.Found.{first_byte, found_in, is_of_word, named_by, opens, opens_after_white, word_found, word_of, word_shown};
+ghost use Rattle.crs_explain.specs.Found.{first_byte, found_in, is_of_word, named_by, opens, opens_after_white, word_of, word_shown};
 
 use std::alloc::{AllocError, Global};
 
@@ -16,7 +16,14 @@ pub(crate) fn append_found(there: &[u8], out: &mut Vec<u8>) -> Result<(), AllocE
         b']' => out.extend_from_slice(b"]"),
         b')' => out.extend_from_slice(b")"),
         b'"' => out.extend_from_slice(b"a text in quotes"),
-        letter if letter.is_ascii_alphabetic() => append_word(there, out),
+        // The keyword of a node, or a word.
+        letter if letter.is_ascii_alphabetic() => {
+            if opens_after_white(rest_of(there, word_length(there))) {
+                append_name(word_at(there), out)
+            } else {
+                out.extend_from_slice(b"a word")
+            }
+        }
         _ => out.extend_from_slice(b"a number"),
     }
 }
@@ -26,17 +33,6 @@ fn first_byte(bytes: &[u8]) -> u8
     ensures { result ≡ first_byte bytes.now }
 {
     bytes.first().copied().unwrap_or(0)
-}
-
-// The keyword of a node, or a word.
-fn append_word(there: &[u8], out: &mut Vec<u8>) -> Result<(), AllocError>
-    ensures { OnOk result (out.new.items ≡ out.old.items ++ word_found there.now) }
-{
-    if opens_after_white(rest_of(there, word_length(there))) {
-        append_name(word_at(there), out)
-    } else {
-        out.extend_from_slice(b"a word")
-    }
 }
 
 fn opens_after_white(bytes: &[u8]) -> bool
@@ -74,16 +70,9 @@ pub(crate) fn append_shown(word: &[u8], out: &mut Vec<u8>) -> Result<(), AllocEr
     if word.len() <= SHOWN {
         out.extend_from_slice(word)
     } else {
-        out.extend_from_slice(front_of(word, SHOWN))?;
+        out.extend_from_slice(&word[..SHOWN])?;
         out.extend_from_slice(b"..")
     }
-}
-
-fn front_of(word: &[u8], count: usize) -> &[u8]
-    requires { count ≤ length word.now }
-    ensures { result.now ≡ take count word.now }
-{
-    &word[..count]
 }
 
 /// The word that the bytes begin with.

@@ -1,15 +1,61 @@
 //! The refusal of a text, explained to a person and to a program.
-ghost use Rattle.std.specs.Prelude.{◌≡◌, ◌++◌, ◌∷◌, ◌≤◌, [], IfOk, OnOk, codes, decimal, length};
-ghost use Rattle.crs_explain.specs.Explained.{AreExplainedPieces, IsExplained, head};
+ghost use Rattle.std.specs.Prelude.{◌≡◌, ◌++◌, ◌≤◌, IfOk, OnOk, length};
+ghost use Rattle.crs_explain.specs.Explained.{AreExplainedPieces, Explains, IsExplained, head};
 
-use crate::expected_texts::{ExpectedTexts, or_nothing};
-use crate::explanation::explanation;
+use crate::excerpt::excerpt;
+use crate::expected::{ExpectedTexts, expectation, meant_in, or_nothing};
 use crate::names::push_each;
 use crate::pieces::Pieces;
+use crate::sentences::{SentenceTexts, sentences};
 use crs_streams::{append_number, append_refusal};
-use crs_text::{Position, Refusal};
+use crs_text::{Position, Refusal, position_of};
 use std::alloc::{AllocError, Global};
 use std::marker::Model;
+
+/// What is explained of a refusal. Profile.
+#[derive(Drop)]
+pub(crate) struct ExplanationOf {
+    pub(crate) position: Position,
+    /// The piece of the line and the caret, a line each.
+    pub(crate) excerpt: Vec<u8>,
+    pub(crate) expected: Option<ExpectedTexts>,
+    pub(crate) sentences: SentenceTexts,
+}
+
+impl Model for ExplanationOf {
+    ghost use Rattle.crs_explain.specs.Explained.{Explanation};
+
+    ghost Value = { Explanation };
+
+    ghost view = { λ e. record {
+      position = e.position;
+      excerpt = e.excerpt.items;
+      expected = e.expected;
+      sentences = e.sentences;
+    } };
+}
+
+/// The explanation of a text's refusal. Time is linear in the text.
+pub(crate) fn explanation(
+    alloc: Global,
+    text: &[u8],
+    refusal: Refusal,
+) -> Result<ExplanationOf, AllocError>
+    requires { refusal.place ≤ length text.now }
+    ensures { IfOk result (Explains text.now refusal) }
+{
+    let place = refusal.place();
+    let position = position_of(text, place);
+    let excerpt = excerpt(alloc, text, place)?;
+    let expected = expectation(alloc, text, refusal)?;
+    let sentences = sentences(alloc, text, refusal, meant_in(&expected))?;
+    Ok(ExplanationOf {
+        position,
+        excerpt,
+        expected,
+        sentences,
+    })
+}
 
 /// Explains the refusal of a text, so that a person can repair the text: a line with the refusal and its line and
 /// column; the piece of that line with a caret under the place; for a fault of shape, a word that isn't known and a
@@ -70,10 +116,17 @@ pub fn refusal_pieces(
     let explanation = explanation(alloc, text, refusal)?;
     let nothing = ExpectedTexts::nothing(alloc);
     let expected = or_nothing(&explanation.expected, &nothing);
+    let sentences = &explanation.sentences;
+    let mut line = Vec::new(alloc);
+    expected.append_line(&mut line)?;
     let mut pieces = Pieces::new(alloc);
     pieces.push(&explanation.excerpt)?;
-    expected.push_found(alloc, &mut pieces)?;
-    explanation.sentences.push(&mut pieces)?;
+    pieces.push(&line)?;
+    pieces.push(&expected.node)?;
+    pieces.push(&expected.found)?;
+    pieces.push(&sentences.open_or_meant)?;
+    pieces.push(&sentences.meaning)?;
+    pieces.push(&sentences.hints)?;
     push_each(&expected.names, &mut pieces)?;
     Ok(ExplanationPieces {
         line: explanation.position.line,
@@ -88,14 +141,6 @@ fn append_head(refusal: Refusal, position: Position, out: &mut Vec<u8>) -> Resul
     ensures { OnOk result (out.new.items ≡ out.old.items ++ head refusal position) }
 {
     append_refusal(out, refusal)?;
-    append_position(position, out)
-}
-
-// `, line L, column C`, and a line feed.
-fn append_position(position: Position, out: &mut Vec<u8>) -> Result<(), AllocError>
-    ensures { OnOk result (out.new.items ≡ out.old.items ++ (codes ", line " ++ decimal position.line
-        ++ codes ", column " ++ decimal position.column ++ 10 ∷ [])) }
-{
     out.extend_from_slice(b", line ")?;
     append_number(position.line, out)?;
     out.extend_from_slice(b", column ")?;

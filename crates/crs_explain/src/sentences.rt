@@ -3,7 +3,6 @@ ghost use Rattle.std.specs.Prelude.{◌≡◌, ◌++◌, ◌∷◌, ◌≤◌, [
 ghost use Rattle.crs_explain.specs.Explained.{AreSentences, AreWords, line_if_any, sentence_lines};
 ghost use Rattle.crs_explain.specs.Lines.{in_line};
 
-use crate::pieces::Pieces;
 use crate::units::units;
 use crs_hint::{hints, meaning, opened};
 use crs_text::{Refusal, open_delimiter};
@@ -41,16 +40,6 @@ impl SentenceTexts {
         append_line_if_any(&self.open_or_meant, out)?;
         append_line(&self.meaning, out)?;
         append_line_if_any(&self.hints, out)
-    }
-
-    /// Adds each of them to pieces.
-    pub(crate) fn push(&self, out: &mut Pieces) -> Result<(), AllocError>
-        ensures { OnOk result (out.new ≡ out.old
-            ++ self.now.open_or_meant ∷ self.now.meaning ∷ self.now.hints ∷ []) }
-    {
-        out.push(&self.open_or_meant)?;
-        out.push(&self.meaning)?;
-        out.push(&self.hints)
     }
 }
 
@@ -98,16 +87,10 @@ fn words_of(alloc: Global, words: &[u8]) -> Result<Vec<u8>, AllocError>
     ensures { IfOk result (λ line. AreWords line.items) }
 {
     let mut line = Vec::new(alloc);
-    for byte in shortened(words) {
+    for byte in words.get(..MOST).unwrap_or(words) {
         line.push(in_line(*byte))?;
     }
     Ok(line)
-}
-
-fn shortened(words: &[u8]) -> &[u8]
-    ensures { length result.now ≤ 1000 }
-{
-    words.get(..MOST).unwrap_or(words)
 }
 
 fn in_line(byte: u8) -> u8
@@ -123,31 +106,22 @@ fn open_or_meant(
     refusal: Refusal,
     meant: &[u8],
 ) -> Result<Vec<u8>, AllocError> {
-    match refusal.number() {
-        6 | 7 => still_open(alloc, text, refusal.place()),
-        11 | 21 => did_you_mean(alloc, meant),
-        27 => units(alloc, text, refusal.place()),
-        _ => Ok(Vec::new(alloc)),
-    }
-}
-
-// `CS[ at 24 is still open`
-fn still_open(alloc: Global, text: &[u8], place: usize) -> Result<Vec<u8>, AllocError> {
-    let Some(at) = open_delimiter(text, place) else {
-        return Ok(Vec::new(alloc));
-    };
-    let mut out = opened(alloc, text, at)?;
-    out.extend_from_slice(b" is still open")?;
-    Ok(out)
-}
-
-// `Did you mean CS?`, or nothing where no name was meant.
-fn did_you_mean(alloc: Global, name: &[u8]) -> Result<Vec<u8>, AllocError> {
     let mut out = Vec::new(alloc);
-    if !name.is_empty() {
-        out.extend_from_slice(b"Did you mean ")?;
-        out.extend_from_slice(name)?;
-        out.extend_from_slice(b"?")?;
+    match refusal.number() {
+        6 | 7 => {
+            // `CS[ at 24 is still open`
+            if let Some(at) = open_delimiter(text, refusal.place()) {
+                out.extend_from_slice(&opened(alloc, text, at)?)?;
+                out.extend_from_slice(b" is still open")?;
+            }
+        }
+        11 | 21 if !meant.is_empty() => {
+            out.extend_from_slice(b"Did you mean ")?;
+            out.extend_from_slice(meant)?;
+            out.extend_from_slice(b"?")?;
+        }
+        27 => return units(alloc, text, refusal.place()),
+        _ => {}
     }
     Ok(out)
 }

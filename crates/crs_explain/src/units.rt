@@ -3,8 +3,8 @@ ghost use Rattle.crs_text.specs.Items.{HasId};
 ghost use Rattle.crs_value.specs.Reading.{Holds};
 
 use crate::around::{around, crs_around, is_called, part_around};
-use crate::axes::raw_at;
 use crate::place::append_name;
+use crate::system::raw_at;
 use crs_shape::{Direction, SystemType, UnitKind};
 use crs_streams::append_number;
 use crs_text::{Fault, ItemId, Items, Keyword, read_items};

@@ -2,7 +2,7 @@ use Rattle.std.proofs.Common.{◌≡◌, rules}
 use Rattle.std.proofs.lemmas.Fn.{always_returns_same}
 use Rattle.std.proofs.lemmas.List.Sorted.{IsNonDecreasingBy-from_sort_by_key}
 use Rattle.crs_explain.specs.InOrder.{rank}
-use Rattle.crs_explain.proofs.order.put_in_order.Goals as goal
+use Rattle.crs_explain.proofs.differences.put_in_order.Goals as goal
 
 pub returns : goal.returns
 returns c =

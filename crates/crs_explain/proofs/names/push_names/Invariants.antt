@@ -1,7 +1,7 @@
 use Rattle.std.proofs.Common.{◌≡◌, ◌++◌, drop}
 use Rattle.std.specs.List.{flat_map}
 use Rattle.crs_explain.specs.ExpectedClasses.{class_names}
-use Rattle.crs_explain.proofs.class_names.push_names.Given as goal
+use Rattle.crs_explain.proofs.names.push_names.Given as goal
 
 abbrev pub invariant-loop-class : goal.invariant-loop-class
 invariant-loop-class l =

@@ -1,4 +1,4 @@
-use Rattle.crs_explain.proofs.explanation.explanation.Goals as goal
+use Rattle.crs_explain.proofs.refusal.explanation.Goals as goal
 
 pub returns : goal.returns
 returns c = record {
