@@ -41,11 +41,11 @@ impl Drop for Member<'_> {
     }
 }
 
-// The class that this keyword is of; `None` where nodes of its classes never count as one.
-fn subject(keyword: Keyword) -> Option<Class>
-    ensures { result ≡ subject_of (Some keyword) }
+// The class that a keyword is of, where there is one; `None` where nodes of its classes never count as one.
+fn subject_of(keyword: Option<Keyword>) -> Option<Class>
+    ensures { result ≡ subject_of keyword }
 {
-    match keyword {
+    match keyword? {
         Keyword::Datum | Keyword::Trf | Keyword::GeodeticDatum => Some(Class::GeodeticFrame),
         Keyword::VDatum | Keyword::Vrf | Keyword::VerticalDatum => Some(Class::VerticalFrame),
         Keyword::Member => Some(Class::Member),
@@ -62,13 +62,6 @@ fn subject(keyword: Keyword) -> Option<Class>
         Keyword::ScaleUnit => Some(Class::ScaleUnit),
         _ => None,
     }
-}
-
-// The class that a keyword is of, where there is one.
-fn subject_of(keyword: Option<Keyword>) -> Option<Class>
-    ensures { result ≡ subject_of keyword }
-{
-    subject(keyword?)
 }
 
 // The kind of units of this class; `None` where its nodes are no units.

@@ -167,10 +167,7 @@ impl RulesReader {
         let mut left = bytes;
         while !left.is_empty() {
             let (line, rest) = first_line(left);
-            match self.line(alloc, line) {
-                Ok(()) => {}
-                Err(fault) => return Err(fault),
-            }
+            self.line(alloc, line)?;
             left = rest;
         }
         Ok(())
@@ -252,10 +249,7 @@ impl RulesReader {
     {
         let mut at = from;
         while let Some(id) = at {
-            match self.add(alloc, items, id, Some(first)) {
-                Ok(_) => {}
-                Err(fault) => return Err(fault),
-            }
+            self.add(alloc, items, id, Some(first))?;
             at = items.next(id);
         }
         Ok(())
@@ -274,10 +268,8 @@ impl RulesReader {
         let Some(begin) = items.arg(id, 0) else {
             unreachable!()
         };
-        match self.add(alloc, items, begin, None) {
-            Ok(first) => self.add_others(alloc, items, items.next(begin), &first),
-            Err(fault) => Err(fault),
-        }
+        let first = self.add(alloc, items, begin, None)?;
+        self.add_others(alloc, items, items.next(begin), &first)
     }
 
     // What an item names doesn't count.
@@ -308,10 +300,7 @@ impl RulesReader {
     {
         let mut at = from;
         while let Some(id) = at {
-            match self.drop_word(items, id) {
-                Ok(()) => {}
-                Err(fault) => return Err(fault),
-            }
+            self.drop_word(items, id)?;
             at = items.next(id);
         }
         Ok(())

@@ -4,10 +4,10 @@ use Rattle.crs_rules_file.proofs.reader.RulesReader.add_others.Goals as goal
 
 pub loop-at-preserved : goal.loop-at-preserved
 loop-at-preserved c =
-    walks-on c.loop-at.invariant c.in-Some.is (c.in-Ok.field-0, c.in-Ok.ensures.answer) c.next-at.ensures c.add.ensures.grown
+    walks-on c.loop-at.invariant c.in-Some.is (c.in_ok-add.field-0, c.in_ok-add.ensures.answer) c.next-at.ensures c.add.ensures.grown
 
-pub returns-in-Err : goal.returns-in-Err
-returns-in-Err c = record {
-  answer = refused-over c.loop-at.invariant c.in-Some.is c.in-Err.fault c.in-Err.ensures.answer;
+pub returns-in_err-add : goal.returns-in_err-add
+returns-in_err-add c = record {
+  answer = rw c.from_residual.ensures (refused-over c.loop-at.invariant c.in-Some.is c.in_err-add.field-0 c.in_err-add.ensures.answer);
   grown = grown_on c.args.self.now c.loop-at.self c.add.new.self c.loop-at.invariant.grown c.add.ensures.grown;
 }
