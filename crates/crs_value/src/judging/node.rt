@@ -249,6 +249,7 @@ impl<const PLACE: u8, S: Slots> Part for Node<PLACE, S> {
     ghost fits = { (PLACE < length every_class)
         × ((¬ (HasSystem (class_at PLACE))) × ((slots_of (class_at PLACE) ≡ S.slots) × S.fits)) };
 
+    #[inline(always)]
     fn judge(items: &Items<'_>, id: ItemId, parent: Class, found: &mut Found) -> Option<bool> {
         part::<S>(class_at(PLACE), items, id, parent, found)
     }
