@@ -1,13 +1,14 @@
 //! What is found at the place of a refusal, and what could stand there: as texts, and in a line for a person.
-ghost use Rattle.std.specs.Prelude.{◌≡◌, ◌++◌, ◌↔◌, IfOk, IsTrue, None, OnOk, filter};
+ghost use Rattle.std.specs.Prelude.{◌≡◌, ◌++◌, ◌∷◌, ◌↔◌, [], IfOk, IsTrue, None, OnOk, codes, filter};
 ghost use Rattle.crs_shape.specs.Expected.{may_come};
 ghost use Rattle.crs_shape.specs.FaultPlace.{IsShapeNumber};
 ghost use Rattle.crs_shape.specs.Keywords.{every_class};
-ghost use Rattle.crs_explain.specs.Expectation.{expected_line, node_at, or_nothing};
+ghost use Rattle.crs_explain.specs.Expectation.{expected_line, listed, node_at, or_nothing};
 ghost use Rattle.crs_explain.specs.Expected.{IsExpected, IsExpectedIn};
 ghost use Rattle.crs_explain.specs.ExpectedClasses.{IsShapeExpected, node_word};
 
 use crate::names::{Name, append_listed, push_names};
+use crate::pieces::Pieces;
 use crate::place::{append_found, name_text, rest_of, word_at};
 use crate::system::{axes_expected, word_expected};
 use crs_shape::{Class, Expected, classes, expected, nearest};
@@ -56,8 +57,7 @@ impl ExpectedTexts {
         }
     }
 
-    /// Appends the line of what is found and what could stand there, `in GEOGCRS at 0: found AXIS, expected CS`; nothing
-    /// where there are no names.
+    /// Appends the line of what is found and what could stand there; nothing where there are no names.
     pub(crate) fn append_line(&self, out: &mut Vec<u8>) -> Result<(), AllocError>
         ensures { OnOk result (out.new.items ≡ out.old.items ++ expected_line self.now) }
     {
@@ -65,11 +65,18 @@ impl ExpectedTexts {
             return Ok(());
         }
         append_node(&self.node, self.place, out)?;
-        out.extend_from_slice(b": found ")?;
-        out.extend_from_slice(&self.found)?;
-        out.extend_from_slice(b", expected ")?;
-        append_listed(&self.names, out)?;
-        out.extend_from_slice(b"\n")
+        append_rest(&self.found, &self.names, out)
+    }
+
+    /// Adds that line, the keyword of the node, and what is found to pieces.
+    pub(crate) fn push_found(&self, alloc: Global, out: &mut Pieces) -> Result<(), AllocError>
+        ensures { OnOk result (out.new ≡ out.old ++ expected_line self.now ∷ self.now.node ∷ self.now.found ∷ []) }
+    {
+        let mut line = Vec::new(alloc);
+        self.append_line(&mut line)?;
+        out.push(&line)?;
+        out.push(&self.node)?;
+        out.push(&self.found)
     }
 }
 
@@ -93,6 +100,18 @@ pub(crate) fn meant_in(expected: &Option<ExpectedTexts>) -> &[u8] {
         Some(expected) => &expected.meant,
         None => b"",
     }
+}
+
+// `: found AXIS, expected CS`, and a line feed.
+fn append_rest(found: &[u8], names: &[Name], out: &mut Vec<u8>) -> Result<(), AllocError>
+    ensures { OnOk result (out.new.items ≡ out.old.items
+        ++ (codes ": found " ++ found.now ++ codes ", expected " ++ listed names.now ++ 10 ∷ [])) }
+{
+    out.extend_from_slice(b": found ")?;
+    out.extend_from_slice(found)?;
+    out.extend_from_slice(b", expected ")?;
+    append_listed(names, out)?;
+    out.extend_from_slice(b"\n")
 }
 
 // `in GEOGCRS at 0`, or `at 0` where there is no keyword.

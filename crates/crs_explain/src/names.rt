@@ -138,11 +138,17 @@ fn push_class(class: Class, out: &mut Vec<Name>) -> Result<(), AllocError>
     } else if class == Class::Word {
         push_name(b"a word", out)
     } else if class == Class::AxisUnit {
-        push_name(b"LENGTHUNIT", out)?;
-        push_name(b"ANGLEUNIT", out)
+        push_two(b"LENGTHUNIT", b"ANGLEUNIT", out)
     } else {
         // A class that is none of these has a keyword.
         let keyword = keywords(class).first().unwrap_or(&Keyword::Id);
         push_name(keyword.spelling(), out)
     }
+}
+
+fn push_two(first: &[u8], second: &[u8], out: &mut Vec<Name>) -> Result<(), AllocError>
+    ensures { OnOk result (out.new.items ≡ out.old.items ++ first.now ∷ second.now ∷ []) }
+{
+    push_name(first, out)?;
+    push_name(second, out)
 }

@@ -1,7 +1,8 @@
 //! Refusals and parts that differ as objects of JSON, each in a line.
 ghost use Rattle.std.specs.Prelude.{◌≡◌, ◌++◌, ◌≤◌, IfOk, MatchOption, OnOk, length};
 ghost use Rattle.crs_explain.specs.InOrder.{AreOrderedObjects};
-ghost use Rattle.crs_explain.specs.Json.{IsRefusalObject, expected_members, which_member};
+ghost use Rattle.crs_explain.specs.Json.{IsRefusalObject, expected_members};
+ghost use Rattle.crs_explain.specs.Json.{place_members, sentence_members, which_member};
 ghost use Rattle.crs_same.specs.SameCrs.{SameCrs};
 
 use crate::differences::ordered_texts;
@@ -9,11 +10,12 @@ use crate::expected::ExpectedTexts;
 use crate::names::{Name, append_array};
 use crate::place::word_at;
 use crate::refusal::explanation;
+use crate::sentences::SentenceTexts;
 use crs_streams::append_number;
 use crs_streams::json::{
     append_key, append_number_member, append_text, append_text_member, append_value_member,
 };
-use crs_text::Refusal;
+use crs_text::{Position, Refusal};
 use crs_value::{Crs, Level};
 use std::alloc::{AllocError, Global};
 
@@ -33,20 +35,12 @@ pub fn refusal_object(
     ensures { IfOk result (λ object. IsRefusalObject which.now text.now refusal object.items) }
 {
     let explanation = explanation(alloc, text, refusal)?;
-    let sentences = &explanation.sentences;
     let mut out = Vec::from_slice(alloc, b"{")?;
     append_which(which, &mut out)?;
-    out.extend_from_slice(b"\"refused\":")?;
-    append_number(usize::from(refusal.number()), &mut out)?;
-    append_text_member(b"name", refusal.name().as_bytes(), &mut out)?;
-    append_number_member(b"place", refusal.place(), &mut out)?;
-    append_number_member(b"line", explanation.position.line, &mut out)?;
-    append_number_member(b"column", explanation.position.column, &mut out)?;
+    append_place(refusal, explanation.position, &mut out)?;
     append_text_member(b"excerpt", &explanation.excerpt, &mut out)?;
     append_expected(&explanation.expected, &mut out)?;
-    append_value_member(b"clue", &sentences.open_or_meant, &mut out)?;
-    append_text_member(b"meaning", &sentences.meaning, &mut out)?;
-    append_value_member(b"hints", &sentences.hints, &mut out)?;
+    append_sentences(&explanation.sentences, &mut out)?;
     out.extend_from_slice(b"}\n")?;
     Ok(out)
 }
@@ -93,6 +87,17 @@ fn append_which(which: &[u8], out: &mut Vec<u8>) -> Result<(), AllocError>
     out.extend_from_slice(b",")
 }
 
+fn append_place(refusal: Refusal, position: Position, out: &mut Vec<u8>) -> Result<(), AllocError>
+    ensures { OnOk result (out.new.items ≡ out.old.items ++ place_members refusal position) }
+{
+    out.extend_from_slice(b"\"refused\":")?;
+    append_number(usize::from(refusal.number()), out)?;
+    append_text_member(b"name", refusal.name().as_bytes(), out)?;
+    append_number_member(b"place", refusal.place(), out)?;
+    append_number_member(b"line", position.line, out)?;
+    append_number_member(b"column", position.column, out)
+}
+
 fn append_expected(expected: &Option<ExpectedTexts>, out: &mut Vec<u8>) -> Result<(), AllocError>
     ensures { OnOk result (out.new.items ≡ out.old.items ++ expected_members expected.now) }
 {
@@ -106,4 +111,12 @@ fn append_expected(expected: &Option<ExpectedTexts>, out: &mut Vec<u8>) -> Resul
     append_text_member(b"found", &expected.found, out)?;
     append_key(b"expected", out)?;
     append_array(&expected.names, out)
+}
+
+fn append_sentences(sentences: &SentenceTexts, out: &mut Vec<u8>) -> Result<(), AllocError>
+    ensures { OnOk result (out.new.items ≡ out.old.items ++ sentence_members sentences.now) }
+{
+    append_value_member(b"clue", &sentences.open_or_meant, out)?;
+    append_text_member(b"meaning", &sentences.meaning, out)?;
+    append_value_member(b"hints", &sentences.hints, out)
 }

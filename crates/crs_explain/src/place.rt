@@ -1,5 +1,5 @@
 //! What is at a place of a well-formed text.
-ghost use Rattle.std.specs.Prelude.{◌≡◌, ◌++◌, ◌≤◌, IfOk, OnOk, drop, length};
+ghost use Rattle.std.specs.Prelude.{◌≡◌, ◌++◌, ◌≤◌, IfOk, OnOk, drop, length, take};
 ghost use Rattle.std.specs.List.{prefix_len};
 ghost use Rattle.crs_explain.specs.Found.{first_byte, found_in, is_of_word, named_by, opens, opens_after_white, word_of, word_shown};
 
@@ -70,9 +70,16 @@ pub(crate) fn append_shown(word: &[u8], out: &mut Vec<u8>) -> Result<(), AllocEr
     if word.len() <= SHOWN {
         out.extend_from_slice(word)
     } else {
-        out.extend_from_slice(&word[..SHOWN])?;
+        out.extend_from_slice(front_of(word, SHOWN))?;
         out.extend_from_slice(b"..")
     }
+}
+
+fn front_of(word: &[u8], count: usize) -> &[u8]
+    requires { count ≤ length word.now }
+    ensures { result.now ≡ take count word.now }
+{
+    &word[..count]
 }
 
 /// The word that the bytes begin with.

@@ -1,5 +1,5 @@
 //! The refusal of a text, explained to a person and to a program.
-ghost use Rattle.std.specs.Prelude.{◌≡◌, ◌++◌, ◌≤◌, IfOk, OnOk, length};
+ghost use Rattle.std.specs.Prelude.{◌≡◌, ◌++◌, ◌∷◌, ◌≤◌, [], IfOk, OnOk, codes, decimal, length};
 ghost use Rattle.crs_explain.specs.Explained.{AreExplainedPieces, Explains, IsExplained, head};
 
 use crate::excerpt::excerpt;
@@ -13,13 +13,24 @@ use std::alloc::{AllocError, Global};
 use std::marker::Model;
 
 /// What is explained of a refusal. Profile.
-#[derive(Drop)]
 pub(crate) struct ExplanationOf {
     pub(crate) position: Position,
     /// The piece of the line and the caret, a line each.
     pub(crate) excerpt: Vec<u8>,
     pub(crate) expected: Option<ExpectedTexts>,
     pub(crate) sentences: SentenceTexts,
+}
+
+// Hand-written: a derived drop is expanded wherever a value is dropped, which slows the proofs.
+impl Drop for ExplanationOf {
+    fn drop(self) {
+        let ExplanationOf {
+            position: _,
+            excerpt: _,
+            expected: _,
+            sentences: _,
+        } = self;
+    }
 }
 
 impl Model for ExplanationOf {
@@ -116,17 +127,10 @@ pub fn refusal_pieces(
     let explanation = explanation(alloc, text, refusal)?;
     let nothing = ExpectedTexts::nothing(alloc);
     let expected = or_nothing(&explanation.expected, &nothing);
-    let sentences = &explanation.sentences;
-    let mut line = Vec::new(alloc);
-    expected.append_line(&mut line)?;
     let mut pieces = Pieces::new(alloc);
     pieces.push(&explanation.excerpt)?;
-    pieces.push(&line)?;
-    pieces.push(&expected.node)?;
-    pieces.push(&expected.found)?;
-    pieces.push(&sentences.open_or_meant)?;
-    pieces.push(&sentences.meaning)?;
-    pieces.push(&sentences.hints)?;
+    expected.push_found(alloc, &mut pieces)?;
+    explanation.sentences.push(&mut pieces)?;
     push_each(&expected.names, &mut pieces)?;
     Ok(ExplanationPieces {
         line: explanation.position.line,
@@ -141,6 +145,14 @@ fn append_head(refusal: Refusal, position: Position, out: &mut Vec<u8>) -> Resul
     ensures { OnOk result (out.new.items ≡ out.old.items ++ head refusal position) }
 {
     append_refusal(out, refusal)?;
+    append_position(position, out)
+}
+
+// `, line L, column C`, and a line feed.
+fn append_position(position: Position, out: &mut Vec<u8>) -> Result<(), AllocError>
+    ensures { OnOk result (out.new.items ≡ out.old.items ++ (codes ", line " ++ decimal position.line
+        ++ codes ", column " ++ decimal position.column ++ 10 ∷ [])) }
+{
     out.extend_from_slice(b", line ")?;
     append_number(position.line, out)?;
     out.extend_from_slice(b", column ")?;

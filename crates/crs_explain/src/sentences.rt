@@ -3,6 +3,7 @@ ghost use Rattle.std.specs.Prelude.{◌≡◌, ◌++◌, ◌∷◌, ◌≤◌, [
 ghost use Rattle.crs_explain.specs.Explained.{AreSentences, AreWords, line_if_any, sentence_lines};
 ghost use Rattle.crs_explain.specs.Lines.{in_line};
 
+use crate::pieces::Pieces;
 use crate::units::units;
 use crs_hint::{hints, meaning, opened};
 use crs_text::{Refusal, open_delimiter};
@@ -40,6 +41,16 @@ impl SentenceTexts {
         append_line_if_any(&self.open_or_meant, out)?;
         append_line(&self.meaning, out)?;
         append_line_if_any(&self.hints, out)
+    }
+
+    /// Adds each of them to pieces.
+    pub(crate) fn push(&self, out: &mut Pieces) -> Result<(), AllocError>
+        ensures { OnOk result (out.new ≡ out.old
+            ++ self.now.open_or_meant ∷ self.now.meaning ∷ self.now.hints ∷ []) }
+    {
+        out.push(&self.open_or_meant)?;
+        out.push(&self.meaning)?;
+        out.push(&self.hints)
     }
 }
 
