@@ -148,7 +148,10 @@ impl<'i, 'a> Node<'i, 'a> {
         ensures { (value : Option (List ℕ)) → ReadsIfAny ReadsTextOf class self.now.class (item self.now) value →
             value ≡ option_copied result }
     {
-        Some(self.first(class)?.text())
+        match self.first(class) {
+            None => None,
+            Some(found) => Some(found.text()),
+        }
     }
 
     /// The number of a node that may be in it. Profile.
@@ -157,7 +160,10 @@ impl<'i, 'a> Node<'i, 'a> {
         ensures { (value : Option Value) → ReadsIfAny ReadsNumberOf class self.now.class (item self.now) value →
             SaysIfAny (λ s v. IsNumber s.now v) result value }
     {
-        Some(self.first(class)?.number())
+        match self.first(class) {
+            None => None,
+            Some(found) => Some(found.number()),
+        }
     }
 
     /// The number of a node that is in it. Profile.
@@ -250,7 +256,10 @@ impl<'i, 'a> Node<'i, 'a> {
     {
         match self.first(Class::Word) {
             None => Direction::Unspecified,
-            Some(word) => Direction::read(word.raw()).unwrap_or(Direction::Unspecified),
+            Some(word) => match Direction::read(word.raw()) {
+                None => Direction::Unspecified,
+                Some(direction) => direction,
+            },
         }
     }
 }
