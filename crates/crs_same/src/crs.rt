@@ -187,7 +187,8 @@ pub fn same_geodetic<'a>(a: &Geodetic<'a>, b: &Geodetic<'a>, level: Level) -> bo
     ensures { IsTrue result ↔ AreSame parts_of_geodetic level a.now b.now }
 {
     laws::one_axis_each();
-    let _names = (a.name, b.name);
+    let _name = a.name;
+    let _name = b.name;
     Found::first().geodetic(At::start(level), a, b).is_same()
 }
 
@@ -204,7 +205,8 @@ pub fn same_projected<'a>(a: &Projected<'a>, b: &Projected<'a>, level: Level) ->
     ensures { IsTrue result ↔ AreSame parts_of_projected level a.now b.now }
 {
     laws::one_axis_each();
-    let _names = (a.name, b.name);
+    let _name = a.name;
+    let _name = b.name;
     Found::first().projected(At::start(level), a, b).is_same()
 }
 
@@ -214,7 +216,8 @@ pub fn same_vertical<'a>(a: &Vertical<'a>, b: &Vertical<'a>, level: Level) -> bo
     ensures { IsTrue result ↔ AreSame parts_of_vertical level a.now b.now }
 {
     laws::one_axis_each();
-    let _names = (a.name, b.name);
+    let _name = a.name;
+    let _name = b.name;
     Found::first().vertical(At::start(level), a, b).is_same()
 }
 
@@ -238,7 +241,8 @@ pub fn same_compound<'a>(a: &Compound<'a>, b: &Compound<'a>, level: Level) -> bo
     ensures { IsTrue result ↔ AreSame parts_of_compound level a.now b.now }
 {
     laws::one_axis_each();
-    let _names = (a.name, b.name);
+    let _name = a.name;
+    let _name = b.name;
     Found::first().compound(At::start(level), a, b).is_same()
 }
 
