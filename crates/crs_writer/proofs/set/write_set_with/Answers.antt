@@ -19,7 +19,7 @@ returns-in_ok-append g c = on_ok_weaker c.write.result (λ alone value values r 
 pub returns-in_ok-gather_texts : goal.returns-in_ok-gather_texts
 returns-in_ok-gather_texts g c =
     let bytes-same = c.deref.ensures.value in
-    let spans-same = c.deref-2.ensures.value in
+    let spans-same = c.deref-then-are_few.ensures.value in
     on_ok_weaker c.write_spans.result (λ written value values r rs.
     many-written (g.T.Spell.spelling c.args.level) value values _ _ _ _ _
     (ap (texts_at c.in_ok-bytes.bytes.items) c.in_ok-spans.ensures.items) (c.in_ok-put_among.ensures.texts value r)
