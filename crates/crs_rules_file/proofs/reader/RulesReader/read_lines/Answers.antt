@@ -1,11 +1,12 @@
+use Rattle.std.proofs.lemmas.Result.{err_from_is_err_and}
 use Rattle.crs_rules_file.proofs.FileLemmas.{few-still, file-fault, file-on, reads-line}
 use Rattle.crs_rules_file.proofs.GrownLemmas.{grown_on}
 use Rattle.crs_rules_file.proofs.reader.RulesReader.read_lines.Goals as goal
 
 pub returns-in_err-line : goal.returns-in_err-line
-returns-in_err-line c = record {
-  answer = rw c.from_residual.ensures (file-fault c.first_line.result.0.now c.first_line.result.1.now _ (c.lines_are_one.ensures.cut c.first_line.result.1.now)
-      c.loop-left.invariant.leads c.first_line.ensures.lines c.in_err-line.field-0 c.in_err-line.ensures.answer);
+returns-in_err-line c = let p = err_from_is_err_and c.from_residual.result c.from_residual.ensures.1 in record {
+  answer = rw (p.1, p.2) (file-fault c.first_line.result.0.now c.first_line.result.1.now _ (c.lines_are_one.ensures.cut c.first_line.result.1.now)
+      c.loop-left.invariant.leads c.first_line.ensures.lines c.in_err-line.field-0.0 c.in_err-line.ensures.answer);
   grown = grown_on c.args.self.now c.loop-left.self c.line.new.self c.loop-left.invariant.grown c.line.ensures.grown;
 }
 
