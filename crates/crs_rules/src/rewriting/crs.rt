@@ -1,10 +1,12 @@
 //! CRSs.
-ghost use Rattle.std.specs.Prelude.{◌≡◌, OnOk};
+ghost use Rattle.std.specs.Prelude.{◌≡◌, ◌&&◌, OnOk};
+ghost use Rattle.std.specs.List.{list_all};
+ghost use Rattle.std.specs.Option.{is_some};
 ghost use Rattle.crs_shape.specs.declared.class.Class.TheVariants as classes;
 ghost use Rattle.crs_value.specs.declared.values.level.Level.TheVariants as levels;
 ghost use Rattle.crs_normal.specs.PartTexts.{axis_text};
-ghost use Rattle.crs_rules.specs.Rewritten.{across, base, compound, geodetic, has_own_unit, is_idle, named, projected};
-ghost use Rattle.crs_rules.specs.Rewritten.{renamed, rewritten, vertical};
+ghost use Rattle.crs_rules.specs.Rewritten.{across, base, compound, counted, geodetic, geoid_models, has_own_unit, is_idle, named};
+ghost use Rattle.crs_rules.specs.Rewritten.{projected, renamed, rewritten, units, vertical};
 ghost use Rattle.crs_rules.specs.Rules.{meaning};
 
 use crate::aliases::first_name;
@@ -15,7 +17,8 @@ use crate::rewriting::{Part, rewrite_each, rewrite_part};
 use crate::rules::Rules;
 use crs_shape::Class;
 use crs_value::{
-    Base, Compound, Crs, Geodetic, GeoidModel, Horizontal, Meridian, Parameter, Projected, Vertical,
+    Base, Compound, Crs, Geodetic, GeoidModel, Horizontal, List, Meridian, Parameter, Projected,
+    Unit, Vertical,
 };
 use std::alloc::{AllocError, Global};
 
@@ -40,11 +43,34 @@ fn has_own_unit(meridian: &Option<Meridian<'_>>) -> bool
     }
 }
 
+fn have_own_units(parameters: &[Parameter<'_>]) -> bool
+    ensures { result ≡ list_all (λ p. is_some p.unit) parameters.now }
+{
+    for parameter in parameters {
+        if parameter.unit.is_none() {
+            return false;
+        }
+    }
+    true
+}
+
 // Whether the unit of a base CRS says nothing: its prime meridian and these parameters have their own.
 fn is_idle(meridian: &Option<Meridian<'_>>, parameters: &[Parameter<'_>]) -> bool
     ensures { result ≡ is_idle meridian.now parameters.now }
 {
-    has_own_unit(meridian) && parameters.iter().all(|parameter| parameter.unit.is_some())
+    has_own_unit(meridian) && have_own_units(parameters)
+}
+
+// The unit of a base CRS, unless it doesn't count.
+fn base_unit<'a>(unit_or_none: &mut Option<Unit<'a>>, idle: bool, rules: &'a Rules)
+    ensures { unit_or_none.new ≡ counted (rules.now.uncounted.base_units && idle)
+        (units (meaning rules.now) unit_or_none.old) }
+{
+    if rules.uncounted.base_units && idle {
+        *unit_or_none = None;
+    } else {
+        rewrite_part(unit_or_none, rules);
+    }
 }
 
 fn base<'a>(alloc: Global, value: &mut Base<'a>, idle: bool, rules: &'a Rules)
@@ -54,11 +80,7 @@ fn base<'a>(alloc: Global, value: &mut Base<'a>, idle: bool, rules: &'a Rules)
     dynamics(&mut value.dynamic, rules);
     rewrite_frame(alloc, &mut value.frame, GEODETIC, rules);
     rewrite_part(&mut value.meridian, rules);
-    if rules.uncounted.base_units && idle {
-        value.unit = None;
-    } else {
-        rewrite_part(&mut value.unit, rules);
-    }
+    base_unit(&mut value.unit, idle, rules);
 }
 
 // Whether the unit of the base CRS says nothing.
@@ -88,6 +110,16 @@ impl<'a> Part<'a> for GeoidModel<'a> {
     }
 }
 
+fn geoid_models<'a>(models: &mut List<GeoidModel<'a>>, rules: &'a Rules)
+    ensures { models.new ≡ geoid_models (meaning rules.now) models.old }
+{
+    if rules.uncounted.geoid_models {
+        models.clear();
+    } else {
+        rewrite_each(models, rules);
+    }
+}
+
 fn vertical<'a>(alloc: Global, value: &mut Vertical<'a>, rules: &'a Rules)
     ensures { value.new ≡ vertical (meaning rules.now) value.old }
 {
@@ -95,12 +127,8 @@ fn vertical<'a>(alloc: Global, value: &mut Vertical<'a>, rules: &'a Rules)
     dynamics(&mut value.dynamic, rules);
     rewrite_frame(alloc, &mut value.frame, VERTICAL, rules);
     system(&mut value.system, rules);
+    geoid_models(&mut value.geoid_models, rules);
     tail(&mut value.tail, rules);
-    if rules.uncounted.geoid_models {
-        value.geoid_models.clear();
-    } else {
-        rewrite_each(&mut value.geoid_models, rules);
-    }
 }
 
 // The horizontal part of a compound CRS.

@@ -6,11 +6,14 @@ ghost use Rattle.std.specs.Ordering.{nat_cmp};
 ghost use Rattle.std.specs.declared.cmp.Ordering.TheVariants.{Greater};
 ghost use Rattle.crs_value.specs.declared.values.level.Level.TheVariants as levels;
 ghost use Rattle.crs_normal.specs.PartTexts.{axis_text};
-ghost use Rattle.crs_rules.specs.Rewritten.{arranged, arranged_across, arranged_compound, arranged_crs, ascending};
+ghost use Rattle.crs_rules.specs.Rewritten.{arranged, arranged_across, arranged_compound, arranged_crs};
+ghost use Rattle.crs_rules.specs.Rewritten.{arranged_geodetic, arranged_projected, arranged_vertical, ascending};
 ghost use Rattle.crs_rules.specs.Sinking.{IsOrderless, IsOrderlessAcross, IsOrderlessCrs, sunk_from};
 
 use crs_canon::Canonical;
-use crs_value::{Axis, Compound, Crs, Horizontal, Level, List, System};
+use crs_value::{
+    Axis, Compound, Crs, Geodetic, Horizontal, Level, List, Projected, System, Vertical,
+};
 use std::alloc::{AllocError, Global};
 use std::cmp::Ordering;
 use std::marker::Model;
@@ -116,6 +119,30 @@ fn arrange(alloc: Global, system: &mut System<'_>) -> Result<(), AllocError>
     Ok(())
 }
 
+fn arrange_geodetic(alloc: Global, value: &mut Geodetic<'_>) -> Result<(), AllocError>
+    requires { IsOrderless value.old.system }
+    ensures ok { OnOk result (value.new ≡ arranged_geodetic (axis_text levels.Full) value.old) }
+    ensures err { OnErr result (value.new ≡ value.old) }
+{
+    arrange(alloc, &mut value.system)
+}
+
+fn arrange_projected(alloc: Global, value: &mut Projected<'_>) -> Result<(), AllocError>
+    requires { IsOrderless value.old.system }
+    ensures ok { OnOk result (value.new ≡ arranged_projected (axis_text levels.Full) value.old) }
+    ensures err { OnErr result (value.new ≡ value.old) }
+{
+    arrange(alloc, &mut value.system)
+}
+
+fn arrange_vertical(alloc: Global, value: &mut Vertical<'_>) -> Result<(), AllocError>
+    requires { IsOrderless value.old.system }
+    ensures ok { OnOk result (value.new ≡ arranged_vertical (axis_text levels.Full) value.old) }
+    ensures err { OnErr result (value.new ≡ value.old) }
+{
+    arrange(alloc, &mut value.system)
+}
+
 // The horizontal part of a compound CRS.
 fn arrange_across(alloc: Global, horizontal: &mut Horizontal<'_>) -> Result<(), AllocError>
     requires { IsOrderlessAcross horizontal.old }
@@ -123,8 +150,8 @@ fn arrange_across(alloc: Global, horizontal: &mut Horizontal<'_>) -> Result<(), 
     ensures err { OnErr result (horizontal.new ≡ horizontal.old) }
 {
     match horizontal {
-        Horizontal::Geodetic(found) => arrange(alloc, &mut found.system),
-        Horizontal::Projected(found) => arrange(alloc, &mut found.system),
+        Horizontal::Geodetic(found) => arrange_geodetic(alloc, found),
+        Horizontal::Projected(found) => arrange_projected(alloc, found),
     }
 }
 
@@ -134,7 +161,7 @@ fn arrange_compound(alloc: Global, value: &mut Compound<'_>) -> Result<(), Alloc
     ensures { OnOk result (value.new ≡ arranged_compound (axis_text levels.Full) value.old) }
 {
     arrange_across(alloc, &mut value.horizontal)?;
-    arrange(alloc, &mut value.vertical.system)
+    arrange_vertical(alloc, &mut value.vertical)
 }
 
 // Puts the axes of a CRS that have no orders in order of their texts. Out of memory nothing is said of it.
@@ -143,9 +170,9 @@ pub(super) fn arrange_crs(alloc: Global, crs: &mut Crs<'_>) -> Result<(), AllocE
     ensures { OnOk result (crs.new ≡ arranged_crs (axis_text levels.Full) crs.old) }
 {
     match crs {
-        Crs::Geodetic(found) => arrange(alloc, &mut found.system),
-        Crs::Projected(found) => arrange(alloc, &mut found.system),
-        Crs::Vertical(found) => arrange(alloc, &mut found.system),
+        Crs::Geodetic(found) => arrange_geodetic(alloc, found),
+        Crs::Projected(found) => arrange_projected(alloc, found),
+        Crs::Vertical(found) => arrange_vertical(alloc, found),
         Crs::Compound(found) => arrange_compound(alloc, found),
     }
 }
