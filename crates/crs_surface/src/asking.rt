@@ -115,9 +115,15 @@ pub fn hash_of<T: Hash>(value: &T) -> u64 {
 /// Whether no value was made, but this refusal.
 pub fn is_refused_at<T: Drop>(made: Result<T, Fault>, number: u8, place: usize) -> bool {
     match made {
-        Err(Fault::Refused(refusal)) => is_refusal_of(&refusal, number, place),
-        Err(Fault::Memory(_error)) => false,
         Ok(_value) => false,
+        Err(fault) => is_refused(&fault, number, place),
+    }
+}
+
+fn is_refused(fault: &Fault, number: u8, place: usize) -> bool {
+    match fault {
+        Fault::Refused(refusal) => is_refusal_of(refusal, number, place),
+        Fault::Memory(_error) => false,
     }
 }
 
