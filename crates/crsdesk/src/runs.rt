@@ -134,21 +134,33 @@ fn status_of(summary: Summary) -> u8 {
     u8::from(summary.refused > 0)
 }
 
-// A task at its level, under rules where there are some. They are lent: a function that owns rules is slow to prove.
+// A task at its level. Rules are lent to what it asks: a function that owns them is slow to prove.
 #[derive(Clone, Copy)]
 struct TaskAt<'a> {
     rt: &'a HostRuntime,
     task: &'a Task,
     level: Level,
-    rules: Option<&'a Rules>,
 }
 
 impl TaskAt<'_> {
-    // What the task asks of files.
-    fn files(self, names: &[LineWord]) -> Result<u8, Fault> {
+    // What the task asks of files, or else of texts.
+    fn answer(
+        self,
+        are_files: bool,
+        words: &[LineWord],
+        rules: Option<&Rules>,
+    ) -> Result<u8, Fault> {
+        if are_files {
+            return self.files(words, rules);
+        }
+        self.texts(words, rules)
+    }
+
+    // What the task asks of files, under rules where there are some.
+    fn files(self, names: &[LineWord], rules: Option<&Rules>) -> Result<u8, Fault> {
         let (rt, level) = (self.rt, self.level);
-        let each = match (self.task, self.rules) {
-            (Task::Same(_), _) | (Task::ExplainPair(_), _) => return self.two_files(names),
+        let each = match (self.task, rules) {
+            (Task::Same(_), _) | (Task::ExplainPair(_), _) => return self.two_files(names, rules),
             (Task::Explain(options), _) => FileTask::Explain(manner_of(options)),
             (Task::Check, _) => FileTask::Check,
             (Task::CheckLines, _) => FileTask::CheckLines,
@@ -167,29 +179,29 @@ impl TaskAt<'_> {
     }
 
     // What the task asks of the texts of two files: a request for two names two. The faults of both are told.
-    fn two_files(self, names: &[LineWord]) -> Result<u8, Fault> {
+    fn two_files(self, names: &[LineWord], rules: Option<&Rules>) -> Result<u8, Fault> {
         let [first, second, ..] = names else {
             return Err(Fault::Told);
         };
         let first = file_text(self.rt, first.as_str());
         let second = file_text(self.rt, second.as_str());
-        self.two_texts(&first?, &second?)
+        self.two_texts(&first?, &second?, rules)
     }
 
     // What the task asks of texts.
-    fn texts(self, texts: &[LineWord]) -> Result<u8, Fault> {
+    fn texts(self, texts: &[LineWord], rules: Option<&Rules>) -> Result<u8, Fault> {
         match (self.task, texts) {
             (Task::Explain(options), [text]) => explain_text(self.rt, manner_of(options), text),
             (_, [first, second, ..]) => {
                 let (first, second) = (text_of(self.rt, first), text_of(self.rt, second));
-                self.two_texts(first, second)
+                self.two_texts(first, second, rules)
             }
             _ => Err(Fault::Told),
         }
     }
 
-    fn two_texts(self, a: &[u8], b: &[u8]) -> Result<u8, Fault> {
-        let (rt, level, rules) = (self.rt, self.level, self.rules);
+    fn two_texts(self, a: &[u8], b: &[u8], rules: Option<&Rules>) -> Result<u8, Fault> {
+        let (rt, level) = (self.rt, self.level);
         match self.task {
             Task::ExplainPair(options) => explain_texts(rt, options, level, rules, a, b),
             _ => same_texts(rt, level, rules, a, b),
@@ -207,18 +219,12 @@ fn under(
     names: &[LineWord],
 ) -> Result<u8, Fault> {
     let level = judged_level(rt, task)?;
-    let read = rules_of(rt, names)?;
-    let rules = if names.is_empty() { None } else { Some(&read) };
-    let asked = TaskAt {
-        rt,
-        task,
-        level,
-        rules,
-    };
-    if are_files {
-        return asked.files(words);
+    let asked = TaskAt { rt, task, level };
+    if names.is_empty() {
+        return asked.answer(are_files, words, None);
     }
-    asked.texts(words)
+    let rules = rules_of(rt, names)?;
+    asked.answer(are_files, words, Some(&rules))
 }
 
 // Whether two texts spell the same CRS, or the same under rules.
