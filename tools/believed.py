@@ -40,6 +40,8 @@ HEAD = re.compile(r"^(\s*)((?:(?:abbrev|unfoldable|pub|mutual)\s+)*)(record\s+|d
 CLAUSE = re.compile(r"\b(requires|ensures)\*?\s*(?:\w+\s*)?\{|\bghost\s+(\w+)\s*[:=]\s*\{")
 FUNCTION = re.compile(r"(?m)^([ \t]*)(pub )?(?:unsafe )?(?:extern \"C\" )?fn (\w+)")
 IMPL = re.compile(r"(?m)^(pub(?:\(crate\))? )?(impl|trait)\b([^{]*)\{")
+# The traits whose impls say of a public type what calls promise that take any type of the trait.
+BELIEVED_TRAITS = ("Model", "PartialEq", "Hash", "Answer", "TextCommand", "Telling")
 # What an impl says of a type's fields, which a reader needn't believe: callers see values by the clauses of calls.
 OF_ITS_FIELDS = ("view", "invariant", "inverse", "inverse_ok", "coded", "laws", "respects_eq")
 
@@ -223,7 +225,7 @@ def clauses_of_impl(shown: str, kind: str, head: str, body: str, names: set[str]
         if re.split(r"\W", plain)[0] in names and shown != "pub(crate) ":
             yield from ((f"trait {plain}", clause) for clause in clauses(body))
     elif of:
-        if trait == "Canonical" or (trait in ("Model", "PartialEq", "Hash") and of in names):
+        if trait == "Canonical" or (trait in BELIEVED_TRAITS and of in names):
             yield from ((plain, clause) for clause in clauses(body))
     elif plain and plain.split()[0] in names:
         for is_public, name, its_head, _ in functions(body):

@@ -3,13 +3,11 @@
 //! error.
 #![tactic(auto)]
 
-mod entry;
 mod stages;
 mod timing;
 
 use anyhow::{Context, Result, ensure};
-use entry::{Entry, Measure, entries_of};
-use stages::{Kind, STAGES, Stage};
+use stages::{Entry, STAGES, Stage, Step};
 use std::alloc::{AllocError, Global};
 use std::rt::{Clock, Files};
 use std::{fs, io};
@@ -85,42 +83,49 @@ fn report(
     rounds: u32,
     texts: &[&[u8]],
 ) -> io::Result<()> {
-    match stage.2 {
-        Kind::Text(measure) => report_by(rt, stage, measure, rounds, texts),
-        Kind::Items(measure) => report_by(rt, stage, measure, rounds, texts),
-        Kind::Value(measure) => report_by(rt, stage, measure, rounds, texts),
-    }
+    let entries = entries_of(rt.alloc(), stage.2, texts)?;
+    report_entries(rt, stage, rounds, &entries)
 }
 
-fn report_by<'t, T: Drop, M: Measure<'t, T> + Copy>(
+// What a stage is given, text by text. A function that owns it and does more is slow to prove.
+fn entries_of<'t>(
+    alloc: Global,
+    step: Step,
+    texts: &[&'t [u8]],
+) -> Result<Vec<Entry<'t>>, AllocError> {
+    let mut entries = Vec::with_capacity(alloc, texts.len())?;
+    for text in texts {
+        entries.push(step.entry(alloc, text)?)?;
+    }
+    Ok(entries)
+}
+
+fn report_entries(
     rt: &(impl Clock + Print + Eprint + AllocGlobal),
     stage: Stage<'_>,
-    measure: M,
     rounds: u32,
-    texts: &[&'t [u8]],
+    entries: &[Entry<'_>],
 ) -> io::Result<()> {
-    let entries = entries_of(rt.alloc(), measure, texts)?;
     if stage.grows() {
         for smaller in SMALLER {
             if smaller < entries.len()
                 && let Some(first) = entries.get(..smaller)
             {
-                report_of(rt, stage, measure, rounds, first)?;
+                report_of(rt, stage, rounds, first)?;
             }
         }
     }
-    report_of(rt, stage, measure, rounds, &entries)
+    report_of(rt, stage, rounds, entries)
 }
 
-fn report_of<'t, T: Drop, M: Measure<'t, T> + Copy>(
+fn report_of(
     rt: &(impl Clock + Print + Eprint + AllocGlobal),
     stage: Stage<'_>,
-    measure: M,
     rounds: u32,
-    entries: &[Entry<'t, T>],
+    entries: &[Entry<'_>],
 ) -> io::Result<()> {
-    let timing = timed(rt, measure, rounds, entries)?;
-    let Stage(name, counted, _kind) = stage;
+    let Stage(name, counted, step) = stage;
+    let timing = timed(rt, step, rounds, entries)?;
     let tally = timing.tally;
     let count = tally.counted;
     println!(rt; "{name}: {tally}, {count} {counted}")?;

@@ -1,6 +1,6 @@
 //! What a stage comes to, and how long it takes.
 
-use crate::entry::{Entry, Measure, accepted};
+use crate::stages::{Entry, Step};
 use crs_group::Catalogue;
 use crs_value::Level;
 use std::alloc::{AllocError, Global};
@@ -52,17 +52,17 @@ pub struct Timing {
 }
 
 /// Runs a stage over all entries so many times.
-pub fn timed<'t, T: Drop, M: Measure<'t, T> + Copy>(
+pub fn timed(
     rt: &(impl Clock + AllocGlobal),
-    measure: M,
+    step: Step,
     rounds: u32,
-    entries: &[Entry<'t, T>],
+    entries: &[Entry<'_>],
 ) -> io::Result<Timing> {
     let start = Instant::now(rt)?;
     let mut tally = Tally::default();
     for round in 0..rounds {
         let mut before = Catalogue::new(rt.alloc(), Level::Full);
-        tally = tally_of(rt.alloc(), measure, entries, &mut before)?;
+        tally = tally_of(rt.alloc(), step, entries, &mut before)?;
     }
     let time = start.elapsed(rt)?;
     Ok(Timing {
@@ -72,20 +72,16 @@ pub fn timed<'t, T: Drop, M: Measure<'t, T> + Copy>(
     })
 }
 
-fn tally_of<'t, T: Drop, M: Measure<'t, T> + Copy>(
+fn tally_of(
     alloc: Global,
-    measure: M,
-    entries: &[Entry<'t, T>],
+    step: Step,
+    entries: &[Entry<'_>],
     before: &mut Catalogue,
 ) -> Result<Tally, AllocError> {
     let mut tally = Tally::default();
     for (index, entry) in entries.iter().enumerate() {
         let next = entries.get(index.saturating_add(1)).unwrap_or(entry);
-        let counted = match &entry.given {
-            Some(given) => accepted(measure.outcome(alloc, entry.text, given, next, before))?,
-            None => None,
-        };
-        tally.add(entry.text, counted);
+        tally.add(entry.text, step.outcome(entry, next, alloc, before)?);
     }
     Ok(tally)
 }

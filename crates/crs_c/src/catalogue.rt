@@ -6,15 +6,14 @@ ghost use Rattle.crs_calls.specs.Catalogues.{IsAdded, IsAddedUnder, IsMadeEmpty,
 ghost use Rattle.crs_calls.specs.Held.{HeldParts};
 ghost use Rattle.crs_c.specs.Places.{catalogue_at, has_room, rules_at};
 
-use crate::rules::RulesRoom;
 use crs_calls::{
     HeldRules, Numbered, Piece, Standing, added, added_under, counted, cut, let_go, looked_up, made,
 };
 use crs_group::Catalogue;
 use std::alloc::Global;
 
-/// The front of `struct crsdesk_catalogue` of C, which holds a catalogue. How many words C has there is in the header
-/// alone; `layout.c` compares them with what a catalogue takes. Profile.
+/// The front of `struct crsdesk_catalogue` of C, which holds a catalogue, or of `struct crsdesk_rules`, which holds rules.
+/// How many words C has there is in the header alone; `layout.c` compares them with what a catalogue and rules take. Profile.
 #[repr(C)]
 pub struct Room {
     hidden: u64,
@@ -57,7 +56,7 @@ pub unsafe extern "C" fn crsdesk_catalogue_add(at: *mut Room, number: u64, text:
 #[unsafe(no_mangle)]
 pub unsafe extern "C" fn crsdesk_catalogue_add_under(
     at: *mut Room,
-    rules: *mut RulesRoom,
+    rules: *mut Room,
     number: u64,
     text: &[u8],
 ) -> Standing

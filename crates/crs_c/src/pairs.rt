@@ -5,7 +5,8 @@ ghost use Rattle.crs_calls.specs.FirstPart.{IsPartAnswer};
 ghost use Rattle.crs_calls.specs.PieceBuffers.{buffers_of};
 ghost use Rattle.crs_calls.specs.Same.{IsSameAnswer};
 
-use crs_calls::{NO_LEVEL, Refused, differences_at, level_numbered, part_at, pieces_at, same_at};
+use crs_calls::pieces::{DifferencePieces, FirstPart, Lines, Sameness, made_of_both};
+use crs_calls::{NO_LEVEL, OK, Refused, give, give_pieces, level_numbered};
 use std::alloc::Global;
 
 /// Whether two texts spell the same CRS at a level.
@@ -27,7 +28,13 @@ pub extern "C" fn crsdesk_same(
         (record { answer = is_same.new; refused = refused.new })
         result }
 {
-    at_level!(level => same_at(alloc, first, second, level, is_same, refused))
+    at_level!(level => match made_of_both(alloc, Sameness(level), first, second, refused) {
+        Ok(found) => {
+            *is_same = u32::from(found);
+            OK
+        }
+        Err(code) => code,
+    })
 }
 
 /// The first part in which the CRSs of two texts differ at a level: the words of its path, with `/` between them; no
@@ -52,7 +59,10 @@ pub extern "C" fn crsdesk_first_part(
         (record { answer = record { items = out.new; told = length.new }; refused = refused.new })
         result }
 {
-    at_level!(level => part_at(alloc, first, second, level, out, length, refused))
+    at_level!(level => match made_of_both(alloc, FirstPart(level), first, second, refused) {
+        Ok(told) => give(&told, out, length),
+        Err(code) => code,
+    })
 }
 
 /// All parts in which the CRSs of two texts differ at a level, a line each: the path, and the values in the first and
@@ -77,7 +87,10 @@ pub extern "C" fn crsdesk_differences(
         (record { answer = record { items = out.new; told = length.new }; refused = refused.new })
         result }
 {
-    at_level!(level => differences_at(alloc, first, second, level, out, length, refused))
+    at_level!(level => match made_of_both(alloc, Lines(level), first, second, refused) {
+        Ok(told) => give(&told, out, length),
+        Err(code) => code,
+    })
 }
 
 /// All parts in which the CRSs of two texts differ at a level, three pieces each: the path, and the values in the first
@@ -106,5 +119,8 @@ pub extern "C" fn crsdesk_difference_pieces(
         (record { answer = buffers_of out.new length.new ends.new count.new; refused = refused.new })
         result }
 {
-    at_level!(level => pieces_at(alloc, first, second, level, out, length, ends, count, refused))
+    at_level!(level => match made_of_both(alloc, DifferencePieces(level), first, second, refused) {
+        Ok(told) => give_pieces(&told, out, length, ends, count),
+        Err(code) => code,
+    })
 }

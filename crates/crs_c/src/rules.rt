@@ -5,21 +5,15 @@ ghost use Rattle.crs_calls.specs.RulesCalls.{IsFileRead, IsFormed};
 ghost use Rattle.crs_calls.specs.Pieces.{IsPiece};
 ghost use Rattle.crs_c.specs.Places.{has_room_for_rules, rules_at};
 
+use crate::catalogue::Room;
 use crs_calls::{
     Form, HeldRules, Piece, RulesStanding, cut_form, formed, let_go_rules, no_rules, with_file,
 };
 use std::alloc::Global;
 
-/// The front of `struct crsdesk_rules` of C, which holds rules. How many words C has there is in the header alone;
-/// `layout.c` compares them with what rules take. Profile.
-#[repr(C)]
-pub struct RulesRoom {
-    hidden: u64,
-}
-
 /// Makes no rules: everything counts. They take no memory. Profile.
 #[unsafe(no_mangle)]
-pub unsafe extern "C" fn crsdesk_rules_new(alloc: Global, at: *mut RulesRoom)
+pub unsafe extern "C" fn crsdesk_rules_new(alloc: Global, at: *mut Room)
     requires* { sem 𝓛 (has_room_for_rules at) }
     ensures* { sem 𝓛 (rules_at at nothing_held) }
 {
@@ -32,7 +26,7 @@ pub unsafe extern "C" fn crsdesk_rules_new(alloc: Global, at: *mut RulesRoom)
 /// number of its first refused line, the number of the refusal and its place in the line; 3: memory was refused. With
 /// both all is as before. With code 0 no form is kept. Profile.
 #[unsafe(no_mangle)]
-pub unsafe extern "C" fn crsdesk_rules_add(at: *mut RulesRoom, text: &[u8]) -> RulesStanding
+pub unsafe extern "C" fn crsdesk_rules_add(at: *mut Room, text: &[u8]) -> RulesStanding
     ghost held: { HeldParts }
     requires* { sem 𝓛 (rules_at at held) }
     ensures* { ∃ₛ (λ (new : HeldParts). sem 𝓛 (rules_at at new) ∗ ⌜ IsFileRead text.now held new result ⌝) }
@@ -48,7 +42,7 @@ pub unsafe extern "C" fn crsdesk_rules_add(at: *mut RulesRoom, text: &[u8]) -> R
 /// many bytes; 1: the text spells no CRS, and `refused` says why; 3: memory was refused; 4: there is no such level. With
 /// another code than 0 the form before it is still kept. Profile.
 #[unsafe(no_mangle)]
-pub unsafe extern "C" fn crsdesk_rules_form(at: *mut RulesRoom, level: u32, text: &[u8]) -> Form
+pub unsafe extern "C" fn crsdesk_rules_form(at: *mut Room, level: u32, text: &[u8]) -> Form
     ghost held: { HeldParts }
     requires* { sem 𝓛 (rules_at at held) }
     ensures* { ∃ₛ (λ (new : HeldParts). sem 𝓛 (rules_at at new) ∗ ⌜ IsFormed level text.now held new result ⌝) }
@@ -62,7 +56,7 @@ pub unsafe extern "C" fn crsdesk_rules_form(at: *mut RulesRoom, level: u32, text
 
 /// A piece of the form that is kept: its bytes from an index on, 240 at most, none after its end. Code 0. Profile.
 #[unsafe(no_mangle)]
-pub unsafe extern "C" fn crsdesk_rules_piece(at: *mut RulesRoom, from: usize) -> Piece
+pub unsafe extern "C" fn crsdesk_rules_piece(at: *mut Room, from: usize) -> Piece
     ghost held: { HeldParts }
     requires* { sem 𝓛 (rules_at at held) }
     ensures* { sem 𝓛 (rules_at at held) ∗ ⌜ IsPiece from result held.form ⌝ }
@@ -76,7 +70,7 @@ pub unsafe extern "C" fn crsdesk_rules_piece(at: *mut RulesRoom, from: usize) ->
 
 /// Gives back what rules hold. Their memory holds no rules then.
 #[unsafe(no_mangle)]
-pub unsafe extern "C" fn crsdesk_rules_free(at: *mut RulesRoom)
+pub unsafe extern "C" fn crsdesk_rules_free(at: *mut Room)
     ghost held: { HeldParts }
     requires* { sem 𝓛 (rules_at at held) }
     ensures* { sem 𝓛 (has_room_for_rules at) }

@@ -6,10 +6,14 @@ ghost use Rattle.crs_calls.specs.Explain.{IsExplainAnswer};
 ghost use Rattle.crs_calls.specs.ExplainPieces.{IsRefusalPiecesAnswer};
 ghost use Rattle.crs_calls.specs.PieceBuffers.{buffers_of};
 
-use crs_calls::{
-    Entry, Explained, NO_LEVEL, Refused, canon_at, check_text, each_at, explain_in_pieces,
-    explain_text, level_numbered,
+use crs_calls::pieces::{
+    answer_entries, explained_refusal, explanation, give_explanation, kind_number, kind_of_text,
+    tell,
 };
+use crs_calls::{
+    Entry, Explained, NO_LEVEL, NO_MEMORY, OK, REFUSED, Refused, give, level_numbered,
+};
+use crs_canon::canon;
 use std::alloc::Global;
 
 /// Whether a text spells a CRS, and of which kind; no value is built.
@@ -18,6 +22,7 @@ use std::alloc::Global;
 /// refused. What a code doesn't mention is as before. ISO 19162:2019, "Coordinate reference systems"; the checks are
 /// the profile's.
 #[unsafe(no_mangle)]
+#[tactic(auto, unfolding(crs_calls::specs::Check::IsCheckAnswer))]
 pub extern "C" fn crsdesk_check(
     alloc: Global,
     text: &[u8],
@@ -29,7 +34,13 @@ pub extern "C" fn crsdesk_check(
         (record { answer = kind.new; refused = refused.new })
         result }
 {
-    check_text(alloc, text, kind, refused)
+    match kind_of_text(alloc, text) {
+        Ok(found) => {
+            *kind = kind_number(found);
+            OK
+        }
+        Err(fault) => tell(fault, REFUSED, refused),
+    }
 }
 
 /// Why a text spells no CRS, over some lines: its refusal, the line and column, the piece of the line with a caret,
@@ -38,6 +49,7 @@ pub extern "C" fn crsdesk_check(
 /// 0: the explanation is at the front of `out`; `length` is its number of bytes. 3: memory was refused. 5: it has
 /// more bytes than `out`; `length` is their number. What a code doesn't mention is as before. Profile.
 #[unsafe(no_mangle)]
+#[tactic(auto, unfolding(crs_calls::specs::Explain::IsExplainAnswer))]
 pub extern "C" fn crsdesk_explain(
     alloc: Global,
     text: &[u8],
@@ -49,7 +61,10 @@ pub extern "C" fn crsdesk_explain(
         (record { items = out.new; told = length.new })
         result }
 {
-    explain_text(alloc, text, out, length)
+    match explanation(alloc, text) {
+        Ok(told) => give(&told, out, length),
+        Err(_) => NO_MEMORY,
+    }
 }
 
 /// Why a text spells no CRS, in pieces: the piece of the line with a caret, in two lines; for 11 to 13, 21 and 25 the
@@ -63,6 +78,7 @@ pub extern "C" fn crsdesk_explain(
 /// `out` or more pieces than `ends` has room for; `length` and `count` are their numbers, and a buffer with the room has
 /// what it has with 1. What a code doesn't mention is as before. Profile.
 #[unsafe(no_mangle)]
+#[tactic(auto, unfolding(crs_calls::specs::ExplainPieces::IsRefusalPiecesAnswer, crs_calls::specs::ExplainPieces::IsRefusalExplained))]
 pub extern "C" fn crsdesk_refusal_pieces(
     alloc: Global,
     text: &[u8],
@@ -77,7 +93,13 @@ pub extern "C" fn crsdesk_refusal_pieces(
         (record { buffers = buffers_of out.new length.new ends.new count.new; explained = explained.new })
         result }
 {
-    explain_in_pieces(alloc, text, out, length, ends, count, explained)
+    match explained_refusal(alloc, text) {
+        Ok(Some((refusal, told))) => {
+            give_explanation(refusal, &told, out, length, ends, count, explained)
+        }
+        Ok(None) => OK,
+        Err(_) => NO_MEMORY,
+    }
 }
 
 /// The canonical text, at a level, of the CRS that a text spells.
@@ -86,6 +108,7 @@ pub extern "C" fn crsdesk_refusal_pieces(
 /// why. 3: memory was refused. 4: there is no such level. 5: the canonical text has more bytes than `out`; `length`
 /// is their number. What a code doesn't mention is as before. Profile.
 #[unsafe(no_mangle)]
+#[tactic(auto, unfolding(crs_calls::specs::Canon::IsCanonAt))]
 pub extern "C" fn crsdesk_canon(
     alloc: Global,
     text: &[u8],
@@ -99,7 +122,10 @@ pub extern "C" fn crsdesk_canon(
         (record { answer = record { items = out.new; told = length.new }; refused = refused.new })
         result }
 {
-    at_level!(level => canon_at(alloc, text, level, out, length, refused))
+    at_level!(level => match canon(alloc, text, level) {
+        Ok(canonical) => give(canonical.bytes(), out, length),
+        Err(fault) => tell(fault, REFUSED, refused),
+    })
 }
 
 /// The canonical texts, at a level, of many texts in one buffer, written one after the other into another. The text of
@@ -111,6 +137,7 @@ pub extern "C" fn crsdesk_canon(
 /// text ends at `written_end`, or 1, and they say why their text spells no CRS. All others, the rest of `out` and what
 /// the caller sets are as before. Profile.
 #[unsafe(no_mangle)]
+#[tactic(auto, unfolding(crs_calls::specs::Each::IsEachAt))]
 pub extern "C" fn crsdesk_canon_each(
     alloc: Global,
     texts: &[u8],
@@ -124,5 +151,9 @@ pub extern "C" fn crsdesk_canon_each(
         (record { entries = entries.new; out = out.new; done = done.new })
         result }
 {
-    at_level!(level => each_at(alloc, texts, entries, level, out, done))
+    at_level!(level => {
+        let (count, code) = answer_entries(alloc, texts, entries, level, out);
+        *done = count;
+        code
+    })
 }

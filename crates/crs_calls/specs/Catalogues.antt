@@ -5,8 +5,7 @@ use Rattle.std.specs.Option.{option_map}
 use Rattle.crs_value.specs.declared.values.level.Level.{Level}
 use Rattle.crs_value.specs.declared.values.level.Level.TheVariants as level
 use Rattle.crs_placed.specs.Catalogue.{CatalogueParts, Line, line_of, nth}
-use Rattle.crs_catalogue.specs.GroupTexts.{IsCatalogue, IsCatalogueOf, then_line}
-use Rattle.crs_catalogue.specs.Partition.{PlacedLine}
+use Rattle.crs_catalogue.specs.GroupTexts.{IsCatalogue, IsCatalogueOf, then_line, PlacedLine}
 use Rattle.crs_catalogue.specs.UnderRules.{IsCatalogueUnder}
 use Rattle.crs_rules.specs.Rules.{RulesParts}
 use Rattle.crs_placed.specs.declared.placed.Placed.{Placed}

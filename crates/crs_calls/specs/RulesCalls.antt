@@ -3,7 +3,7 @@ use Rattle.std.specs.Prelude.{◌≡◌, ◌⊎◌, [], ℕ, List, Option, Some,
 use Rattle.crs_text.specs.Refusal.{RefusedAt}
 use Rattle.crs_value.specs.SpellsText.{Refuses}
 use Rattle.crs_value.specs.declared.values.level.Level.{Level}
-use Rattle.crs_rules.specs.Under.{IsForm}
+use Rattle.crs_rules.specs.Rewritten.{IsForm}
 use Rattle.crs_rules_file.specs.RulesFile.{ReadsFile, RefusesFile}
 use Rattle.crs_rules_file.specs.declared.fault.RulesFault.{RulesFault}
 use Rattle.crs_rules_file.specs.declared.fault.RulesFault.TheVariants as faults

@@ -23,10 +23,10 @@ pub fn give<T: Copy>(answer: &[T], out: &mut [T], length: &mut usize) -> u32
     OK
 }
 
-// Puts the bytes of pieces at the front of a buffer, and where each ends at the front of another, each where it has the
-// room, and answers how many bytes and how many pieces there are.
+/// Puts the bytes of pieces at the front of a buffer, and where each ends at the front of another, each where it has the
+/// room, and answers how many bytes and how many pieces there are.
 #[tactic(auto, unfolding(crate::specs::PieceBuffers::AreGiven))]
-pub(crate) fn give_pieces(
+pub fn give_pieces(
     pieces: &Pieces,
     out: &mut [u8],
     length: &mut usize,

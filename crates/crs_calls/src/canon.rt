@@ -1,39 +1,16 @@
-//! The canonical text of a text, and those of many texts at once.
+//! The canonical texts of many texts at once.
 ghost use Rattle.std.specs.Prelude.{◌≡◌, ◌≤◌, length};
 ghost use Rattle.crs_text.specs.Fault.{refusal_of};
-ghost use Rattle.crs_calls.specs.Canon.{IsCanonAt};
 ghost use Rattle.crs_calls.specs.Each.{IsEachAt, text_of};
 ghost use Rattle.crs_calls.specs.Turns.{IsTurn, IsWritten, refused_entry};
 
 use crate::buffer::give;
 use crate::codes::{NO_MEMORY, OK, REFUSED};
 use crate::piece::{front_of, rest_of};
-use crate::refused::{Refused, tell};
-use crs_canon::{canon, canon_in};
+use crs_canon::canon_in;
 use crs_text::Fault;
 use crs_value::Level;
 use std::alloc::Global;
-
-/// Gives the canonical text of a text.
-#[tactic(auto, unfolding(crate::specs::Canon::IsCanonAt))]
-pub fn canon_at(
-    alloc: Global,
-    text: &[u8],
-    level: Level,
-    out: &mut [u8],
-    length: &mut usize,
-    refused: &mut Refused,
-) -> u32
-    ensures { IsCanonAt level text.now
-        (record { answer = record { items = out.old; told = length.old }; refused = refused.old })
-        (record { answer = record { items = out.new; told = length.new }; refused = refused.new })
-        result }
-{
-    match canon(alloc, text, level) {
-        Ok(canonical) => give(canonical.bytes(), out, length),
-        Err(fault) => tell(fault, REFUSED, refused),
-    }
-}
 
 /// A text of many, and what is answered of it: `struct crsdesk_entry` of C. Profile.
 #[repr(C)]
@@ -53,28 +30,8 @@ pub struct Entry {
     pub code: u32,
 }
 
-/// Answers the entries of many texts, and how many.
-#[tactic(auto, unfolding(crate::specs::Each::IsEachAt))]
-pub fn each_at(
-    alloc: Global,
-    texts: &[u8],
-    entries: &mut [Entry],
-    level: Level,
-    out: &mut [u8],
-    done: &mut usize,
-) -> u32
-    ensures { IsEachAt level texts.now
-        (record { entries = entries.old; out = out.old; done = done.old })
-        (record { entries = entries.new; out = out.new; done = done.new })
-        result }
-{
-    let (count, code) = answer_entries(alloc, texts, entries, level, out);
-    *done = count;
-    code
-}
-
-// How many entries are answered, and why no more.
-fn answer_entries(
+/// Answers the entries of many texts: how many, and why no more.
+pub fn answer_entries(
     alloc: Global,
     texts: &[u8],
     entries: &mut [Entry],
@@ -145,12 +102,11 @@ fn written(canonical: &[u8], entry: Entry, out: &mut [u8], at: usize) -> (Entry,
         return (entry, code);
     }
     let entry = Entry {
-        begin: entry.begin,
-        end: entry.end,
         written_end: at + length,
         place: 0,
         number: 0,
         code: OK,
+        ..entry
     };
     (entry, OK)
 }
@@ -161,12 +117,11 @@ fn refused(fault: Fault, entry: Entry, at: usize) -> (Entry, u32)
     match fault.refusal() {
         Some(refusal) => {
             let entry = Entry {
-                begin: entry.begin,
-                end: entry.end,
                 written_end: at,
                 place: refusal.place(),
                 number: u32::from(refusal.number()),
                 code: REFUSED,
+                ..entry
             };
             (entry, OK)
         }

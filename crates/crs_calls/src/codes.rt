@@ -4,13 +4,16 @@ ghost use Rattle.crs_calls.specs.Codes.{kind_number, level_numbered};
 
 use crs_value::{Kind, Level};
 
-pub(crate) const OK: u32 = 0;
+/// There is an answer.
+pub const OK: u32 = 0;
 
-pub(crate) const REFUSED: u32 = 1;
+/// A text is refused, the first of two.
+pub const REFUSED: u32 = 1;
 
 pub(crate) const SECOND_REFUSED: u32 = 2;
 
-pub(crate) const NO_MEMORY: u32 = 3;
+/// Memory was refused.
+pub const NO_MEMORY: u32 = 3;
 
 /// There is no such level.
 pub const NO_LEVEL: u32 = 4;
@@ -20,7 +23,8 @@ pub(crate) const NO_ROOM: u32 = 5;
 /// There is nothing of this number.
 pub const NO_NUMBER: u32 = 6;
 
-pub(crate) fn kind_number(kind: Kind) -> u32
+/// The number by which C knows a kind of CRS.
+pub fn kind_number(kind: Kind) -> u32
     ensures { result ≡ kind_number kind }
 {
     match kind {

@@ -1,51 +1,74 @@
-//! Why a text is refused, explained to a person, and as data.
-ghost use Rattle.std.specs.Prelude.{IfOk};
-ghost use Rattle.crs_value.specs.SpellsText.{IsFaultOfText};
-ghost use Rattle.crs_calls.specs.Explain.{IsExplainAnswer, IsExplanation};
-ghost use Rattle.crs_calls.specs.ExplainPieces.{IsExplanationGiven, IsRefusalExplained, IsRefusalPiecesAnswer};
+//! The kind of the CRS that a text spells, or why it is refused, explained to a person, and as data.
+ghost use Rattle.std.specs.Prelude.{IfOk, MatchOption, MatchResult};
+ghost use Rattle.crs_value.specs.SpellsText.{IsFaultOfText, Refuses, SpellsKind};
+ghost use Rattle.crs_canon.specs.MainTheorem.{IsAccepted};
+ghost use Rattle.crs_explain.specs.Explained.{AreExplainedPieces};
+ghost use Rattle.crs_calls.specs.Explain.{IsExplanation};
+ghost use Rattle.crs_calls.specs.ExplainPieces.{IsExplanationGiven};
 ghost use Rattle.crs_calls.specs.PieceBuffers.{buffers_of};
 
-use crate::buffer::{give, give_pieces};
-use crate::codes::{NO_MEMORY, OK, REFUSED};
+use crate::buffer::give_pieces;
+use crate::codes::{OK, REFUSED};
 use crate::refused::{Refused, place_and_number};
 use crs_explain::{ExplanationPieces, refusal_pieces, refusal_text};
-use crs_text::{Fault, Refusal};
-use crs_value::{laws, read};
+use crs_text::{Fault, Refusal, read_items};
+use crs_value::{Kind, kind_of, laws};
 use std::alloc::{AllocError, Global};
 
-/// Gives the explanation of a refusal; nothing of a text that spells a CRS.
-#[tactic(auto, unfolding(crate::specs::Explain::IsExplainAnswer))]
-pub fn explain_text(alloc: Global, text: &[u8], out: &mut [u8], length: &mut usize) -> u32
-    ensures { IsExplainAnswer text.now
-        (record { items = out.old; told = length.old })
-        (record { items = out.new; told = length.new })
-        result }
+/// The kind of the CRS that a text spells; no value is built.
+pub fn kind_of_text(alloc: Global, text: &[u8]) -> Result<Kind, Fault>
+    ensures { MatchResult result (SpellsKind text.now) (IsFaultOfText text.now) }
 {
-    match explanation(alloc, text) {
-        Ok(told) => give(&told, out, length),
-        Err(_) => NO_MEMORY,
+    match read_items(alloc, text) {
+        Ok(items) => match kind_of(&items) {
+            Ok(kind) => Ok(kind),
+            Err(refusal) => Err(Fault::Refused(refusal)),
+        },
+        Err(fault) => Err(fault),
     }
 }
 
-fn explanation<'t>(alloc: Global, text: &'t [u8]) -> Result<Vec<u8>, AllocError>
-    ensures { IfOk result (λ told. IsExplanation text.now told.items) }
+// The refusal of a text; none where it spells a CRS.
+#[tactic(auto, using(crate::proofs::ExplainLemmas::refused_text))]
+fn refusal_of(alloc: Global, text: &[u8]) -> Result<Option<Refusal>, AllocError>
+    ensures { IfOk result (λ found. MatchOption found (IsAccepted text.now) (Refuses text.now)) }
 {
-    match read(alloc, text) {
-        Ok(_crs) => Ok(Vec::new(alloc)),
-        Err(fault) => fault_explained(alloc, text, fault),
+    match kind_of_text(alloc, text) {
+        Ok(_) => Ok(None),
+        Err(fault) => match fault.refusal() {
+            Some(refusal) => Ok(Some(refusal)),
+            None => Err(AllocError),
+        },
     }
 }
 
-// The explanation of the refusal in a fault of this text.
-fn fault_explained(alloc: Global, text: &[u8], fault: Fault) -> Result<Vec<u8>, AllocError>
-    requires { IsFaultOfText text.now fault }
+/// The explanation of a text's refusal; nothing of a text that spells a CRS.
+pub fn explanation(alloc: Global, text: &[u8]) -> Result<Vec<u8>, AllocError>
     ensures { IfOk result (λ told. IsExplanation text.now told.items) }
 {
-    let Some(refusal) = fault.refusal() else {
-        return Err(AllocError);
-    };
     laws::one_answer();
-    refusal_text(alloc, text, refusal)
+    match refusal_of(alloc, text)? {
+        Some(refusal) => refusal_text(alloc, text, refusal),
+        None => Ok(Vec::new(alloc)),
+    }
+}
+
+/// A text's refusal, and its explanation in pieces; none of a text that spells a CRS.
+pub fn explained_refusal(
+    alloc: Global,
+    text: &[u8],
+) -> Result<Option<(Refusal, ExplanationPieces)>, AllocError>
+    ensures { IfOk result (λ found. MatchOption found (IsAccepted text.now)
+        (λ e. Refuses text.now e.0 × AreExplainedPieces text.now e.0 e.1)) }
+{
+    laws::one_answer();
+    match refusal_of(alloc, text)? {
+        Some(refusal) => {
+            let told = refusal_pieces(alloc, text, refusal)?;
+            Ok(Some((refusal, told)))
+        }
+        None => Ok(None),
+    }
 }
 
 /// A refusal, and where its place is as a person counts: `struct crsdesk_explained` of C. Profile.
@@ -62,58 +85,9 @@ pub struct Explained {
     pub node: usize,
 }
 
-/// Gives the explanation of a refusal in pieces; nothing of a text that spells a CRS.
-#[tactic(auto, unfolding(crate::specs::ExplainPieces::IsRefusalPiecesAnswer, crate::specs::ExplainPieces::IsRefusalExplained))]
-pub fn explain_in_pieces(
-    alloc: Global,
-    text: &[u8],
-    out: &mut [u8],
-    length: &mut usize,
-    ends: &mut [usize],
-    count: &mut usize,
-    explained: &mut Explained,
-) -> u32
-    ensures { IsRefusalPiecesAnswer text.now
-        (record { buffers = buffers_of out.old length.old ends.old count.old; explained = explained.old })
-        (record { buffers = buffers_of out.new length.new ends.new count.new; explained = explained.new })
-        result }
-{
-    match read(alloc, text) {
-        Ok(_crs) => OK,
-        Err(fault) => fault_in_pieces(alloc, text, fault, out, length, ends, count, explained),
-    }
-}
-
-// The explanation of the refusal in a fault of this text.
-#[tactic(auto, unfolding(crate::specs::ExplainPieces::IsRefusalExplained))]
-fn fault_in_pieces(
-    alloc: Global,
-    text: &[u8],
-    fault: Fault,
-    out: &mut [u8],
-    length: &mut usize,
-    ends: &mut [usize],
-    count: &mut usize,
-    explained: &mut Explained,
-) -> u32
-    requires { IsFaultOfText text.now fault }
-    ensures { IsRefusalExplained text.now
-        (record { buffers = buffers_of out.old length.old ends.old count.old; explained = explained.old })
-        (record { buffers = buffers_of out.new length.new ends.new count.new; explained = explained.new })
-        result }
-{
-    let Some(refusal) = fault.refusal() else {
-        return NO_MEMORY;
-    };
-    laws::one_answer();
-    match refusal_pieces(alloc, text, refusal) {
-        Ok(told) => give_explanation(refusal, &told, out, length, ends, count, explained),
-        Err(_) => NO_MEMORY,
-    }
-}
-
+/// Gives the explanation of a refusal in pieces.
 #[tactic(auto, unfolding(crate::specs::ExplainPieces::IsExplanationGiven))]
-fn give_explanation(
+pub fn give_explanation(
     refusal: Refusal,
     told: &ExplanationPieces,
     out: &mut [u8],

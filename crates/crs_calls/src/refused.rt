@@ -35,8 +35,8 @@ pub(crate) fn place_and_number(refusal: Refusal) -> Refused
     }
 }
 
-// Answers the refusal in a fault, with this code, or out of memory.
-pub(crate) fn tell(fault: Fault, code: u32, refused: &mut Refused) -> u32
+/// Answers the refusal in a fault, with this code, or out of memory.
+pub fn tell(fault: Fault, code: u32, refused: &mut Refused) -> u32
     ensures { IsTold (refusal_of fault) code refused.old refused.new result }
 {
     match fault.refusal() {

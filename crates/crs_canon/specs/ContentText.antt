@@ -1,6 +1,6 @@
 -- What is written for the value of a part of a CRS.
 use Rattle.std.specs.Prelude.{◌≡◌, ℕ, List, [], ◌++◌, codes}
-use Rattle.crs_decimal.specs.Bounds.{Denotes}
+use Rattle.crs_decimal.specs.Spelling.{Denotes}
 use Rattle.crs_decimal.specs.Plain.{IsPlain}
 use Rattle.crs_decimal.specs.Value.{exact}
 use Rattle.crs_shape.specs.UnitKinds.{kind_as}
@@ -8,7 +8,7 @@ use Rattle.crs_value.specs.Reads.{ReadsUnit}
 use Rattle.crs_value.specs.declared.values.level.Level.{Level}
 use Rattle.crs_same.specs.declared.content.Content.{Content}
 use Rattle.crs_same.specs.declared.content.Content.TheVariants as content
-use Rattle.crs_matching.specs.SameUnits.{SameUnit}
+use Rattle.crs_matching.specs.SameParts.{SameUnit}
 use Rattle.crs_normal.specs.PartSpellings.{IsSpelledAxisMeridian, IsSpelledDeformationModel}
 use Rattle.crs_normal.specs.PartSpellings.{IsSpelledGeoidModel, IsSpelledIdent, IsSpelledMember}
 use Rattle.crs_normal.specs.PartSpellings.{IsSpelledParameter, IsSpelledUsage, unit_class}

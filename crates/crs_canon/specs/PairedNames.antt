@@ -1,7 +1,7 @@
 -- A bridge: the names that stand once on each side, as they are found.
 use Rattle.std.specs.Prelude.{ℕ, List, map}
 use Rattle.std.specs.List.{filter}
-use Rattle.crs_value.specs.ConversionValues.{ParameterParts}
+use Rattle.crs_value.specs.Values.{ParameterParts}
 use Rattle.crs_canon.specs.Named.{is_paired}
 
 -- the names of those that are paired, in the order of these

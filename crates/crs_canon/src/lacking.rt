@@ -1,9 +1,9 @@
 //! The members of a set that another lacks.
-ghost use Rattle.std.specs.Prelude.{◌≡◌, ◌++◌, MatchResult, OnOk};
+ghost use Rattle.std.specs.Prelude.{◌≡◌, ◌++◌, MatchResult};
 ghost use Rattle.crs_canon.specs.Appended.{AppendsOrNothing};
 ghost use Rattle.crs_canon.specs.ContentText.{IsLackingText};
 ghost use Rattle.crs_writer.specs.Members.{lacking, spellings};
-ghost use Rattle.crs_writer.specs.SetText.{commas, comma_separated};
+ghost use Rattle.crs_writer.specs.SetText.{comma_separated};
 
 use crate::canonical::Canonical;
 use crate::set_view::{append_members, are_spelled};
@@ -13,22 +13,6 @@ use crs_value::Level;
 use crs_writer::pieces::gather_all;
 use std::alloc::{AllocError, Global};
 use std::collections::BTreeSet;
-
-// A comma before each.
-fn write_lacking(
-    out: &mut Vec<u8>,
-    these: &BTreeSet<Vec<u8>>,
-    others: &BTreeSet<Vec<u8>>,
-) -> Result<(), AllocError>
-    ensures { OnOk result (out.new.items
-        ≡ out.old.items ++ commas (lacking (spellings these.now.keys) (spellings others.now.keys))) }
-{
-    for bytes in these.difference(others) {
-        append(out, b",")?;
-        append(out, bytes)?;
-    }
-    Ok(())
-}
 
 // The spellings that the others lack, where there is memory for them.
 pub(crate) fn append_lacking(
@@ -43,7 +27,10 @@ pub(crate) fn append_lacking(
         (λ _. out.new.items ≡ out.old.items) }
 {
     let mut text = Vec::new(alloc);
-    write_lacking(&mut text, these, others)?;
+    for bytes in these.difference(others) {
+        append(&mut text, b",")?;
+        append(&mut text, bytes)?;
+    }
     append_members(out, text.as_slice())
 }
 

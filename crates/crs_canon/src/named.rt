@@ -7,8 +7,7 @@ ghost use Rattle.crs_normal.specs.PartTexts.{parameter_text};
 ghost use Rattle.crs_writer.specs.Members.{spellings};
 ghost use Rattle.crs_canon.specs.Appended.{AppendsOrNothing};
 ghost use Rattle.crs_canon.specs.ContentText.{IsLackingText};
-ghost use Rattle.crs_canon.specs.Named.{ArePairedNames, is_paired, named_once, of_name, only, unpaired};
-ghost use Rattle.crs_canon.specs.PairedNames.{names_paired};
+ghost use Rattle.crs_canon.specs.Named.{ArePairedNames, is_paired, named_once, unpaired};
 
 use crate::lacking::append_lacking;
 use crate::set_view::are_spelled;
@@ -25,15 +24,9 @@ const MOST: usize = 64;
 pub fn named_once<'b, 'a>(members: &'b [Parameter<'a>], name: &[u8]) -> Option<&'b Parameter<'a>>
     ensures { option_copied result ≡ named_once name.now members.now }
 {
-    if members.len() <= MOST {
-        return only_of_name(members, name);
+    if members.len() > MOST {
+        return None;
     }
-    None
-}
-
-fn only_of_name<'b, 'a>(members: &'b [Parameter<'a>], name: &[u8]) -> Option<&'b Parameter<'a>>
-    ensures { option_copied result ≡ only (of_name name.now members.now) }
-{
     let mut found = None;
     for member in members {
         if member.name == name {
@@ -66,25 +59,12 @@ pub fn paired_names<'a>(
 {
     sets::texts_are_in_order();
     let mut names = BTreeSet::new(alloc);
-    gather_names(alloc, &mut names, these, others)?;
-    Ok(names)
-}
-
-fn gather_names<'a>(
-    alloc: Global,
-    names: &mut BTreeSet<Vec<u8>>,
-    these: &[Parameter<'a>],
-    others: &[Parameter<'a>],
-) -> Result<(), AllocError>
-    ensures { OnOk result (spellings names.new.keys
-        ≡ put_all (λ b. b) (spellings names.old.keys) (names_paired these.now others.now)) }
-{
     for member in these {
         if is_paired(these, others, member.name) {
-            gather_name(alloc, names, member.name)?;
+            gather_name(alloc, &mut names, member.name)?;
         }
     }
-    Ok(())
+    Ok(names)
 }
 
 fn gather_name(alloc: Global, names: &mut BTreeSet<Vec<u8>>, name: &[u8]) -> Result<(), AllocError>

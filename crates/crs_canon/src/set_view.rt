@@ -66,18 +66,10 @@ impl<'s, T: Canonical> Set<'s, T> {
         ensures equal { (level : Level) → HaveOneTextWhereSame (T.Same level) (T.IsSpelling level) self.now other.now }
     {
         sets::texts_are_in_order();
-        are_values(self.members);
-        are_values(other.members);
+        are_spelled(self.members);
+        are_spelled(other.members);
         kind_has_law(self.members);
         kind_has_law(other.members);
-    }
-}
-
-fn are_values<T: Canonical>(members: &[T])
-    ensures { Each T.IsValue members.now }
-{
-    for member in members {
-        member.laws();
     }
 }
 
@@ -113,9 +105,10 @@ fn all_have_same<T: Canonical>(members: &[T], others: &[T], level: Level) -> boo
     true
 }
 
-// What `spell` appends of each member is its one spelling.
+// Each member is a value of its type, and what `spell` appends of it is its one spelling.
 pub(crate) fn are_spelled<T: Canonical>(members: &[T])
-    ensures { (level : Level) → AreSpellingsOf (T.IsSpelling level) members.now (map (T.spelling level) members.now) }
+    ensures values { Each T.IsValue members.now }
+    ensures spelled { (level : Level) → AreSpellingsOf (T.IsSpelling level) members.now (map (T.spelling level) members.now) }
 {
     for member in members {
         member.laws();

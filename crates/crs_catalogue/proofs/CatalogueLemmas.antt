@@ -12,10 +12,9 @@ use Rattle.crs_value.specs.declared.values.level.Level.{Level}
 use Rattle.crs_writer.specs.Prelude.{CanonicalText, IsCanonicalOf}
 use Rattle.crs_canon.specs.MainTheorem.{IsAccepted, MainTheorem}
 use Rattle.crs_rules.specs.Rules.{RulesParts}
-use Rattle.crs_rules.specs.Under.{IsForm}
+use Rattle.crs_rules.specs.Rewritten.{IsForm}
 use Rattle.crs_placed.specs.Catalogue.{CatalogueParts, GroupParts, Line, canons, line_of, nth}
-use Rattle.crs_catalogue.specs.GroupTexts.{IsCatalogue, IsCatalogueBy, IsCatalogueOf, IsCatalogueOfBy, IsUnder, then_line}
-use Rattle.crs_catalogue.specs.Partition.{Counts, IsPlacedAs, PlacedLine, ShareWhereSame, if_refused, in_group, lines_in}
+use Rattle.crs_catalogue.specs.GroupTexts.{IsCatalogue, IsCatalogueBy, IsCatalogueOf, IsCatalogueOfBy, IsUnder, then_line, Counts, IsPlacedAs, PlacedLine, ShareWhereSame, if_refused, in_group, lines_in}
 use Rattle.crs_catalogue.specs.UnderRules.{ShareWhereSameUnder}
 use Rattle.crs_value.specs.Sound.{Each}
 use Rattle.crs_placed.specs.Putting.{IsJoined, IsNew, IsPut, IsRefused, group_of, with_line}

@@ -1,16 +1,15 @@
 -- What the source of a run has given, and what the two halves of the run say of the whole.
 use Rattle.std.proofs.Common.{◌≡◌, ◌∙◌, ◌+◌, ◌<◌, ◌≤◌, ◌++◌, ◌*◌, ◌^◌, [], ℕ, Bool, List, false, ap, append-nil, arith, is_ok, length, length-append, Result, Ok, Err, IfErr, IfOk, IsErr, MatchResult}
-use Rattle.crs_catalogue.specs.GroupCutting.{CutterParts, IsCutFault, IsCutTo, IsLedgerFor, LedgerParts}
+use Rattle.crs_catalogue.specs.GroupReading.{CutterParts, IsCutFault, IsCutTo, IsLedgerFor, LedgerParts, IsLedgerWhole, IsReadInto, WritesLedger}
 use Rattle.crs_value.specs.declared.values.level.Level.{Level}
 use Rattle.crs_catalogue.specs.GroupOutput.{IsGroupOutputBy, catalogue_text}
-use Rattle.crs_catalogue.specs.GroupReading.{IsLedgerWhole, IsReadInto, WritesLedger}
 use Rattle.crs_streams.specs.Prelude.{CountsRead, CutsLines, GivesMore, GivesShortLines, HasGiven, SinkState, SourceState}
 use Rattle.crs_catalogue.specs.GroupRun.{IsGroupedBy, IsReadingFault}
 use Rattle.crs_catalogue.specs.declared.listing.Listing.{Listing}
 use Rattle.crs_catalogue.specs.declared.summary.Summary.{Summary}
 use Rattle.crs_streams.specs.declared.fault.RunFault.{RunFault}
 use Rattle.crs_streams.specs.declared.fault.RunFault.TheVariants.{ReadFailed, TooLong, Memory}
-use Rattle.crs_catalogue.specs.Partition.{PlacedLine}
+use Rattle.crs_catalogue.specs.GroupTexts.{PlacedLine}
 
 pub fault-in-piece : (old new : SourceState) (bytes : List ℕ) (fault : RunFault) → HasGiven old new bytes
     → new.failed ≡ false → IsCutFault bytes fault → IsReadingFault old new fault

@@ -5,14 +5,13 @@ use Rattle.std.proofs.lemmas.List.{length-map, map-append}
 use Rattle.std.proofs.lemmas.List.Sums.{sum_by-append}
 use Rattle.crs_text.specs.Prelude.{is_white}
 use Rattle.crs_placed.specs.Catalogue.{CatalogueParts, line_of}
-use Rattle.crs_catalogue.specs.GroupCutting.{IsLedgerOf, IsNamed, LedgerParts, blank_count, no_lines, text_in}
-use Rattle.crs_catalogue.specs.GroupTexts.{IsCatalogueBy, IsCatalogueOfBy, then_line}
+use Rattle.crs_catalogue.specs.GroupReading.{IsLedgerOf, IsNamed, LedgerParts, blank_count, no_lines, text_in}
+use Rattle.crs_catalogue.specs.GroupTexts.{IsCatalogueBy, IsCatalogueOfBy, then_line, IsPlacedAs, PlacedLine}
 use Rattle.crs_streams.specs.Prelude.{blank_in}
 use Rattle.crs_catalogue.specs.GroupOutput.{numbered}
 use Rattle.crs_catalogue.specs.Names.{name_of, names_from, names_in, text_behind, texts_in}
 use Rattle.crs_value.specs.Sound.{Each}
 use Rattle.crs_placed.specs.declared.placed.Placed.{Placed}
-use Rattle.crs_catalogue.specs.Partition.{IsPlacedAs, PlacedLine}
 use Rattle.crs_value.specs.declared.values.level.Level.{Level}
 use Rattle.crs_catalogue.proofs.CatalogueLemmas.{lines-added, none-added}
 

@@ -10,11 +10,10 @@ use Rattle.crs_value.specs.declared.values.level.Level.{Level}
 use Rattle.crs_writer.specs.Prelude.{IsCanonicalOf}
 use Rattle.crs_canon.specs.MainTheorem.{MainTheorem}
 use Rattle.crs_placed.specs.Catalogue.{CatalogueParts, GroupParts, Line, canons}
-use Rattle.crs_catalogue.specs.GroupTexts.{IsCatalogue, IsCatalogueOf, IsUnder}
+use Rattle.crs_catalogue.specs.GroupTexts.{IsCatalogue, IsCatalogueOf, IsUnder, AreNumbered, Counts, IsPlacedAs, PlacedLine, ShareWhereSame}
 use Rattle.crs_value.specs.Sound.{Each}
 use Rattle.crs_placed.specs.declared.placed.Placed.{Placed}
 use Rattle.crs_placed.specs.declared.placed.Placed.TheVariants.{Refused, Group}
-use Rattle.crs_catalogue.specs.Partition.{AreNumbered, Counts, IsPlacedAs, PlacedLine, ShareWhereSame}
 use Rattle.crs_catalogue.proofs.PlaceLemmas.{canon-at}
 
 -- no text both spells a value and is refused, and it has one refusal at most

@@ -3,7 +3,7 @@ use Rattle.std.proofs.Common.{◌≡◌, ◌<◌, ◌≤◌, ◌++◌, ◌∷◌
 use Rattle.std.proofs.lemmas.Grind.{flat_map-append}
 use Rattle.std.proofs.lemmas.List.{append-nil}
 use Rattle.crs_placed.specs.declared.placed.Placed.{Placed}
-use Rattle.crs_catalogue.specs.Partition.{AreNumbered, Counts, PlacedLine, if_refused, in_group, lines_in, refused_in}
+use Rattle.crs_catalogue.specs.GroupTexts.{AreNumbered, Counts, PlacedLine, if_refused, in_group, lines_in, refused_in}
 
 pub numbered-append : (before : ℕ) (placed : List PlacedLine) (next : ℕ) (p : PlacedLine) (behind : ℕ)
     → AreNumbered before placed next → Counts next p.place behind → AreNumbered before (placed ++ p ∷ []) behind

@@ -10,7 +10,7 @@ use Rattle.crs_canon.specs.MainTheorem.{IsAccepted}
 use Rattle.crs_placed.specs.Catalogue.{CatalogueParts, Line}
 use Rattle.crs_placed.specs.declared.placed.Placed.{Placed}
 use Rattle.crs_placed.specs.declared.placed.Placed.TheVariants.{Blank, Refused, Group}
-use Rattle.crs_catalogue.specs.Partition.{IsPartition, IsPlacedAs, PlacedLine, ShareWhereSame}
+use Rattle.crs_catalogue.specs.GroupTexts.{IsPartition, IsPlacedAs, PlacedLine, ShareWhereSame}
 use Rattle.crs_catalogue.specs.United.{AreUnited}
 
 each-at : (P : PlacedLine → Type 0) (ps : List PlacedLine) → Each P ps → (at : ℕ) (p : PlacedLine) → slice_get ps at ≡ Some p → P p

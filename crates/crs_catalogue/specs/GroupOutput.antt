@@ -7,12 +7,11 @@ use Rattle.crs_value.specs.declared.values.level.Level.{Level}
 use Rattle.crs_streams.specs.Escaped.{escaped}
 use Rattle.crs_writer.specs.Canonical.{IsCanonicalOf}
 use Rattle.crs_rules.specs.Rules.{RulesParts}
-use Rattle.crs_rules.specs.Under.{IsForm}
+use Rattle.crs_rules.specs.Rewritten.{IsForm}
 use Rattle.crs_placed.specs.Catalogue.{CatalogueParts, GroupParts, Line, line_of}
 use Rattle.crs_catalogue.specs.GroupObjects.{group_object, refused_object}
-use Rattle.crs_catalogue.specs.GroupTexts.{IsCatalogueOfBy}
+use Rattle.crs_catalogue.specs.GroupTexts.{IsCatalogueOfBy, PlacedLine, ShareWhereSame}
 use Rattle.crs_catalogue.specs.Names.{name_at, names_in, texts_in}
-use Rattle.crs_catalogue.specs.Partition.{PlacedLine, ShareWhereSame}
 use Rattle.crs_catalogue.specs.UnderRules.{ShareWhereSameUnder}
 use Rattle.crs_streams.specs.Lines.{AreLines, blank_in}
 use Rattle.crs_catalogue.specs.declared.listing.Listing.{Listing}

@@ -1,4 +1,3 @@
-pub mod GroupCutting
 pub mod GroupObjects
 pub mod GroupOutput
 pub mod GroupReading
@@ -6,6 +5,5 @@ pub mod GroupRun
 pub mod GroupTexts
 pub mod Known
 pub mod Names
-pub mod Partition
 pub mod UnderRules
 pub mod United

@@ -2,11 +2,10 @@
 use Rattle.std.specs.Prelude.{◌≡◌, ◌↔◌, ℕ, List}
 use Rattle.crs_value.specs.declared.values.level.Level.{Level}
 use Rattle.crs_rules.specs.Rules.{RulesParts}
-use Rattle.crs_rules.specs.Under.{IsForm, SameUnder}
+use Rattle.crs_rules.specs.Rewritten.{IsForm, SameUnder}
 use Rattle.crs_placed.specs.Catalogue.{CatalogueParts}
 use Rattle.crs_placed.specs.declared.placed.Placed.TheVariants.{Group}
-use Rattle.crs_catalogue.specs.GroupTexts.{IsCatalogueBy}
-use Rattle.crs_catalogue.specs.Partition.{PlacedLine}
+use Rattle.crs_catalogue.specs.GroupTexts.{IsCatalogueBy, PlacedLine}
 
 -- two lines are in one group exactly where their texts are the same under the rules
 abbrev pub ShareWhereSameUnder : RulesParts → Level → PlacedLine → PlacedLine → Type 0

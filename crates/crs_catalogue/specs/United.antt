@@ -2,7 +2,7 @@
 -- of the groups of the other.
 use Rattle.std.specs.Prelude.{◌≡◌, ℕ, List, Some, slice_get}
 use Rattle.crs_placed.specs.declared.placed.Placed.TheVariants.{Group}
-use Rattle.crs_catalogue.specs.Partition.{PlacedLine}
+use Rattle.crs_catalogue.specs.GroupTexts.{PlacedLine}
 
 -- the line that was added at this place, from 0, is in this group
 abbrev pub IsInGroup : List PlacedLine → ℕ → ℕ → Type 0

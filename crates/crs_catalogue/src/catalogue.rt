@@ -7,13 +7,12 @@ ghost use Rattle.crs_text.specs.Tokens.{is_white};
 ghost use Rattle.crs_value.specs.SpellsText.{IsFaultOfText};
 ghost use Rattle.crs_writer.specs.Canonical.{IsCanonicalOf};
 ghost use Rattle.crs_rules.specs.Rules.{RulesParts};
-ghost use Rattle.crs_rules.specs.Under.{IsForm};
+ghost use Rattle.crs_rules.specs.Rewritten.{IsForm};
 ghost use Rattle.crs_placed.specs.Catalogue.{Line, canons, line_of, nth};
 ghost use Rattle.crs_placed.specs.Putting.{IsJoined, IsPut, IsRefused};
 ghost use Rattle.crs_placed.specs.declared.placed.Placed.TheVariants.{Group};
-ghost use Rattle.crs_catalogue.specs.GroupTexts.{IsCatalogue, IsCatalogueOf, IsUnder, then_line};
+ghost use Rattle.crs_catalogue.specs.GroupTexts.{IsCatalogue, IsCatalogueOf, IsUnder, then_line, PlacedLine};
 ghost use Rattle.crs_catalogue.specs.Known.{HasGroup};
-ghost use Rattle.crs_catalogue.specs.Partition.{PlacedLine};
 ghost use Rattle.crs_catalogue.specs.UnderRules.{IsCatalogueUnder};
 
 use crate::recent::{Recent, place_of};

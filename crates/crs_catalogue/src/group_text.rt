@@ -2,9 +2,9 @@
 ghost use Rattle.std.specs.Prelude.{◌≡◌, ◌++◌, OnOk, Some};
 ghost use Rattle.std.specs.List.{flat_map};
 ghost use Rattle.crs_placed.specs.Catalogue.{GroupParts, nth};
-ghost use Rattle.crs_catalogue.specs.GroupOutput.{catalogue_text, group_line, group_lines, is_listed, label, labelled};
+ghost use Rattle.crs_catalogue.specs.GroupOutput.{catalogue_text, group_line, group_lines, is_listed, label};
 ghost use Rattle.crs_catalogue.specs.GroupOutput.{labels_text, listed_line, refused_written};
-ghost use Rattle.crs_catalogue.specs.GroupObjects.{group_object, json_line, name_member, names_member, refused_object};
+ghost use Rattle.crs_catalogue.specs.GroupObjects.{group_object, json_line, refused_object};
 ghost use Rattle.crs_streams.specs.Json.{json_array, json_more};
 
 use crate::Listing;
@@ -41,32 +41,16 @@ impl Listed<'_> {
         Ok(())
     }
 
-    // The group of this number, if it is listed.
+    // The group of this number, as an object or a line, if it is listed.
     fn write_numbered(self, out: &mut Vec<u8>, number: usize) -> Result<(), AllocError>
         ensures { (group : GroupParts) → nth number self.entry.ledger.now.catalogue.groups ≡ Some group →
             OnOk result (out.new.items ≡ out.old.items
             ++ listed_line self.entry.listing self.entry.ledger.now.names number group) }
     {
         let catalogue = self.ledger.catalogue();
-        match (catalogue.lines(number), catalogue.text(number)) {
-            (Some(lines), Some(text)) => self.write_group(out, number, lines, text),
-            (None, _) => Ok(()),
-            (Some(_), None) => Ok(()),
-        }
-    }
-
-    // The group of this number, which has these lines and this text, as an object or a line, if it is listed.
-    fn write_group(
-        self,
-        out: &mut Vec<u8>,
-        number: usize,
-        lines: &[u64],
-        text: &[u8],
-    ) -> Result<(), AllocError>
-        ensures { (group : GroupParts) → group.lines ≡ lines.now → group.canon.bytes ≡ text.now →
-            OnOk result (out.new.items ≡ out.old.items
-            ++ listed_line self.entry.listing self.entry.ledger.now.names number group) }
-    {
+        let (Some(lines), Some(text)) = (catalogue.lines(number), catalogue.text(number)) else {
+            return Ok(());
+        };
         if !is_listed(self.listing, lines) {
             return Ok(());
         }
@@ -88,24 +72,16 @@ impl Listed<'_> {
         out.push(b'\n').map_err(AllocError::from)
     }
 
-    // ` L1 L2 ..`
+    // ` L1 L2 ..`, or after tabs the names of these lines.
     fn write_labels(self, out: &mut Vec<u8>, numbers: &[u64]) -> Result<(), AllocError>
         ensures { OnOk result (out.new.items ≡ out.old.items
             ++ labels_text self.entry.listing self.entry.ledger.now.names numbers.now) }
     {
         for number in numbers {
-            self.write_labelled(out, *number)?;
+            out.push(if self.listing.names { b'\t' } else { b' ' })?;
+            self.write_label(out, *number)?;
         }
         Ok(())
-    }
-
-    // A blank and a line's number, or a tab and its name.
-    fn write_labelled(self, out: &mut Vec<u8>, number: u64) -> Result<(), AllocError>
-        ensures { OnOk result (out.new.items ≡ out.old.items
-            ++ labelled self.entry.listing self.entry.ledger.now.names number) }
-    {
-        out.push(if self.listing.names { b'\t' } else { b' ' })?;
-        self.write_label(out, number)
     }
 
     // A line's number, or its name.
@@ -159,20 +135,12 @@ impl Listed<'_> {
         append_number(number, out)?;
         append_key(b"lines", out)?;
         self.write_array(out, false, lines)?;
-        self.write_names(out, lines)?;
-        append_text_member(b"canonical", text, out)?;
-        out.extend_from_slice(b"}\n")
-    }
-
-    fn write_names(self, out: &mut Vec<u8>, numbers: &[u64]) -> Result<(), AllocError>
-        ensures { OnOk result (out.new.items ≡ out.old.items
-            ++ names_member self.entry.listing self.entry.ledger.now.names numbers.now) }
-    {
         if self.listing.names {
             append_key(b"line_names", out)?;
-            return self.write_array(out, true, numbers);
+            self.write_array(out, true, lines)?;
         }
-        Ok(())
+        append_text_member(b"canonical", text, out)?;
+        out.extend_from_slice(b"}\n")
     }
 
     // An array of the numbers of lines, or of their names.
@@ -225,21 +193,13 @@ impl Listed<'_> {
     {
         out.extend_from_slice(b"{\"line\":")?;
         append_number(line as usize, out)?;
-        self.write_name(out, line)?;
+        if self.listing.names {
+            append_text_member(b"line_name", self.ledger.names().at(line), out)?;
+        }
         append_number_member(b"refused", usize::from(refusal.number()), out)?;
         append_text_member(b"name", refusal.name().as_bytes(), out)?;
         append_number_member(b"place", refusal.place(), out)?;
         out.extend_from_slice(b"}\n")
-    }
-
-    fn write_name(self, out: &mut Vec<u8>, number: u64) -> Result<(), AllocError>
-        ensures { OnOk result (out.new.items ≡ out.old.items
-            ++ name_member self.entry.listing self.entry.ledger.now.names number) }
-    {
-        if self.listing.names {
-            return append_text_member(b"line_name", self.ledger.names().at(number), out);
-        }
-        Ok(())
     }
 }
 

@@ -2,8 +2,7 @@
 ghost use Rattle.std.specs.Prelude.{◌≡◌, List, map};
 ghost use Rattle.crs_value.specs.declared.values.level.Level.TheVariants as levels;
 ghost use Rattle.crs_placed.specs.Catalogue.{CatalogueParts, Line};
-ghost use Rattle.crs_catalogue.specs.GroupTexts.{IsCatalogueOf};
-ghost use Rattle.crs_catalogue.specs.Partition.{IsPartition, PlacedLine};
+ghost use Rattle.crs_catalogue.specs.GroupTexts.{IsCatalogueOf, IsPartition, PlacedLine};
 ghost use Rattle.crs_catalogue.specs.United.{AreUnited};
 
 /// The catalogue of some lines, at a level, is one. Profile.

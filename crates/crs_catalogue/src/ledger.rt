@@ -1,10 +1,9 @@
 //! A catalogue of lines that are numbered as they come, counted, and named where they have names; and how a line is
 //! added to it: by its canonical text, or by its form under rules.
 ghost use Rattle.std.specs.Prelude.{◌≡◌, ◌+◌, ◌^◌, ◌<◌, ◌≤◌, ◌++◌, ◌∷◌, [], ℕ, List, OnOk, length, IfOk};
-ghost use Rattle.crs_catalogue.specs.GroupCutting.{IsLedgerOf, blank_count, no_lines};
+ghost use Rattle.crs_catalogue.specs.GroupReading.{IsLedgerOf, blank_count, no_lines};
 ghost use Rattle.crs_value.specs.declared.values.level.Level.{Level};
-ghost use Rattle.crs_catalogue.specs.GroupTexts.{IsCatalogueBy, then_line};
-ghost use Rattle.crs_catalogue.specs.Partition.{PlacedLine};
+ghost use Rattle.crs_catalogue.specs.GroupTexts.{IsCatalogueBy, then_line, PlacedLine};
 
 use crate::catalogue::Catalogue;
 use crate::names::{Names, text_in};
@@ -25,7 +24,7 @@ pub(crate) struct Ledger {
 
 impl Model for Ledger {
     ghost use Rattle.std.specs.Prelude.{◌≤◌};
-    ghost use Rattle.crs_catalogue.specs.GroupCutting.{LedgerParts};
+    ghost use Rattle.crs_catalogue.specs.GroupReading.{LedgerParts};
 
     ghost Value = { LedgerParts };
 
@@ -136,7 +135,7 @@ pub struct ByCanon;
 
 impl Adding for ByCanon {
     ghost use Rattle.crs_writer.specs.Canonical.{IsCanonicalOf};
-    ghost use Rattle.crs_catalogue.specs.Partition.{ShareWhereSame};
+    ghost use Rattle.crs_catalogue.specs.GroupTexts.{ShareWhereSame};
 
     ghost Form = { λ s level text bytes. IsCanonicalOf level text bytes };
 
@@ -154,7 +153,7 @@ pub struct ByForm<'r> {
 }
 
 impl Adding for ByForm<'_> {
-    ghost use Rattle.crs_rules.specs.Under.{IsForm};
+    ghost use Rattle.crs_rules.specs.Rewritten.{IsForm};
     ghost use Rattle.crs_catalogue.specs.UnderRules.{ShareWhereSameUnder};
 
     ghost Form = { λ s level text bytes. IsForm s.rules.now level text bytes };

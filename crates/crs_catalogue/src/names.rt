@@ -1,7 +1,7 @@
 //! Lines that begin with a name and a tab, and the names of lines.
 ghost use Rattle.std.specs.Prelude.{◌≡◌, ◌++◌, ◌<◌, ◌∷◌, [], MatchOption, OnOk, length, slice_get, unwrap_or};
-ghost use Rattle.crs_catalogue.specs.GroupCutting.{IsNamed, text_in};
-ghost use Rattle.crs_catalogue.specs.Names.{name_at, name_of, tab_at};
+ghost use Rattle.crs_catalogue.specs.GroupReading.{IsNamed, text_in};
+ghost use Rattle.crs_catalogue.specs.Names.{name_at, tab_at};
 
 use bstr::ByteSlice;
 use itoa::Buffer;
@@ -38,15 +38,9 @@ impl Names {
     pub(crate) fn keep(&mut self, named: bool, number: u64, line: &[u8]) -> Result<(), AllocError>
         ensures { OnOk result (IsNamed named number line.now self.old self.new) }
     {
-        if named {
-            return self.add(number, line);
+        if !named {
+            return Ok(());
         }
-        Ok(())
-    }
-
-    fn add(&mut self, number: u64, line: &[u8]) -> Result<(), AllocError>
-        ensures { OnOk result (self.new ≡ self.old ++ name_of number line.now ∷ []) }
-    {
         match first_tab(line) {
             Some(at) => self.push(&line[..at]),
             None => self.push(Buffer::new().format(number).as_bytes()),

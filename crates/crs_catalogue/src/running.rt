@@ -2,10 +2,8 @@
 //! that is whole within a piece is read in place; the bytes of others are kept until their line feed comes.
 ghost use Rattle.std.specs.Prelude.{◌≡◌, ◌≤◌, ◌↔◌, [], IfErr, IfOk, IsErrOf, OnOk, false, length, true, ◌+◌, ◌^◌, ◌<◌};
 ghost use Rattle.std.specs.Prelude.{◌++◌, ◌∷◌, ℕ, List, IsFalse, IsTrue};
-ghost use Rattle.crs_catalogue.specs.GroupCutting.{IsCutTo, IsCutFault, IsKept, IsLedgerFor, IsNextLine, IsNotKept};
-ghost use Rattle.crs_catalogue.specs.GroupCutting.{no_lines};
+ghost use Rattle.crs_catalogue.specs.GroupReading.{IsCutTo, IsCutFault, IsKept, IsLedgerFor, IsNextLine, IsNotKept, no_lines, IsLedgerWhole, IsReadInto, IsWritingFault, WritesLedger};
 ghost use Rattle.crs_catalogue.specs.GroupOutput.{IsGroupOutputBy};
-ghost use Rattle.crs_catalogue.specs.GroupReading.{IsLedgerWhole, IsReadInto, IsWritingFault, WritesLedger};
 ghost use Rattle.crs_catalogue.specs.GroupRun.{IsGroupFault, IsGroupedBy, IsReadingFault};
 ghost use Rattle.crs_streams.specs.Streams.{fresh_sink, fresh_source};
 ghost use Rattle.crs_streams.specs.Lines.{HasNoFeed};
@@ -122,7 +120,7 @@ struct Cutter {
 }
 
 impl Model for Cutter {
-    ghost use Rattle.crs_catalogue.specs.GroupCutting.{CutterParts};
+    ghost use Rattle.crs_catalogue.specs.GroupReading.{CutterParts};
 
     ghost Value = { CutterParts };
 

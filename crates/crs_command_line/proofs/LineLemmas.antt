@@ -264,21 +264,21 @@ abbrev at_files : List Text → Text → Walk
 at_files names last = before (with_files names last) positional 1
 
 -- a command goes to a first file and on to a next, and at the end its task is asked for over the files
-abbrev pub ReadsFiles : CommandName → Request → Task → Type 0
-ReadsFiles n alone wanted = (names : List Text) (last word : Text)
+abbrev pub ReadsFiles : CommandName → Task → Type 0
+ReadsFiles n wanted = (names : List Text) (last word : Text)
     → (is_plain_word word ≡ true → Goes (built_at n) (walk_from nothing_held) word (at_files [] word))
     × (is_plain_word word ≡ true → Goes (built_at n) (at_files names last) word (at_files (names ++ last ∷ []) word))
-    × (request_of (name_of n, finished (built_at n).rules (with_files names last)) ≡ Some (over alone wanted (names ++ last ∷ [])))
+    × (request_of (name_of n, finished (built_at n).rules (with_files names last)) ≡ Some (over wanted true (names ++ last ∷ []) []))
     × (ends (built_at n) (at_files names last) ≡ true)
 
 -- names are taken to the last
-files_run : (n : CommandName) (alone : Request) (wanted : Task) → ReadsFiles n alone wanted
+files_run : (n : CommandName) (wanted : Task) → ReadsFiles n wanted
     → (names : List Text) (last : Text) (words : List Text) → list_all is_plain_word words ≡ true
     → (past : List Text) × (end : Text) × (names ++ last ∷ words ≡ past ++ end ∷ []) × Runs (built_at n) (at_files names last) words (at_files past end)
-files_run n alone wanted reads names last [] usual = (names, last, refl, stays (built_at n) (at_files names last))
-files_run n alone wanted reads names last (word ∷ words) usual =
+files_run n wanted reads names last [] usual = (names, last, refl, stays (built_at n) (at_files names last))
+files_run n wanted reads names last (word ∷ words) usual =
     let each = both (is_plain_word word) _ usual in
-    let rest = files_run n alone wanted reads (names ++ last ∷ []) word words each.1 in (
+    let rest = files_run n wanted reads (names ++ last ∷ []) word words each.1 in (
       rest.0,
       rest.1,
       sym (append_assoc names (last ∷ []) (word ∷ words)) ∙ rest.2,
@@ -287,17 +287,16 @@ files_run n alone wanted reads names last (word ∷ words) usual =
     )
 
 -- files are asked for where there are some
-over-some : (alone : Request) (wanted : Task) (names : List Text) (last : Text)
-    → over alone wanted (names ++ last ∷ []) ≡ Files wanted (names ++ last ∷ [])
-over-some alone wanted [] last = refl
-over-some alone wanted (name ∷ names) last = grind arith
+over-some : (wanted : Task) (names : List Text) (last : Text) → over wanted true (names ++ last ∷ []) [] ≡ Files wanted (names ++ last ∷ []) []
+over-some wanted [] last = refl
+over-some wanted (name ∷ names) last = grind arith
 
-pub files_asked : (n : CommandName) (alone : Request) (wanted : Task) → ReadsFiles n alone wanted → (program name : Text) (names : List Text)
-    → list_all is_plain_word (name ∷ names) ≡ true → asked (program ∷ name_of n ∷ name ∷ names) ≡ Some (Files wanted (name ∷ names))
-files_asked n alone wanted reads program name names usual =
+pub files_asked : (n : CommandName) (wanted : Task) → ReadsFiles n wanted → (program name : Text) (names : List Text)
+    → list_all is_plain_word (name ∷ names) ≡ true → asked (program ∷ name_of n ∷ name ∷ names) ≡ Some (Files wanted (name ∷ names) [])
+files_asked n wanted reads program name names usual =
     let each = both (is_plain_word name) _ usual in
-    let run = files_run n alone wanted reads [] name names each.1 in
+    let run = files_run n wanted reads [] name names each.1 in
     let to = at_files run.0 run.1 in
     let end = reads run.0 run.1 name in
     line_asked n program (name ∷ names) to (goes_on (built_at n) (walk_from nothing_held) (at_files [] name) to name names (end.0 each.0) run.3) end.3
-    ∙ end.2 ∙ ap Some (over-some alone wanted run.0 run.1) ∙ sym (ap (λ l. Some (Files wanted l)) run.2)
+    ∙ end.2 ∙ ap Some (over-some wanted run.0 run.1) ∙ sym (ap (λ l. Some (Files wanted l [])) run.2)

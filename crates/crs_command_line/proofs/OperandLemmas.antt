@@ -13,7 +13,7 @@ use Rattle.clap.specs.Walk.{Held, Names, Outcome, Step, Waiting, Walk, done, pla
 use Rattle.clap.specs.Takes.{bundle_passes, bundle_step_passes, flag_word_passes, flags_pass, is_given, is_valid, default_passes, level_passes, long_passes, option_passes, react_passes, settle_passes, short_passes, step_passes, turn_passes, use_passes, walk_passes, word_passes}
 use Rattle.clap.proofs.WalkLemmas.{both}
 use Rattle.crs_command_line.specs.CommandLine.{files_flag, level_option, operand, rules_option}
-use Rattle.crs_requests.specs.Requests.{rules_of, same_of, under}
+use Rattle.crs_requests.specs.Requests.{same_of}
 
 -- ---- rows with values
 
@@ -244,9 +244,9 @@ pub second_given : (words : List Text) → level_passes built_same [] nothing_he
     → is_given (codes "second") (rows_after built_same.rules [] words) ≡ true
 second_given words passes = (given_texts words passes).1.1
 
--- with rules or without, `same` asks for something
+-- `same` asks for something
 pub same_asks : (words : List Text) → level_passes built_same [] nothing_held words false ≡ true
-    → IsSome (option_map (under (rules_of (rows_at built_same words).1)) (same_of (rows_at built_same words).1))
+    → IsSome (same_of (rows_at built_same words).1)
 same_asks words passes =
     let rows = rows_after built_same.rules [] words in
     let given = given_texts words passes in

@@ -4,9 +4,7 @@ ghost use Rattle.std.specs.List.{list_all};
 ghost use Rattle.clap.specs.Words.{Text, takes};
 ghost use Rattle.crs_requests.specs.Requests.{plainly, standard};
 ghost use Rattle.crs_command_line.specs.CommandLine.{asked, desk, is_plain_word};
-ghost use Rattle.crs_requests.specs.declared.requests.Request.TheVariants.{Canon, Check, Same, Group, CanonLines, CheckLines};
-ghost use Rattle.crs_requests.specs.declared.requests.Request.TheVariants.{Explain, ExplainText, ExplainPair, GroupListed};
-ghost use Rattle.crs_requests.specs.declared.requests.Request.TheVariants.{Files, FilesUnder, TextsUnder};
+ghost use Rattle.crs_requests.specs.declared.requests.Request.TheVariants.{Canon, Check, Same, Group, Texts, Files};
 ghost use Rattle.crs_requests.specs.declared.requests.Task.TheVariants as task;
 
 /// A line that the command takes asks for something: no text of `same` is missing there.
@@ -58,19 +56,19 @@ pub fn the_level_is_a_word()
 /// writes names for numbers, with `--json` objects.
 pub fn group_has_flags()
     ensures repeated { (program : Text) → asked (program ∷ codes "group" ∷ codes "--repeated" ∷ [])
-        ≡ Some (GroupListed (codes "full") (record { repeated = true; names = false; json = false })) }
+        ≡ Some (Texts (task.Group (codes "full") (record { repeated = true; names = false; json = false })) [] []) }
     ensures names { (program : Text) → asked (program ∷ codes "group" ∷ codes "--names" ∷ [])
-        ≡ Some (GroupListed (codes "full") (record { repeated = false; names = true; json = false })) }
+        ≡ Some (Texts (task.Group (codes "full") (record { repeated = false; names = true; json = false })) [] []) }
     ensures json { (program : Text) → asked (program ∷ codes "group" ∷ codes "--json" ∷ [])
-        ≡ Some (GroupListed (codes "full") (record { repeated = false; names = false; json = true })) }
+        ≡ Some (Texts (task.Group (codes "full") (record { repeated = false; names = false; json = true })) [] []) }
     ensures both { (program : Text) → asked (program ∷ codes "group" ∷ codes "--names" ∷ codes "--repeated" ∷ [])
-        ≡ Some (GroupListed (codes "full") (record { repeated = true; names = true; json = false })) }
+        ≡ Some (Texts (task.Group (codes "full") (record { repeated = true; names = true; json = false })) [] []) }
     ensures before { (program level : Text) → is_plain_word level ≡ true →
         asked (program ∷ codes "group" ∷ codes "--repeated" ∷ codes "--level" ∷ level ∷ [])
-        ≡ Some (GroupListed level (record { repeated = true; names = false; json = false })) }
+        ≡ Some (Texts (task.Group level (record { repeated = true; names = false; json = false })) [] []) }
     ensures after { (program level : Text) → is_plain_word level ≡ true →
         asked (program ∷ codes "group" ∷ codes "--level" ∷ level ∷ codes "--repeated" ∷ [])
-        ≡ Some (GroupListed level (record { repeated = true; names = false; json = false })) }
+        ≡ Some (Texts (task.Group level (record { repeated = true; names = false; json = false })) [] []) }
 {}
 
 /// With `--lines`, before the level or after it, `canon` takes each line as a text. `check` takes each line as a text
@@ -78,12 +76,15 @@ pub fn group_has_flags()
 /// reads lines anyway, has no such flag.
 pub fn canon_and_check_have_lines()
     ensures canon { (program : Text) →
-        asked (program ∷ codes "canon" ∷ codes "--lines" ∷ []) ≡ Some (CanonLines (codes "full")) }
+        asked (program ∷ codes "canon" ∷ codes "--lines" ∷ []) ≡ Some (Texts (task.Canon (codes "full") true) [] []) }
     ensures before { (program level : Text) → is_plain_word level ≡ true →
-        asked (program ∷ codes "canon" ∷ codes "--lines" ∷ codes "--level" ∷ level ∷ []) ≡ Some (CanonLines level) }
+        asked (program ∷ codes "canon" ∷ codes "--lines" ∷ codes "--level" ∷ level ∷ [])
+        ≡ Some (Texts (task.Canon level true) [] []) }
     ensures after { (program level : Text) → is_plain_word level ≡ true →
-        asked (program ∷ codes "canon" ∷ codes "--level" ∷ level ∷ codes "--lines" ∷ []) ≡ Some (CanonLines level) }
-    ensures check { (program : Text) → asked (program ∷ codes "check" ∷ codes "--lines" ∷ []) ≡ Some CheckLines }
+        asked (program ∷ codes "canon" ∷ codes "--level" ∷ level ∷ codes "--lines" ∷ [])
+        ≡ Some (Texts (task.Canon level true) [] []) }
+    ensures check { (program : Text) →
+        asked (program ∷ codes "check" ∷ codes "--lines" ∷ []) ≡ Some (Texts (task.Check true) [] []) }
     ensures check_alone { (program : Text) → asked (program ∷ codes "check" ∷ []) ≡ Some Check }
     ensures canon_twice { (program : Text) →
         takes desk (program ∷ codes "canon" ∷ codes "--lines" ∷ codes "--lines" ∷ []) ≡ false }
@@ -100,32 +101,34 @@ pub fn canon_and_check_have_lines()
 /// which parts `explain` is to tell first.
 pub fn explain_takes_texts_and_options()
     ensures alone { (program : Text) →
-        asked (program ∷ codes "explain" ∷ []) ≡ Some (Explain (plainly (codes "full"))) }
+        asked (program ∷ codes "explain" ∷ []) ≡ Some (Texts (task.Explain (plainly (codes "full"))) [] []) }
     ensures one { (program first : Text) → is_plain_word first ≡ true →
-        asked (program ∷ codes "explain" ∷ first ∷ []) ≡ Some (ExplainText first (plainly (codes "full"))) }
+        asked (program ∷ codes "explain" ∷ first ∷ [])
+        ≡ Some (Texts (task.Explain (plainly (codes "full"))) (first ∷ []) []) }
     ensures two { (program first second : Text) → is_plain_word first ≡ true → is_plain_word second ≡ true →
         asked (program ∷ codes "explain" ∷ first ∷ second ∷ [])
-        ≡ Some (ExplainPair first second (plainly (codes "full"))) }
+        ≡ Some (Texts (task.Explain (plainly (codes "full"))) (first ∷ second ∷ []) []) }
     ensures dashes { (program first second : Text) →
         asked (program ∷ codes "explain" ∷ codes "--" ∷ first ∷ second ∷ [])
-        ≡ Some (ExplainPair first second (plainly (codes "full"))) }
+        ≡ Some (Texts (task.Explain (plainly (codes "full"))) (first ∷ second ∷ []) []) }
     ensures level { (program level : Text) → is_plain_word level ≡ true →
-        asked (program ∷ codes "explain" ∷ codes "--level" ∷ level ∷ []) ≡ Some (Explain (plainly level)) }
+        asked (program ∷ codes "explain" ∷ codes "--level" ∷ level ∷ [])
+        ≡ Some (Texts (task.Explain (plainly level)) [] []) }
     ensures before { (program level first second : Text) → is_plain_word level ≡ true →
         is_plain_word first ≡ true → is_plain_word second ≡ true →
         asked (program ∷ codes "explain" ∷ codes "--level" ∷ level ∷ first ∷ second ∷ [])
-        ≡ Some (ExplainPair first second (plainly level)) }
+        ≡ Some (Texts (task.Explain (plainly level)) (first ∷ second ∷ []) []) }
     ensures after { (program level first second : Text) → is_plain_word level ≡ true →
         is_plain_word first ≡ true → is_plain_word second ≡ true →
         asked (program ∷ codes "explain" ∷ first ∷ second ∷ codes "--level" ∷ level ∷ [])
-        ≡ Some (ExplainPair first second (plainly level)) }
+        ≡ Some (Texts (task.Explain (plainly level)) (first ∷ second ∷ []) []) }
     ensures json { (program : Text) → asked (program ∷ codes "explain" ∷ codes "--json" ∷ [])
-        ≡ Some (Explain (record { level = codes "full"; json = true; first = [] })) }
+        ≡ Some (Texts (task.Explain (record { level = codes "full"; json = true; first = [] })) [] []) }
     ensures once { (program word : Text) → asked (program ∷ codes "explain" ∷ (codes "--first=" ++ word) ∷ [])
-        ≡ Some (Explain (record { level = codes "full"; json = false; first = word ∷ [] })) }
+        ≡ Some (Texts (task.Explain (record { level = codes "full"; json = false; first = word ∷ [] })) [] []) }
     ensures twice { (program one other : Text) →
         asked (program ∷ codes "explain" ∷ (codes "--first=" ++ one) ∷ (codes "--first=" ++ other) ∷ [])
-        ≡ Some (Explain (record { level = codes "full"; json = false; first = one ∷ other ∷ [] })) }
+        ≡ Some (Texts (task.Explain (record { level = codes "full"; json = false; first = one ∷ other ∷ [] })) [] []) }
 {}
 
 /// The words after `canon`, `check` and `group` are files, however many they are, where no word is a flag. The level is
@@ -133,20 +136,21 @@ pub fn explain_takes_texts_and_options()
 /// word is a flag.
 pub fn words_are_files()
     ensures canon { (program name : Text) (names : List Text) → list_all is_plain_word (name ∷ names) ≡ true →
-        asked (program ∷ codes "canon" ∷ name ∷ names) ≡ Some (Files (task.Canon (codes "full")) (name ∷ names)) }
+        asked (program ∷ codes "canon" ∷ name ∷ names) ≡ Some (Files (task.Canon (codes "full") false) (name ∷ names) []) }
     ensures check { (program name : Text) (names : List Text) → list_all is_plain_word (name ∷ names) ≡ true →
-        asked (program ∷ codes "check" ∷ name ∷ names) ≡ Some (Files task.Check (name ∷ names)) }
+        asked (program ∷ codes "check" ∷ name ∷ names) ≡ Some (Files (task.Check false) (name ∷ names) []) }
     ensures group { (program name : Text) (names : List Text) → list_all is_plain_word (name ∷ names) ≡ true →
-        asked (program ∷ codes "group" ∷ name ∷ names) ≡ Some (Files (task.Group (codes "full")) (name ∷ names)) }
+        asked (program ∷ codes "group" ∷ name ∷ names)
+        ≡ Some (Files (task.Group (codes "full") (record { repeated = false; names = false; json = false })) (name ∷ names) []) }
     ensures same { (program first second : Text) → is_plain_word first ≡ true → is_plain_word second ≡ true →
         asked (program ∷ codes "same" ∷ codes "--files" ∷ first ∷ second ∷ [])
-        ≡ Some (Files (task.Same (codes "full")) (first ∷ second ∷ [])) }
+        ≡ Some (Files (task.Same (codes "full")) (first ∷ second ∷ []) []) }
     ensures one { (program first : Text) → is_plain_word first ≡ true →
         asked (program ∷ codes "explain" ∷ codes "--files" ∷ first ∷ [])
-        ≡ Some (Files (task.Explain (plainly (codes "full"))) (first ∷ [])) }
+        ≡ Some (Files (task.Explain (plainly (codes "full"))) (first ∷ []) []) }
     ensures two { (program first second : Text) → is_plain_word first ≡ true → is_plain_word second ≡ true →
         asked (program ∷ codes "explain" ∷ codes "--files" ∷ first ∷ second ∷ [])
-        ≡ Some (Files (task.ExplainPair (plainly (codes "full"))) (first ∷ second ∷ [])) }
+        ≡ Some (Files (task.Explain (plainly (codes "full"))) (first ∷ second ∷ []) []) }
 {}
 
 /// The words after each `--rules` are rules files, where no word is a flag: a task over standard input, where the line
@@ -154,13 +158,13 @@ pub fn words_are_files()
 pub fn rules_are_named()
     ensures canon { (program file : Text) → is_plain_word file ≡ true →
         asked (program ∷ codes "canon" ∷ codes "--rules" ∷ file ∷ [])
-        ≡ Some (FilesUnder (task.Canon (codes "full")) standard (file ∷ [])) }
+        ≡ Some (Files (task.Canon (codes "full") false) standard (file ∷ [])) }
     ensures twice { (program one other : Text) →
         asked (program ∷ codes "canon" ∷ (codes "--rules=" ++ one) ∷ (codes "--rules=" ++ other) ∷ [])
-        ≡ Some (FilesUnder (task.Canon (codes "full")) standard (one ∷ other ∷ [])) }
+        ≡ Some (Files (task.Canon (codes "full") false) standard (one ∷ other ∷ [])) }
     ensures same { (program file first second : Text) → is_plain_word file ≡ true →
         is_plain_word first ≡ true → is_plain_word second ≡ true →
         asked (program ∷ codes "same" ∷ codes "--rules" ∷ file ∷ first ∷ second ∷ [])
-        ≡ Some (TextsUnder (task.Same (codes "full")) (first ∷ second ∷ []) (file ∷ [])) }
+        ≡ Some (Texts (task.Same (codes "full")) (first ∷ second ∷ []) (file ∷ [])) }
     ensures check { (program file : Text) → takes desk (program ∷ codes "check" ∷ codes "--rules" ∷ file ∷ []) ≡ false }
 {}

@@ -1,8 +1,9 @@
 //! Runs of commands over texts.
 use self::Outcome::{Groups, Status};
 use crs_desk::{
-    Level, Manner as Form, RunFault, Sink, Source, Stream, Summary, run_canon, run_canon_lines,
-    run_check, run_check_lines, run_explain, run_explain_pair, run_group, run_same,
+    CanonText, CheckText, ExplainText, Level, Manner as Form, OfLine, PairAnswer, RunFault, Sink,
+    Source, Stream, Summary, Told, run_canon, run_check, run_group, run_lines, run_same, run_text,
+    write_answer,
 };
 use crs_suite::{Manner, Page, Pieces, Row, split_line};
 use std::alloc::Global;
@@ -113,13 +114,21 @@ impl<'t> Run<'t> {
         let outcome = match self.command {
             Command::Canon => run_canon(alloc, level, &mut source, &mut sink).map(Status),
             Command::CanonLines => {
-                run_canon_lines(alloc, level, &mut stream, &mut sink).map(Status)
+                let command = CanonText { level };
+                run_lines(alloc, &OfLine { command }, &mut stream, &mut sink).map(Status)
             }
             Command::Check => run_check(alloc, &mut source, &mut sink).map(Status),
-            Command::CheckLines => run_check_lines(alloc, &mut stream, &mut sink).map(Status),
-            Command::Explain(form) => run_explain(alloc, form, &mut source, &mut sink).map(Status),
-            Command::ExplainPair(form) => {
-                run_explain_pair(alloc, form, &[], level, text, second, &mut sink).map(Status)
+            Command::CheckLines => {
+                let command = CheckText;
+                run_lines(alloc, &OfLine { command }, &mut stream, &mut sink).map(Status)
+            }
+            Command::Explain(how) => {
+                run_text(alloc, ExplainText { how }, &mut source, &mut sink).map(Status)
+            }
+            Command::ExplainPair(how) => {
+                let told = Told { how, words: &[] };
+                let (a, b) = (text, second);
+                write_answer(alloc, &PairAnswer { told, level, a, b }, &mut sink).map(Status)
             }
             Command::Group => run_group(alloc, level, &mut source, &mut sink).map(Groups),
             Command::Same => run_same(alloc, level, text, second, &mut sink).map(Status),

@@ -50,55 +50,33 @@ fn put_asked(out: &mut Answer, asked: &Request) {
             put_word(out, second);
         }
         Request::Group(level) => put_command(out, "group", level),
-        Request::GroupListed(level, flags) => put_listed(out, level, *flags),
-        Request::CanonLines(level) => put_command(out, "canon lines", level),
-        Request::CheckLines => out.put("check lines"),
-        Request::Explain(options) => put_explain(out, "explain", options),
-        Request::ExplainText(text, options) => {
-            put_explain(out, "explain", options);
-            put_word(out, text);
+        Request::Texts(task, texts, rules) => {
+            put_task(out, task);
+            put_named(out, " texts", texts.as_slice());
+            put_named(out, " rules", rules.as_slice());
         }
-        Request::ExplainPair(first, second, options) => {
-            put_explain(out, "explain", options);
-            put_word(out, first);
-            put_word(out, second);
-        }
-        Request::Files(task, names) => put_task(out, task, " files", names.as_slice()),
-        Request::FilesUnder(task, names, rules) => {
-            put_task(out, task, " files", names.as_slice());
-            put_rules(out, rules.as_slice());
-        }
-        Request::TextsUnder(task, texts, rules) => {
-            put_task(out, task, " texts", texts.as_slice());
-            put_rules(out, rules.as_slice());
+        Request::Files(task, names, rules) => {
+            put_task(out, task);
+            put_named(out, " files", names.as_slice());
+            put_named(out, " rules", rules.as_slice());
         }
     }
 }
 
-fn put_rules(out: &mut Answer, rules: &[LineWord]) {
-    out.put(" rules");
-    put_words(out, rules);
-}
-
-// A task, and the words that it is asked of.
-fn put_task(out: &mut Answer, task: &Task, what: &str, words: &[LineWord]) {
+fn put_task(out: &mut Answer, task: &Task) {
     match task {
-        Task::Canon(level) => put_command(out, "canon", level),
-        Task::Check => out.put("check"),
-        Task::Group(level) => put_command(out, "group", level),
-        Task::GroupListed(level, flags) => put_listed(out, level, *flags),
-        Task::CanonLines(level) => put_command(out, "canon lines", level),
-        Task::CheckLines => out.put("check lines"),
-        Task::Explain(options) => put_explain(out, "explain one", options),
+        Task::Canon(level, true) => put_command(out, "canon lines", level),
+        Task::Canon(level, false) => put_command(out, "canon", level),
+        Task::Check(true) => out.put("check lines"),
+        Task::Check(false) => out.put("check"),
+        Task::Group(level, flags) => put_group(out, level, *flags),
         Task::Same(level) => put_command(out, "same", level),
-        Task::ExplainPair(options) => put_explain(out, "explain two", options),
+        Task::Explain(options) => put_explain(out, options),
     }
-    out.put(what);
-    put_words(out, words);
 }
 
-// `group` with its flags, which there are.
-fn put_listed(out: &mut Answer, level: &LineWord, flags: GroupFlags) {
+// `group` with its flags.
+fn put_group(out: &mut Answer, level: &LineWord, flags: GroupFlags) {
     out.put("group");
     out.put(if flags.repeated { " repeated" } else { "" });
     out.put(if flags.names { " names" } else { "" });
@@ -107,13 +85,10 @@ fn put_listed(out: &mut Answer, level: &LineWord, flags: GroupFlags) {
 }
 
 // The command, the level in brackets, and `json` and what is told `first` where they are asked for.
-fn put_explain(out: &mut Answer, name: &str, options: &ExplainOptions) {
-    put_command(out, name, &options.level);
+fn put_explain(out: &mut Answer, options: &ExplainOptions) {
+    put_command(out, "explain", &options.level);
     out.put(if options.json { " json" } else { "" });
-    if !options.first.as_slice().is_empty() {
-        out.put(" first");
-        put_words(out, options.first.as_slice());
-    }
+    put_named(out, " first", options.first.as_slice());
 }
 
 // The command, and its level in brackets.
@@ -122,7 +97,9 @@ fn put_command(out: &mut Answer, name: &str, level: &LineWord) {
     put_word(out, level);
 }
 
-fn put_words(out: &mut Answer, words: &[LineWord]) {
+// What words are, and the words; nothing where there are none.
+fn put_named(out: &mut Answer, what: &str, words: &[LineWord]) {
+    out.put(if words.is_empty() { "" } else { what });
     for word in words {
         put_word(out, word);
     }

@@ -1,14 +1,13 @@
 -- Bytes that are a plain spelling.
-use Rattle.std.proofs.Common.{◌≡◌, ◌≢◌, ◌⊎◌, ℕ, zero, suc, ◌*◌, ◌%◌, ◌^◌, ◌-◌, ◌<◌, List, [], ◌∷◌, ◌++◌, Option, Some, None, length, take, drop, replicate, get_or, ◌==◌, if◌then◌else◌, true, false, take-add, append_assoc, ◌+◌, ◌≤◌, inl, inr, refl, sym, ap, subst, ◌∙◌, arith}
-use Rattle.std.specs.List.{prefix_len, slice_get}
+use Rattle.std.proofs.Common.{◌≡◌, ◌≢◌, ◌⊎◌, ℕ, zero, suc, ◌*◌, ◌%◌, ◌^◌, ◌-◌, ◌<◌, List, [], ◌∷◌, ◌++◌, Option, Some, None, length, take, drop, replicate, get_or, ◌==◌, if◌then◌else◌, true, false, take-add, append_assoc, ◌+◌, ◌≤◌, inl, inr, refl, sym, ap, ◌∙◌, arith}
+use Rattle.std.specs.List.{prefix_len}
 use Rattle.std.proofs.lemmas.Bool.{eqb-false, eqb-true}
 use Rattle.std.proofs.lemmas.List.{append-nil, length-append, take-append-drop, take_more}
 use Rattle.std.proofs.lemmas.List.Sums.{fold-append}
-use Rattle.crs_decimal.specs.Bounds.{digits_value, number_of, Denotes, IsBounded, IsMeasured}
-use Rattle.crs_decimal.specs.Number.{Number, SameNumber, SameSize}
+use Rattle.crs_decimal.specs.Spelling.{digits_value, number_of, Denotes, IsBounded, IsMeasured, AreDigits, is_digit, Sign, unsigned, plus, minus, Exponent, Parts, SpellsNumber, exponent_text, fraction_digits, fraction_text}
+use Rattle.crs_decimal.specs.Value.{Number, SameNumber, SameSize}
 use Rattle.crs_decimal.specs.Plain.{EndsTrim, IsFractionNeeded, IsPlain, IsTrim}
-use Rattle.crs_decimal.specs.PlainBytes.{IsPlainRest, IsUnsigned}
-use Rattle.crs_decimal.specs.Spelling.{AreDigits, is_digit, Sign, unsigned, plus, minus, Exponent, Parts, SpellsNumber, exponent_text, fraction_digits, fraction_text}
+use Rattle.crs_decimal.specs.PlainBytes.{IsUnsigned}
 use Rattle.crs_decimal.proofs.BoundLemmas.{same_scaled}
 use Rattle.crs_decimal.proofs.DecimalLemmas.{above_some}
 use Rattle.crs_decimal.proofs.DigitLemmas.{of_parts, spelled}
@@ -16,12 +15,10 @@ use Rattle.crs_decimal.proofs.NumberLemmas.{transitive}
 use Rattle.crs_decimal.proofs.PowerLemmas.{power_next}
 use Rattle.crs_decimal.proofs.SplitLemmas.{digits-append, digits_parts, front_digits, parts_one}
 
-pub ends-by : (ds : List ℕ) (d : ℕ) → slice_get ds (length ds - 1) ≡ Some d → d ≢ 48 → EndsTrim ds
-ends-by [] d e n = let h : ⊥ = cc in absurd h
-ends-by (x ∷ []) d e n = let s : Some x ≡ Some d = e in let t : x ≡ d = cc in λ z. n (sym t ∙ z)
-ends-by (x ∷ y ∷ ds) d e n =
-    let k : length (x ∷ y ∷ ds) - 1 ≡ suc (length (y ∷ ds) - 1) = omega arith in
-    ends-by (y ∷ ds) d (subst (λ i. slice_get (x ∷ y ∷ ds) i ≡ Some d) k e) n
+-- nothing, or a period and digits that end in no zero
+abbrev IsPlainRest : List ℕ → Type 0
+IsPlainRest [] = Unit {0}
+IsPlainRest (b ∷ digits) = (b ≡ 46) × AreDigits digits × EndsTrim digits
 
 unsigned-by : (raw whole : List ℕ) (fraction : Option (List ℕ)) → raw ≡ whole ++ fraction_text fraction → AreDigits whole → AreDigits (fraction_digits fraction) →
     IsTrim whole → IsFractionNeeded fraction → IsUnsigned raw
@@ -40,11 +37,6 @@ unsigned-by raw whole fraction e dw df trim ends = rw e (record {
 joined : (raw whole rest : List ℕ) → raw ≡ whole ++ rest → AreDigits whole → IsTrim whole → IsPlainRest rest → IsUnsigned raw
 joined raw whole [] e digits trim h = unsigned-by raw whole None e digits refl trim tt
 joined raw whole (b ∷ fraction) e digits trim (period, behind, ends) = unsigned-by raw whole (Some fraction) (rw period at e) digits behind trim ends
-
-pub plain-by : (raw : List ℕ) → IsTrim (take (prefix_len is_digit raw) raw) → IsPlainRest (drop (prefix_len is_digit raw) raw) → IsUnsigned raw
-plain-by raw trim rest =
-    joined raw (take (prefix_len is_digit raw) raw) (drop (prefix_len is_digit raw) raw)
-    (sym (take-append-drop (prefix_len is_digit raw) raw)) (front_digits raw) trim rest
 
 -- ---- signs
 

@@ -6,11 +6,9 @@ use Rattle.std.proofs.lemmas.List.{append-nil}
 use Rattle.std.proofs.lemmas.List.Sums.{fold-append}
 use Rattle.std.proofs.lemmas.Nat.{same_from_place}
 use Rattle.std.proofs.Math.Nat.{mul-one, mul-le-mul_right}
-use Rattle.crs_decimal.specs.Bounds.{digits_value, is_minus, power_up, power_down, number_of, Denotes}
-use Rattle.crs_decimal.specs.Number.{SameSize, SameNumber}
+use Rattle.crs_decimal.specs.Spelling.{digits_value, is_minus, power_up, power_down, number_of, Denotes, Parts, parts_text, is_digit, AreDigits, fraction_digits, mantissa}
+use Rattle.crs_decimal.specs.Value.{SameSize, SameNumber, Value, exact}
 use Rattle.crs_decimal.specs.Plain.{IsTrim, EndsTrim, IsSignNeeded, IsFractionNeeded, IsPlain}
-use Rattle.crs_decimal.specs.Spelling.{Parts, parts_text, is_digit, AreDigits, fraction_digits, mantissa}
-use Rattle.crs_decimal.specs.Value.{Value, exact}
 use Rattle.crs_decimal.proofs.DecimalLemmas.{above_some}
 use Rattle.crs_decimal.proofs.DigitLemmas.{value_after, value-append, value-cons, value-below, same_digits, digit_range}
 use Rattle.crs_decimal.proofs.MantissaLemmas.{last_digit}

@@ -6,8 +6,9 @@ use Rattle.std.proofs.lemmas.Bool.Decides.{nat_tests}
 use Rattle.std.proofs.lemmas.List.{take-append-drop, append-nil, take_at, drop_at}
 use Rattle.std.proofs.lemmas.List.Folds.{list_all-append}
 use Rattle.std.proofs.lemmas.List.Sums.{take_while-cons}
-use Rattle.crs_decimal.specs.Spelling.{Sign, unsigned, plus, minus, sign_text, Exponent, Parts, fraction_text, exponent_text, parts_text, is_digit, AreDigits, fraction_digits, mantissa, IsExponent, IsForm, SpellsNumber, HasForm}
-use Rattle.crs_decimal.specs.Split.{leading_digits, behind_digits, sign_of, behind_sign, fraction_of, behind_fraction, exponent_of, behind_exponent, behind_whole, behind_mantissa, parts_of, behind_parts, HasExponentDigits, IsCutWhole}
+use Rattle.crs_decimal.specs.Cut.{IsExponentWhole, IsExponentCut}
+use Rattle.crs_decimal.specs.Spelling.{is_minus, is_below, exponent_digits, Sign, unsigned, plus, minus, sign_text, Exponent, Parts, fraction_text, exponent_text, parts_text, is_digit, AreDigits, fraction_digits, mantissa, IsExponent, IsForm, SpellsNumber, HasForm}
+use Rattle.crs_decimal.specs.Split.{is_exponent_letter, leading_digits, behind_digits, sign_of, behind_sign, fraction_of, behind_fraction, exponent_of, behind_exponent, behind_whole, behind_mantissa, parts_of, behind_parts, HasExponentDigits, IsCutWhole}
 
 -- ---- bytes are the text of their parts, and what is left
 
@@ -118,6 +119,27 @@ exponent_cut_off (Some e) h =
     let digits : leading_digits e.digits ≡ e.digits = rw append-nil at f.0 in
     let rest : behind_digits e.digits ≡ [] = rw append-nil at f.1 in
     rw (h.0, s.0, s.1, digits, rest) (refl, refl)
+
+-- bytes that begin with an exponent's letter are an exponent where digits alone follow its sign
+pub exponent_whole : (letter : ℕ) (bs : List ℕ) → is_exponent_letter letter ≡ true → AreDigits (behind_sign bs) → 0 < length (behind_sign bs) →
+    IsExponentWhole (letter ∷ bs) × IsExponentCut (letter ∷ bs) (is_minus (sign_of bs)) (behind_sign bs)
+exponent_whole letter bs is digits some =
+    let f = front_cut (behind_sign bs) [] digits (unfold starts_digit in refl) in
+    let own : leading_digits (behind_sign bs) ≡ behind_sign bs = rw append-nil at f.0 in
+    let none : behind_digits (behind_sign bs) ≡ [] = rw append-nil at f.1 in
+    let e : exponent_of (letter ∷ bs) ≡ Some (record { letter = letter; sign = sign_of bs; digits = behind_sign bs }) = rw (is, own) refl in (
+      (rw is none, subst HasExponentDigits (sym e) some),
+      record { below_is = sym (ap is_below e); are_those = sym (ap exponent_digits e); are_digits = digits },
+    )
+
+-- and nowhere else
+pub whole_exponent : (letter : ℕ) (bs : List ℕ) → is_exponent_letter letter ≡ true → IsExponentWhole (letter ∷ bs) →
+    AreDigits (behind_sign bs) × (0 < length (behind_sign bs))
+whole_exponent letter bs is h =
+    let w = rw is at h in
+    let own : leading_digits (behind_sign bs) ≡ behind_sign bs =
+    sym (append-nil (leading_digits (behind_sign bs))) ∙ ap (λ r. leading_digits (behind_sign bs) ++ r) (sym w.0) ∙ front_joined (behind_sign bs) in
+    (subst AreDigits own (front_digits (behind_sign bs)), subst (λ (ds : List ℕ). 0 < length ds) own w.1)
 
 -- a fraction starts with no digit, and with a sign only if what follows it does
 fraction_start : (f : Option (List ℕ)) (r : List ℕ) → starts_digit r ≡ false → starts_digit (fraction_text f ++ r) ≡ false

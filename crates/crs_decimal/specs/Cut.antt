@@ -1,20 +1,20 @@
 -- A bridge: what the reader keeps of a number's parts.
-use Rattle.std.specs.Prelude.{◌≡◌, ℕ, ◌+◌, ◌<◌, ◌⊎◌, List, length, ℤ, IsTrue}
+use Rattle.std.specs.Prelude.{◌≡◌, ℕ, ◌+◌, ◌<◌, ◌⊎◌, Bool, List, [], length, ℤ, IsTrue}
 use Rattle.crs_decimal.specs.declared.cutting.Spelled.{Spelled}
-use Rattle.crs_decimal.specs.declared.cutting.Exponent.{Exponent as CutExponent}
-use Rattle.crs_decimal.specs.Bounds.{is_minus, is_below, exponent_digits}
+use Rattle.crs_decimal.specs.Spelling.{is_minus, is_below, exponent_digits, Parts, mantissa, fraction_digits, AreDigits}
 use Rattle.crs_decimal.specs.Mantissa.{no_digits, with_digits}
-use Rattle.crs_decimal.specs.Spelling.{Parts, mantissa, fraction_digits, AreDigits}
 use Rattle.crs_decimal.specs.Split.{exponent_of, behind_exponent, HasExponentDigits}
 use Rattle.crs_decimal.specs.Value.{is_power, up_of, down_of}
 
--- the exponent in front of the bytes is this one, and has digits if it is written
-pub record IsExponentCut (bytes : List ℕ) (e : CutExponent) : Type 0 where
-  pub negative : e.negative ≡ is_below (exponent_of bytes)
-  pub digits : e.digits.now ≡ exponent_digits (exponent_of bytes)
-  pub are_digits : AreDigits e.digits.now
-  pub rest : e.rest.now ≡ behind_exponent bytes
-  pub written : HasExponentDigits (exponent_of bytes)
+-- the bytes are an exponent that has digits, or none
+abbrev pub IsExponentWhole : List ℕ → Type 0
+IsExponentWhole bytes = (behind_exponent bytes ≡ []) × HasExponentDigits (exponent_of bytes)
+
+-- the reader keeps this of the exponent in front of the bytes
+pub record IsExponentCut (bytes : List ℕ) (below : Bool) (digits : List ℕ) : Type 0 where
+  pub below_is : below ≡ is_below (exponent_of bytes)
+  pub are_those : digits ≡ exponent_digits (exponent_of bytes)
+  pub are_digits : AreDigits digits
 
 -- the reader keeps this of the parts
 pub record IsCut (p : Parts) (s : Spelled) : Type 0 where

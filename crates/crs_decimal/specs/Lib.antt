@@ -1,9 +1,7 @@
-pub mod Bounds
 pub mod Cut
 pub mod Examples
 pub mod Fault
 pub mod Mantissa
-pub mod Number
 pub mod Plain
 pub mod PlainBytes
 pub mod Prelude

@@ -3,8 +3,7 @@
 use Rattle.std.specs.Prelude.{◌≡◌, ◌≢◌, ℕ, suc, ◌-◌, ◌⊎◌, ◌==◌, ◌||◌, Bool, if◌then◌else◌, List, []}
 use Rattle.std.specs.Prelude.{◌∷◌, ◌++◌, length}
 use Rattle.std.specs.Prelude.{take, drop, replicate, decimal, ℤ, pos, negsuc, Option, Some, None}
-use Rattle.crs_decimal.specs.Spelling.{unsigned, minus, Parts, SpellsNumber, is_digit}
-use Rattle.crs_decimal.specs.Bounds.{Denotes}
+use Rattle.crs_decimal.specs.Spelling.{unsigned, minus, Parts, SpellsNumber, is_digit, Denotes}
 use Rattle.crs_decimal.specs.Value.{Value, exact}
 
 -- digits that begin with no zero, or one zero alone

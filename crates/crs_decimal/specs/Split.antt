@@ -3,8 +3,7 @@ use Rattle.std.specs.Prelude.{◌≡◌, ℕ, ◌<◌, ◌==◌, ◌||◌, Bool,
 use Rattle.std.specs.Prelude.{take, drop, Option}
 use Rattle.std.specs.Prelude.{Some, None}
 use Rattle.std.specs.List.{prefix_len}
-use Rattle.crs_decimal.specs.Spelling.{Sign, unsigned, plus, minus, Exponent, Parts, is_digit}
-use Rattle.crs_decimal.specs.Spelling.{mantissa}
+use Rattle.crs_decimal.specs.Spelling.{Sign, unsigned, plus, minus, Exponent, Parts, is_digit, mantissa}
 
 -- the digits in front
 abbrev pub leading_digits : List ℕ → List ℕ

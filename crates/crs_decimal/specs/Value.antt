@@ -1,8 +1,28 @@
--- A decimal as callers see it, always in its normal form.
-use Rattle.std.specs.Prelude.{ℕ, suc, ◌%◌, ◌^◌, ◌==◌, ◌&&◌, ◌||◌, not, nat_lt, nat_le, Bool, false}
-use Rattle.std.specs.Prelude.{IsTrue, ℤ, pos}
-use Rattle.std.specs.Prelude.{negsuc}
-use Rattle.crs_decimal.specs.Number.{Number}
+-- An exact number: no rounding, and equality by multiplying across; and a decimal as callers see it.
+use Rattle.std.specs.Prelude.{◌≡◌, ℕ, ◌+◌, ◌*◌, ◌^◌, Bool, false, ◌⊎◌, suc, ◌%◌, ◌==◌, ◌&&◌, ◌||◌, not, nat_lt, nat_le, IsTrue, ℤ, pos, negsuc}
+
+-- ---- an exact number: no rounding, and equality by multiplying across
+
+-- digits * 10^up / 10^down, and below zero where `negative`
+pub record Number : Type 0 where
+  pub negative : Bool
+  pub digits : ℕ
+  pub up : ℕ
+  pub down : ℕ
+
+-- two numbers are of one size: equal when the powers of ten below are multiplied across
+abbrev pub SameSize : Number → Number → Type 0
+SameSize a b = a.digits * 10 ^ (a.up + b.down) ≡ b.digits * 10 ^ (b.up + a.down)
+
+-- two numbers are the same: of one size, and of one sign unless both are zero
+abbrev pub SameNumber : Number → Number → Type 0
+SameNumber a b = SameSize a b × ((a.negative ≡ b.negative) ⊎ ((a.digits ≡ 0) × (b.digits ≡ 0)))
+
+-- a natural number as an exact number
+abbrev pub whole_number : ℕ → Number
+whole_number n = record { negative = false; digits = n; up = 0; down = 0 }
+
+-- ---- a decimal as callers see it, always in its normal form
 
 -- digits * 10^power, below zero where `negative`
 pub record Value : Type 0 where

@@ -1,13 +1,13 @@
 ghost use Rattle.std.specs.Prelude.{◌≡◌, ◌+◌, ◌<◌, ◌≤◌, ◌^◌, length, take, drop, MatchOption};
 ghost use Rattle.std.specs.List.{prefix_len};
-ghost use Rattle.crs_decimal.specs.Bounds.{is_minus};
-ghost use Rattle.crs_decimal.specs.Cut.{IsExponentCut, IsCut};
+ghost use Rattle.crs_decimal.specs.Spelling.{is_minus, AreDigits, fraction_digits, is_digit};
+ghost use Rattle.crs_decimal.specs.Cut.{IsExponentWhole, IsExponentCut, IsCut};
 ghost use Rattle.crs_decimal.specs.Mantissa.{with_digits};
-ghost use Rattle.crs_decimal.specs.Spelling.{AreDigits, fraction_digits, is_digit};
 ghost use Rattle.crs_decimal.specs.Split.{leading_digits, behind_digits, sign_of, behind_sign, fraction_of};
-ghost use Rattle.crs_decimal.specs.Split.{behind_fraction, exponent_of, HasExponentDigits, parts_of, IsCutWhole};
+ghost use Rattle.crs_decimal.specs.Split.{behind_fraction, parts_of, IsCutWhole};
 
 use crate::mantissa::Mantissa;
+use crate::plain::are_digits;
 
 // what is kept of a number's parts
 #[derive(Clone, Copy)]
@@ -27,13 +27,6 @@ struct Run<'a> {
     rest: &'a [u8],
 }
 
-#[derive(Clone, Copy)]
-struct Exponent<'a> {
-    negative: bool,
-    digits: &'a [u8],
-    rest: &'a [u8],
-}
-
 pub(crate) fn read(bytes: &[u8]) -> Option<Spelled>
     ensures cut { MatchOption result
         (¬ (IsCutWhole bytes.now))
@@ -45,9 +38,9 @@ pub(crate) fn read(bytes: &[u8]) -> Option<Spelled>
     let (negative, rest) = split_sign(bytes);
     let whole = split_digits(rest, Mantissa::new());
     let fraction = split_fraction(whole.rest, whole.mantissa);
-    let exponent = split_exponent(fraction.rest)?;
+    let (below, exponent) = split_exponent(fraction.rest)?;
     let count = whole.count + fraction.count;
-    if count == 0 || !exponent.rest.is_empty() {
+    if count == 0 {
         return None;
     }
     Some(Spelled {
@@ -55,8 +48,8 @@ pub(crate) fn read(bytes: &[u8]) -> Option<Spelled>
         mantissa: fraction.mantissa,
         count,
         fraction: fraction.count,
-        below: exponent.negative,
-        exponent: exponent.digits,
+        below,
+        exponent,
     })
 }
 
@@ -117,41 +110,23 @@ fn split_fraction(bytes: &[u8], before: Mantissa) -> Run
     }
 }
 
-// the exponent in front, empty if there is none; None where its letter has no digits
-fn split_exponent(bytes: &[u8]) -> Option<Exponent>
+// whether a minus is before the exponent's digits, and those, if nothing but an exponent is here, or nothing at all
+fn split_exponent(bytes: &[u8]) -> Option<(bool, &[u8])>
     ensures { MatchOption result
-        (¬ (HasExponentDigits (exponent_of bytes.now)))
-        (IsExponentCut bytes.now) }
+        (¬ (IsExponentWhole bytes.now))
+        (λ e. IsExponentWhole bytes.now × IsExponentCut bytes.now e.0 e.1.now) }
 {
     match bytes {
+        [] => Some((false, bytes)),
         [b'E' | b'e', signed @ ..] => {
-            let (negative, rest) = split_sign(signed);
-            let (digits, rest) = cut_digits(rest);
-            if digits.is_empty() {
+            let (below, digits) = split_sign(signed);
+            if digits.is_empty() || !are_digits(digits) {
                 return None;
             }
-            Some(Exponent {
-                negative,
-                digits,
-                rest,
-            })
+            Some((below, digits))
         }
-        _ => Some(Exponent {
-            negative: false,
-            digits: front_of(bytes, 0),
-            rest: bytes,
-        }),
+        _ => None,
     }
-}
-
-// the digits in front, and what follows them
-fn cut_digits(bytes: &[u8]) -> (&[u8], &[u8])
-    ensures front { result.0.now ≡ leading_digits bytes.now }
-    ensures digits { AreDigits result.0.now }
-    ensures rest { result.1.now ≡ behind_digits bytes.now }
-{
-    let count = digits_len(bytes);
-    (front_of(bytes, count), rest_of(bytes, count))
 }
 
 pub(crate) fn digits_len(bytes: &[u8]) -> usize

@@ -1,6 +1,5 @@
 ghost use Rattle.std.specs.Prelude.{◌≡◌, ℕ, MatchOption, ◌≢◌, ◌==◌, ◌%◌, ◌^◌, ◌<◌, ◌↔◌, IsTrue};
-ghost use Rattle.crs_decimal.specs.Number.{SameNumber, whole_number};
-ghost use Rattle.crs_decimal.specs.Value.{IsNormal, exact, is_power, zero};
+ghost use Rattle.crs_decimal.specs.Value.{SameNumber, whole_number, IsNormal, exact, is_power, zero};
 
 use crate::laws;
 use crate::mantissa::scaled;

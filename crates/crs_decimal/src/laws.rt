@@ -2,12 +2,10 @@
 
 ghost use Rattle.std.specs.Prelude.{◌≡◌, ℕ, ◌<◌, ◌≤◌, ◌↔◌, ◌⊎◌, IsTrue, List, None, length};
 ghost use Rattle.std.specs.List.{list_all};
-ghost use Rattle.crs_decimal.specs.Bounds.{IsInBounds, Denotes};
+ghost use Rattle.crs_decimal.specs.Spelling.{IsInBounds, Denotes, Parts, SpellsNumber, HasForm, IsRun, AreDigits, mantissa};
 ghost use Rattle.crs_decimal.specs.Examples.{SpellingsDenote, SpellingsFail, ValuesArePlain};
-ghost use Rattle.crs_decimal.specs.Number.{Number, SameNumber};
+ghost use Rattle.crs_decimal.specs.Value.{Number, SameNumber, Value, IsNormal, exact};
 ghost use Rattle.crs_decimal.specs.Plain.{IsPlain, is_plain_byte, plain};
-ghost use Rattle.crs_decimal.specs.Spelling.{Parts, SpellsNumber, HasForm, IsRun, AreDigits, mantissa};
-ghost use Rattle.crs_decimal.specs.Value.{Value, IsNormal, exact};
 
 /// Bytes spell the parts of a number in one way at most.
 #[tactic(auto, using(crate::proofs::SplitLemmas::parts_one))]

@@ -2,11 +2,10 @@
 ghost use Rattle.std.specs.Prelude.{◌≡◌, ◌≢◌, ◌<◌, ◌≤◌, ◌∷◌, ◌+◌, ◌-◌, ◌==◌, ◌++◌, if◌then◌else◌, IfSome, IsTrue};
 ghost use Rattle.std.specs.Prelude.{length, take, replicate, slice_index_or};
 ghost use Rattle.std.specs.List.{list_all};
-ghost use Rattle.crs_decimal.specs.Bounds.{Denotes};
-ghost use Rattle.crs_decimal.specs.Number.{Number};
-ghost use Rattle.crs_decimal.specs.Plain.{EndsTrim, IsPlain, IsTrim};
-ghost use Rattle.crs_decimal.specs.Spelling.{AreDigits, is_digit};
-ghost use Rattle.crs_decimal.specs.PlainBytes.{IsPlainRest, IsUnsigned};
+ghost use Rattle.crs_decimal.specs.Spelling.{Denotes, is_digit};
+ghost use Rattle.crs_decimal.specs.Value.{Number};
+ghost use Rattle.crs_decimal.specs.Plain.{IsPlain, IsTrim};
+ghost use Rattle.crs_decimal.specs.PlainBytes.{IsUnsigned};
 
 use crate::cutting::{digits_len, front_of, rest_of};
 
@@ -29,25 +28,38 @@ fn begins_trim(digits: &[u8]) -> bool
     }
 }
 
-// Whether bytes are digits, the last of them not a zero.
-fn ends_trim(digits: &[u8]) -> bool
-    ensures digits { IsTrue result → AreDigits digits.now }
-    ensures trim { IsTrue result → EndsTrim digits.now }
+// How long a fraction is without the zeros at its end.
+fn kept_len(fraction: &[u8]) -> usize
+    ensures bound { result ≤ length fraction.now }
+    ensures zeros { fraction.now ≡ take result fraction.now ++ replicate (length fraction.now - result) 48 }
+    ensures ends { 0 < result → slice_index_or fraction.now (result - 1) 0 ≢ 48 }
 {
-    match digits.last() {
-        None => false,
-        Some(last) => *last != b'0' && are_digits(digits),
+    let mut end = fraction.len();
+    while end > 0 && fraction[end - 1] == b'0' {
+        end -= 1;
     }
+    end
 }
 
-// Whether what is behind the digits in front is nothing, or a fraction that is plain.
-fn is_rest_plain(rest: &[u8]) -> bool
-    ensures { IsTrue result → IsPlainRest rest.now }
+// The plain spelling of the number that these bytes spell, which have no sign, where a quick test finds it: these
+// bytes, or these without the zeros at the end of a fraction.
+fn unsigned_plain(raw: &[u8]) -> Option<&[u8]>
+    ensures plain { IfSome result (λ part. IsUnsigned part.now) }
+    ensures same { IfSome result (λ part. (number : Number) → Denotes raw.now number → Denotes part.now number) }
+    ensures whole { IfSome result (λ part. length part.now ≡ length raw.now → part.now ≡ raw.now) }
 {
-    match rest {
-        [] => true,
-        [b'.', fraction @ ..] => ends_trim(fraction),
-        _ => false,
+    let count = digits_len(raw);
+    if !begins_trim(front_of(raw, count)) {
+        return None;
+    }
+    match rest_of(raw, count) {
+        [] => Some(raw),
+        [b'.', fraction @ ..] if are_digits(fraction) => {
+            let kept = kept_len(fraction);
+            let behind = if kept == 0 { 0 } else { 1 + kept };
+            Some(front_of(raw, count + behind))
+        }
+        _ => None,
     }
 }
 
@@ -55,8 +67,7 @@ fn is_rest_plain(rest: &[u8]) -> bool
 fn is_unsigned(raw: &[u8]) -> bool
     ensures { IsTrue result → IsUnsigned raw.now }
 {
-    let count = digits_len(raw);
-    begins_trim(front_of(raw, count)) && is_rest_plain(rest_of(raw, count))
+    matches!(unsigned_plain(raw), Some(part) if part.len() == raw.len())
 }
 
 // Whether these bytes, of which there are several, are a plain spelling behind a minus.
@@ -74,50 +85,6 @@ pub fn is_plain(raw: &[u8]) -> bool
     match raw {
         [b'-', rest @ ..] => is_below_zero(rest),
         _ => is_unsigned(raw),
-    }
-}
-
-// How long a fraction is without the zeros at its end.
-fn kept_len(fraction: &[u8]) -> usize
-    ensures bound { result ≤ length fraction.now }
-    ensures zeros { fraction.now ≡ take result fraction.now ++ replicate (length fraction.now - result) 48 }
-    ensures ends { 0 < result → slice_index_or fraction.now (result - 1) 0 ≢ 48 }
-{
-    let mut end = fraction.len();
-    while end > 0 && fraction[end - 1] == b'0' {
-        end -= 1;
-    }
-    end
-}
-
-// So many digits in front, and a period and so many digits behind them where there are any.
-fn front_with(raw: &[u8], count: usize, kept: usize) -> &[u8]
-    requires { count + (1 + kept) ≤ length raw.now }
-    ensures { result.now ≡ (if kept == 0 then take count raw.now else take (count + (1 + kept)) raw.now) }
-{
-    if kept == 0 {
-        &raw[..count]
-    } else {
-        &raw[..count + (1 + kept)]
-    }
-}
-
-// The plain spelling of the number that these bytes spell, which have no sign, where a quick test finds it: these
-// bytes, or these without the zeros at the end of a fraction.
-fn unsigned_plain(raw: &[u8]) -> Option<&[u8]>
-    ensures plain { IfSome result (λ part. IsUnsigned part.now) }
-    ensures same { IfSome result (λ part. (number : Number) → Denotes raw.now number → Denotes part.now number) }
-{
-    let count = digits_len(raw);
-    if !begins_trim(front_of(raw, count)) {
-        return None;
-    }
-    match rest_of(raw, count) {
-        [] => Some(raw),
-        [b'.', fraction @ ..] if are_digits(fraction) => {
-            Some(front_with(raw, count, kept_len(fraction)))
-        }
-        _ => None,
     }
 }
 

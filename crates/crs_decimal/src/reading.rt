@@ -1,10 +1,8 @@
 ghost use Rattle.std.specs.Prelude.{◌≡◌, ◌+◌, ◌<◌, ◌≤◌, length, if◌then◌else◌, MatchOption, MatchResult};
-ghost use Rattle.crs_decimal.specs.Bounds.{digits_value, IsBounded, number_of, Denotes};
+ghost use Rattle.crs_decimal.specs.Spelling.{digits_value, IsBounded, number_of, Denotes, Parts, AreDigits, mantissa};
 ghost use Rattle.crs_decimal.specs.Cut.{IsCut, IsFar, IsPowerBetween};
 ghost use Rattle.crs_decimal.specs.Fault.{IsFault};
-ghost use Rattle.crs_decimal.specs.Number.{SameNumber};
-ghost use Rattle.crs_decimal.specs.Spelling.{Parts, AreDigits, mantissa};
-ghost use Rattle.crs_decimal.specs.Value.{IsNormal, exact};
+ghost use Rattle.crs_decimal.specs.Value.{SameNumber, IsNormal, exact};
 
 use crate::cutting::{Spelled, read};
 use crate::decimal::Decimal;
@@ -27,10 +25,7 @@ impl Decimal {
     {
         match read_short(bytes) {
             Some(number) => Ok(number.decimal()),
-            None => match parse_any(bytes) {
-                Ok(number) => Ok(number.rebuilt()),
-                Err(fault) => Err(fault),
-            },
+            None => Ok(parse_any(bytes)?.rebuilt()),
         }
     }
 }
@@ -44,10 +39,7 @@ fn parse_any(bytes: &[u8]) -> Result<Decimal, NumberFault>
 {
     match read(bytes) {
         None => Err(NumberFault::Malformed),
-        Some(spelled) => match spelled.decimal() {
-            None => Err(NumberFault::Range),
-            Some(number) => Ok(number),
-        },
+        Some(spelled) => spelled.decimal().ok_or(NumberFault::Range),
     }
 }
 

@@ -1,12 +1,10 @@
 //! Numbers of at most 19 bytes without an exponent, as nearly all are: their digits fit a `u64`.
 ghost use Rattle.std.specs.Prelude.{◌≡◌, ◌≢◌, ◌+◌, ◌-◌, ◌*◌, ◌%◌, ◌^◌, ◌<◌, ◌≤◌, length, fold, IfSome};
-ghost use Rattle.crs_decimal.specs.Bounds.{IsBounded, number_of};
+ghost use Rattle.crs_decimal.specs.Spelling.{IsBounded, number_of, Parts};
 ghost use Rattle.crs_decimal.specs.Cut.{IsPowerBetween};
-ghost use Rattle.crs_decimal.specs.Number.{SameNumber};
+ghost use Rattle.crs_decimal.specs.Value.{SameNumber, IsNormal, exact};
 ghost use Rattle.crs_decimal.specs.Short.{IsReadShort, IsShortCut};
-ghost use Rattle.crs_decimal.specs.Spelling.{Parts};
 ghost use Rattle.crs_decimal.specs.Split.{leading_digits, behind_digits};
-ghost use Rattle.crs_decimal.specs.Value.{IsNormal, exact};
 
 use crate::cutting::{rest_of, split_sign};
 use crate::decimal::Decimal;

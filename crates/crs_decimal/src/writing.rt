@@ -39,9 +39,7 @@ fn push_all(text: &mut Text, bytes: &[u8])
     requires { array_vec_len text.old + length bytes.now ≤ 79 }
     ensures { text.new.items ≡ text.old.items ++ bytes.now }
 {
-    for byte in bytes {
-        text.push(*byte);
-    }
+    text.try_extend_from_slice(bytes).unwrap();
 }
 
 fn push_zeros(text: &mut Text, count: usize)

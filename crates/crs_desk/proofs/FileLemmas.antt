@@ -1,5 +1,5 @@
 -- The answer for one file, of the run over it.
-use Rattle.std.proofs.Common.{◌≡◌, ◌∙◌, ◌++◌, ◌⊎◌, ◌∷◌, [], ℕ, arith, List, Option, Some, None, true, false, ap, append-nil, append_assoc, inr, refl, subst, sym, IfSome, max}
+use Rattle.std.proofs.Common.{◌≡◌, ◌≢◌, ◌∙◌, ◌++◌, ◌⊎◌, ◌∷◌, [], ℕ, arith, List, Option, Some, None, false, ap, append-nil, append_assoc, inr, refl, subst, sym, IfSome, max}
 use Rattle.std.proofs.KnownBytes.{Appends-trans}
 use Rattle.std.proofs.Math.Nat.{max-zero}
 use Rattle.std.specs.Io.KnownBytes.{Appends, Consumes}
@@ -8,7 +8,7 @@ use Rattle.crs_catalogue.specs.GroupRun.{IsGroupedBy}
 use Rattle.crs_catalogue.specs.declared.summary.Summary.{Summary}
 use Rattle.crs_streams.specs.declared.fault.RunFault.{RunFault}
 use Rattle.crs_streams.specs.declared.fault.RunFault.TheVariants.{ReadFailed, WriteFailed, TooLong, TooManyReads, Memory}
-use Rattle.crs_desk.specs.FileAnswers.{Ends, IsAnswerSent, IsFileFault, IsFileSent, IsFrontSent, IsNoWriteFault, NoFront, is_of_file}
+use Rattle.crs_desk.specs.FileAnswers.{Ends, IsAnswerSent, IsFileFault, IsFileSent, IsFrontSent, NoFront}
 use Rattle.crs_desk.specs.FilesRun.{AreFileOutputs, AreFilesAnswered, IsFileFront, IsFileOutput, IsTaskFront, name_prefix}
 use Rattle.crs_desk.specs.declared.files_run.FileTask.{FileTask}
 use Rattle.crs_desk.specs.LineCutting.{IsHealthy}
@@ -31,10 +31,10 @@ none-sent prefix known sink healthy = ([], empty-front NoFront prefix known refl
 
 -- nothing was written before the fault
 pub unread-file : (prefix : PrefixParts) (known : Option (List ℕ)) (sink : SinkState) (fault : RunFault)
-    → IsHealthy sink → IsNoWriteFault fault → IsFileFault NoFront prefix known sink sink fault
-unread-file prefix known sink fault healthy is = grind (arith, none-sent prefix known sink healthy)
+    → IsHealthy sink → fault ≢ WriteFailed → IsFileFault NoFront prefix known sink sink fault
+unread-file prefix known sink fault healthy other = grind (arith, none-sent prefix known sink healthy)
 
-pub read-no-write : (source : SourceState) (fault : RunFault) → IsReadFault source fault → IsNoWriteFault fault
+pub read-no-write : (source : SourceState) (fault : RunFault) → IsReadFault source fault → fault ≢ WriteFailed
 read-no-write source fault is = grind arith
 
 -- ---- a task over lines
@@ -151,9 +151,9 @@ failed-file asked prefix known before after (written, front, sent, healthy) = (w
 
 -- a file that failed, beside which the others go on
 pub file-failed : (asked : FileTask) (prefix : PrefixParts) (left known : Option (List ℕ)) (before after : SinkState) (fault : RunFault)
-    → left ≡ known → is_of_file fault ≡ true → IsFileFault (IsTaskFront asked) prefix left before after fault
+    → left ≡ known → fault ≢ WriteFailed → fault ≢ Memory → IsFileFault (IsTaskFront asked) prefix left before after fault
     → IsFileSent asked prefix known before after 2
-file-failed asked prefix left known before after fault same is front =
+file-failed asked prefix left known before after fault same written remembered front =
     subst (λ k. IsFileSent asked prefix k before after 2) same (grind (arith, failed-file asked prefix left before after))
 
 -- ---- groups

@@ -9,7 +9,7 @@ use Rattle.crs_streams.specs.Prelude.{AreLines, CutsLines, HasNoFeed, IsSplit, I
 use Rattle.crs_streams.specs.declared.fault.RunFault.{RunFault}
 use Rattle.crs_streams.specs.declared.fault.RunFault.TheVariants.{WriteFailed, TooLong, Memory}
 use Rattle.crs_desk.specs.LinesRun.{AreOutputs, AreWholeLines, HasSent, HasSentAll, IsFrontOutput, Outputs}
-use Rattle.crs_desk.specs.LineCutting.{CutterParts, IsCut, IsEmptied, IsFlushed, IsHealthy, IsKept, IsLinesCut, IsNotKept, IsOver, IsPut, IsPutOut, IsStopped, IsWrittenOut, PutsLine, WriterParts}
+use Rattle.crs_desk.specs.LineCutting.{CutterParts, IsCut, IsEmptied, IsFlushed, IsHealthy, IsKept, IsLinesCut, IsNotKept, IsPut, IsPutOut, IsStopped, IsWrittenOut, PutsLine, WriterParts}
 use Rattle.crs_desk.proofs.LineOutputLemmas.{appends-none, front-none, whole-front, outputs-append}
 
 -- some whole lines of bytes are some of more bytes
@@ -289,15 +289,12 @@ module _ (lines : CutsLines) {Output : Outputs} {before : SinkState} where
       cut-last new (subst (λ (k : CutterParts). IsLinesCut Output before bytes k after) (sym is) cut) (λ none. false≢true (rw none at some))
       (subst (λ t. IsPut Output t writer new) same put)
 
-  pub over-end : {now after : SinkState} {bytes : List ℕ} {old : CutterParts} (line rest : List ℕ) (new : CutterParts) (fault : RunFault)
-      → HasNoFeed line → 1048576 < length old.partial + length line → IsOver old new now after fault
-      → length line + length rest ≤ 65536 → IsLinesCut Output before bytes old now
-      → IsStopped Output false before (bytes ++ (line ++ rest)) after fault
-  over-end {after = after} {bytes = bytes} line rest new fault plain over (inl (is, emptied, partial, counted)) small cut =
-      subst (IsStopped Output false before (bytes ++ (line ++ rest)) after) (ap (λ n. TooLong (n + 1)) counted ∙ sym is)
-      (cut-long line rest (cut-emptied new cut emptied partial counted) emptied.is_empty plain
-      (omega (arith, over, ap length partial)) small)
-  over-end line rest new fault plain over (inr unsent) small cut = cut-unsendable (line ++ rest) cut unsent
+  pub over-end : {now after : SinkState} {bytes partial : List ℕ} {writer new : WriterParts} {count : ℕ} (line rest : List ℕ)
+      → HasNoFeed line → 1048576 < length partial + length line → IsEmptied writer new now after
+      → length line + length rest ≤ 65536 → IsLinesCut Output before bytes (cutter_of writer partial count) now
+      → IsStopped Output false before (bytes ++ (line ++ rest)) after (TooLong (count + 1))
+  over-end {partial = partial} {new = new} {count = count} line rest plain over emptied small cut =
+      cut-long line rest (cut-emptied (cutter_of new partial count) cut emptied refl refl) emptied.is_empty plain over small
 
   pub line-ended : {now next : CutterParts} {sink after : SinkState} {bytes partial : List ℕ} {writer new : WriterParts} {count : ℕ} (line : List ℕ)
       → PutsLine Output line now next → cutter_of writer partial count ≡ next → HasNoFeed line

@@ -1,6 +1,6 @@
 -- What the source of a run over lines has given, and what the two halves of the run say of the
 -- whole.
-use Rattle.std.proofs.Common.{◌≡◌, ◌+◌, ◌<◌, ◌≤◌, ◌++◌, ◌*◌, ◌^◌, [], ℕ, Bool, List, Option, Some, None, true, false, ap, append-nil, length, length-append, subst, sym, refl, arith, Result, Ok, Err, IfErr, IfOk, IsErr}
+use Rattle.std.proofs.Common.{◌≡◌, ◌+◌, ◌<◌, ◌≤◌, ◌++◌, ◌*◌, ◌^◌, [], ℕ, Bool, List, Option, Some, None, true, false, ap, append-nil, length, length-append, subst, sym, refl, arith, Result, Ok, Err, IfErr, IfOk, IsErr, IsErrOf, ◌↔◌}
 use Rattle.std.specs.Io.KnownBytes.{Consumes}
 use Rattle.crs_streams.specs.Prelude.{CountsRead, CutsLines, GivesMore, HasGiven, SinkState, SourceState, fresh_source}
 use Rattle.crs_streams.specs.declared.fault.RunFault.{RunFault}
@@ -111,3 +111,14 @@ module _ (lines : CutsLines) {Output : Outputs} {old : SourceState} {before : Si
   end-first after (Ok status) through written stopped = (written before through.bytes through.is_cut).is_healthy.1
   end-first after (Err fault) through written stopped =
       stopped-first Output true before after through.bytes fault (stopped before through.bytes through.is_cut)
+
+-- a read has failed exactly where the run answers so, and a write
+pub failures-told : (Output : Outputs) (old new : SourceState) (before after : SinkState) (answer : Result ℕ RunFault)
+    → IfOk answer (IsLinesAnswered Output old new before after) → IfErr answer (IsLinesFault Output old new before after)
+    → (IsErrOf answer ReadFailed ↔ (new.failed ≡ true)) × (IsErrOf answer WriteFailed ↔ (after.failed ≡ true))
+failures-told Output old new before after (Ok status) answered fault = grind (arith, answered.is_whole.is_healthy, answered.is_healthy)
+failures-told Output old new before after (Err ReadFailed) answered fault = grind (arith, fault.0, fault.1)
+failures-told Output old new before after (Err WriteFailed) answered fault = grind (arith, fault.0, fault.1)
+failures-told Output old new before after (Err (TooLong number)) answered fault = grind (arith, fault.0, fault.1)
+failures-told Output old new before after (Err TooManyReads) answered fault = grind (arith, fault.0, fault.1)
+failures-told Output old new before after (Err Memory) answered fault = grind (arith, fault.0, fault.1)

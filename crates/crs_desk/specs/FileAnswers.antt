@@ -1,5 +1,5 @@
 -- A bridge: the answer for one file, or the fault with which it ends.
-use Rattle.std.specs.Prelude.{◌≡◌, [], ℕ, List, Bool, Option, true, false}
+use Rattle.std.specs.Prelude.{◌≡◌, [], ℕ, List, Option, true, false}
 use Rattle.std.specs.Io.KnownBytes.{Appends}
 use Rattle.crs_streams.specs.LongLines.{EndsInFeed}
 use Rattle.crs_streams.specs.Streams.{SinkState}
@@ -51,22 +51,6 @@ abbrev pub IsFileSent : FileTask → PrefixParts → Option (List ℕ) → SinkS
 IsFileSent asked prefix known before after status =
     (written : List ℕ) × IsFileOutput asked prefix known written status
     × Appends before.contents after.contents written × IsHealthy after
-
--- the fault is one of a file, beside which the others go on
-abbrev pub is_of_file : RunFault → Bool
-is_of_file ReadFailed = true
-is_of_file WriteFailed = false
-is_of_file (TooLong line) = true
-is_of_file TooManyReads = true
-is_of_file Memory = false
-
--- the fault is none of a write
-abbrev pub IsNoWriteFault : RunFault → Type 0
-IsNoWriteFault ReadFailed = Unit {0}
-IsNoWriteFault WriteFailed = ⊥
-IsNoWriteFault (TooLong line) = Unit {0}
-IsNoWriteFault TooManyReads = Unit {0}
-IsNoWriteFault Memory = Unit {0}
 
 -- why an answer isn't sent
 abbrev pub IsSendFault : SinkState → RunFault → Type 0

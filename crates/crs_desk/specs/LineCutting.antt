@@ -72,13 +72,6 @@ pub record IsCut (old : WriterParts) (before after : SinkState) (fault : RunFaul
   pub is_failed : after.failed ≡ true
   pub is_first : IsHealthy before → after.past_failure ≡ false
 
--- the line is too long: the output of the lines before it was sent, or a write of that failed
-abbrev pub IsOver : CutterParts → CutterParts → SinkState → SinkState → RunFault → Type 0
-IsOver old new before after fault =
-    ((fault ≡ TooLong (old.lines + 1)) × IsEmptied old.writer new.writer before after
-    × (new.partial ≡ old.partial) × (new.lines ≡ old.lines))
-    ⊎ IsCut old.writer before after fault
-
 -- what is written for the lines of these bytes was sent or is kept; the last line has ended, or
 -- this is the end
 pub record IsPutOut (Output : Outputs) (end : Bool) (before : SinkState) (bytes : List ℕ)

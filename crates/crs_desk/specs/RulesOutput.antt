@@ -5,7 +5,7 @@ use Rattle.std.specs.List.{flat_map, list_any, prefix_len}
 use Rattle.std.specs.Str.{bytes_eq}
 use Rattle.crs_value.specs.declared.values.level.Level.{Level}
 use Rattle.crs_rules.specs.Rules.{RulesParts}
-use Rattle.crs_rules.specs.Under.{IsForm}
+use Rattle.crs_rules.specs.Rewritten.{IsForm}
 use Rattle.crs_desk.specs.ExplainOutput.{IsExplainPairOutput, TellsRefusalOf}
 use Rattle.crs_runs.specs.Output.{IsLine, WritesRefusal}
 use Rattle.crs_same_run.specs.SameOutput.{IsSameOutput, WritesRefusalOf}

@@ -1,8 +1,7 @@
 //! A run over files: what a command writes for each of them, in their order.
-ghost use Rattle.std.specs.Prelude.{◌≡◌, [], ℕ, List, Option, IfErr, IfOk, IfSome, false, ◌==◌, OnOk, if◌then◌else◌};
+ghost use Rattle.std.specs.Prelude.{◌≡◌, [], ℕ, List, Option, IfErr, IfOk, IfSome, false, OnOk};
 ghost use Rattle.crs_streams.specs.Streams.{fresh_sink};
-ghost use Rattle.crs_desk.specs.FileAnswers.{IsFileSent, is_of_file, Ends, IsAnswerSent, IsFileFault, IsNoWriteFault};
-ghost use Rattle.crs_desk.specs.FileAnswers.{IsSendFault, NoFront};
+ghost use Rattle.crs_desk.specs.FileAnswers.{Ends, IsAnswerSent, IsFileFault, IsFileSent, IsSendFault, NoFront};
 ghost use Rattle.crs_desk.specs.FilesRun.{AreFilesAnswered, IsFilesFault, is_json};
 ghost use Rattle.crs_desk.specs.FilesRun.{name_prefix, IsGroupedOutput, IsTaskFront, IsTaskOutput};
 ghost use Rattle.crs_desk.specs.LineCutting.{IsHealthy};
@@ -15,7 +14,7 @@ use crate::explain_run::ExplainText;
 use crate::line_output::{OfLine, Prefix, Prefixed, prefix_lines};
 use crate::lines_run::run_lines;
 use crate::under_run::Under;
-use crate::{Filling, Level, LineWord, Listing, Manner, RunFault, Sink, Source, Stream, Summary};
+use crate::{Filling, Level, LineWord, Listing, Manner, RunFault, Sink, Source, Stream};
 use crs_catalogue::pieces::{Adding, ByCanon, ByForm, run_adding};
 use crs_rules::Rules;
 use crs_runs::{CanonText, CheckText, TextCommand, read_text};
@@ -129,21 +128,12 @@ fn answer_file<I: Inputs, W: Write>(
     };
     match answer_input(task, prefix, &mut input, sink) {
         Ok(status) => Ok(status),
+        Err(fault @ (RunFault::WriteFailed | RunFault::Memory)) => Err(fault),
         Err(fault) => {
-            if !is_of_file(&fault) {
-                return Err(fault);
-            }
             files.tell(name.as_str(), &input, &fault);
             Ok(FAILED)
         }
     }
-}
-
-// Whether a fault is one of a file, beside which the others go on.
-fn is_of_file(fault: &RunFault) -> bool
-    ensures { result ≡ is_of_file fault.now }
-{
-    !matches!(fault, RunFault::WriteFailed | RunFault::Memory)
 }
 
 // Writes the answer for all that a reader gives, each line after a prefix.
@@ -210,41 +200,17 @@ fn answer_group<A: Adding + Drop, R: Read + Drop, W: Write>(
         prefix.now (R.remaining reader) sink.old sink.new) }
     ensures fault { IfErr result (IsFileFault NoFront prefix.now (R.remaining reader) sink.old sink.new) }
 {
-    let (plain, status) = grouped(prefix.alloc(), level, adding, listing, reader)?;
-    send(prefix, plain, sink)?;
-    Ok(status)
-}
-
-// What is written for the groups of all that a reader gives, and the status.
-fn grouped<A: Adding + Drop, R: Read + Drop>(
-    alloc: Global,
-    level: Level,
-    adding: A,
-    listing: Listing,
-    reader: R,
-) -> Result<(Vec<u8>, u8), RunFault>
-    ensures grouped { IfOk result (λ output. (bytes : List ℕ) × IfSome (R.remaining reader) (λ all. bytes ≡ all)
-        × IsGroupedOutput (IsGroupOutputBy (A.Form adding) (A.Share adding) listing level) bytes
-        output.0.items output.1) }
-    ensures fault { IfErr result IsNoWriteFault }
-{
+    let alloc = prefix.alloc();
     let mut source = Source::new(Filling::new(reader));
-    let mut sink = Sink::new(Vec::new(alloc));
-    match run_adding(alloc, level, adding, listing, &mut source, &mut sink) {
-        Ok(summary) => Ok((sink.into_inner(), status_of(&summary))),
+    let mut held = Sink::new(Vec::new(alloc));
+    match run_adding(alloc, level, adding, listing, &mut source, &mut held) {
+        Ok(summary) => {
+            send(prefix, held.into_inner(), sink)?;
+            Ok(if summary.refused == 0 { 0 } else { 1 })
+        }
         Err(RunFault::WriteFailed) => Err(RunFault::Memory),
         Err(fault) => Err(fault),
     }
-}
-
-// The status of a catalogue: 1 where a line was refused.
-fn status_of(summary: &Summary) -> u8
-    ensures { result ≡ (if summary.now.refused == 0 then 0 else 1) }
-{
-    if summary.refused == 0 {
-        return 0;
-    }
-    1
 }
 
 // The answer of a command for each line.
@@ -285,18 +251,18 @@ pub enum FileTask<'r> {
     Canon(Level),
     /// What `run_check` writes.
     Check,
-    /// What `run_explain` writes.
+    /// What `ExplainText` writes.
     Explain(Manner),
     /// What `run_group_listing` writes, at a level, with status 1 where a line was refused.
     Group(Level, Listing),
-    /// What `run_canon_lines` writes, at a level.
+    /// What `OfLine` of `CanonText` writes for each line, at a level.
     CanonLines(Level),
-    /// What `run_check_lines` writes.
+    /// What `OfLine` of `CheckText` writes for each line.
     CheckLines,
     /// What `run_canon` writes, but the form under rules for the canonical text, at a level.
     Form(Level, &'r Rules),
     /// What `run_group_under` writes, at a level, with status 1 where a line was refused.
     FormGroup(Level, Listing, &'r Rules),
-    /// What `run_canon_lines` writes, but forms under rules for canonical texts, at a level.
+    /// What `Form` writes for each line, at a level.
     FormLines(Level, &'r Rules),
 }

@@ -8,16 +8,20 @@ pub use crs_explain::StepWord;
 pub use crs_group::{Listing, PLAIN, Summary, run_group, run_group_listing, run_group_under};
 pub use crs_rules::Rules;
 pub use crs_rules_file::{RulesFault, RulesReader, RulesRefusal};
-pub use crs_runs::{read_text, run_canon, run_check};
+pub use crs_runs::{
+    CanonText, CheckText, ForText, PairAnswer, read_text, run_canon, run_check, run_text,
+    write_answer,
+};
 pub use crs_same_run::run_same;
 pub use crs_streams::{Filling, RunFault, Sink, Source, Stream, append_escaped};
 pub use crs_text::Refusal;
 pub use crs_value::Level;
-pub use explain_run::{run_explain, run_explain_pair, run_explain_text};
+pub use explain_run::{ExplainText, Told};
 pub use files_run::{FileTask, Inputs, run_files};
-pub use lines_run::{run_canon_lines, run_check_lines};
+pub use line_output::OfLine;
+pub use lines_run::run_lines;
 pub use manner::Manner;
-pub use under_run::{run_explain_pair_under, run_same_under};
+pub use under_run::{ExplainedForms, SameForms, Under};
 
 mod explain_run;
 mod files_run;

@@ -8,10 +8,10 @@ use crs_runs::TextCommand;
 use std::alloc::{AllocError, Global};
 use std::marker::Model;
 
-// A command over the text of a line, of which a blank one is answered by an empty line.
+/// A command over the text of a line, of which a blank one is answered by an empty line. Profile.
 #[derive(Drop)]
-pub(crate) struct OfLine<C: TextCommand> {
-    pub(crate) command: C,
+pub struct OfLine<C: TextCommand> {
+    pub command: C,
 }
 
 impl<C: TextCommand> TextCommand for OfLine<C> {
@@ -67,7 +67,7 @@ impl Prefix {
     }
 }
 
-// These bytes, each of their lines after a prefix; where that is nothing, the bytes as they are.
+// These bytes, each of their lines after a prefix; the bytes themselves where nothing goes before a line.
 pub(crate) fn prefix_lines(prefix: &Prefix, bytes: Vec<u8>) -> Result<Vec<u8>, AllocError>
     ensures { IfOk result (λ lines. lines.items ≡ prefixed prefix.now bytes.items) }
 {

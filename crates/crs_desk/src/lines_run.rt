@@ -3,80 +3,42 @@
 //! their line feed comes.
 ghost use Rattle.std.specs.Prelude.{◌≡◌, ◌≤◌, ◌^◌, ◌↔◌, [], IfErr, IfOk, IsErrOf, OnOk, false, length, true, ◌+◌, ◌<◌};
 ghost use Rattle.std.specs.Prelude.{◌++◌, ◌∷◌, ℕ, List, IsFalse, IsTrue};
-ghost use Rattle.crs_streams.specs.Streams.{fresh_sink, fresh_source, SinkState};
+ghost use Rattle.crs_streams.specs.Streams.{fresh_source, SinkState};
 ghost use Rattle.crs_desk.specs.LineCutting.{IsHealthy, IsReadThrough, IsCut, IsEmptied, IsFlushed, IsKept, IsLinesCut};
-ghost use Rattle.crs_desk.specs.LineCutting.{IsNotKept, IsOver, IsPut, IsPutOut, IsStopped, IsWrittenOut, PutsLine};
-ghost use Rattle.crs_desk.specs.LinesRun.{IsLineOutput, IsLinesAnswered, IsLinesFault};
-ghost use Rattle.crs_runs.specs.Output.{IsCanonOutput, IsCheckOutput};
+ghost use Rattle.crs_desk.specs.LineCutting.{IsNotKept, IsPut, IsPutOut, IsStopped, IsWrittenOut, PutsLine};
+ghost use Rattle.crs_desk.specs.LinesRun.{IsLinesAnswered, IsLinesFault};
 ghost use Rattle.crs_streams.specs.Lines.{HasNoFeed};
 
-use crate::line_output::OfLine;
-use crate::{Level, RunFault, Sink, Stream};
-use crs_runs::{CanonText, CheckText, TextCommand};
+use crate::{RunFault, Sink, Stream};
+use crs_runs::TextCommand;
 use crs_streams::laws::lines_are_cut;
 use crs_streams::{MAX_LINE, MAX_STREAM_READS, append_bytes, make_room, split_line, text_of};
 use std::alloc::Global;
 use std::io::{Read, Write};
 use std::marker::Model;
 
-/// Reads lines of texts to the end, and writes for each in its turn what `run_canon` writes for its text alone, at a
-/// level; for a line of white space alone an empty line. Status 0, or 1 where a line was refused. What is written for
-/// the lines that a read has ended is handed to the sink before the next read, and earlier where it fills 65,536 bytes,
-/// so that memory is bounded by the longest line.
+/// Reads lines of texts to the end, and writes for each in its turn what a command writes for its text: `OfLine` of
+/// `CanonText` or of `CheckText` what `run_canon` or `run_check` writes for it alone; without `OfLine` a blank line is
+/// refused as a text. The status is the greatest of all.
+/// What is written for the lines that a read has ended is handed to the sink before the next read, and earlier where it
+/// fills 65,536 bytes, so that memory is bounded by the longest line.
 /// `ReadFailed` and `WriteFailed` where the stream or the sink has failed, `TooLong(n)` where line `n` has more than
 /// 1,048,576 bytes before its line feed, `TooManyReads` where 2^47 reads have not shown the end, `Memory` where
 /// memory ran out. At a fault all whole lines that were read are answered, at `TooLong` all before the long one; out of
 /// memory any number of them, the first; at `WriteFailed` the sink got a front of such answers. Profile.
-pub fn run_canon_lines<R: Read, W: Write>(
-    alloc: Global,
-    level: Level,
-    r: &mut Stream<R>,
-    w: &mut Sink<W>,
-) -> Result<u8, RunFault>
-    requires source { r.old ≡ fresh_source r.old.remaining }
-    requires sink { w.old ≡ fresh_sink w.old.contents }
-    ensures answered { IfOk result (IsLinesAnswered (IsLineOutput (IsCanonOutput level)) r.old r.new w.old w.new) }
-    ensures past_end { r.new.past_end ≡ false }
-    ensures fault { IfErr result (IsLinesFault (IsLineOutput (IsCanonOutput level)) r.old r.new w.old w.new) }
-    ensures read_failed { IsErrOf result RunFault.ReadFailed ↔ (r.new.failed ≡ true) }
-    ensures write_failed { IsErrOf result RunFault.WriteFailed ↔ (w.new.failed ≡ true) }
-    ensures past_failure { w.new.past_failure ≡ false }
-{
-    let command = OfLine {
-        command: CanonText { level },
-    };
-    run_lines(alloc, &command, r, w)
-}
-
-/// As `run_canon_lines`, with what `run_check` writes for a text.
-pub fn run_check_lines<R: Read, W: Write>(
-    alloc: Global,
-    r: &mut Stream<R>,
-    w: &mut Sink<W>,
-) -> Result<u8, RunFault>
-    requires source { r.old ≡ fresh_source r.old.remaining }
-    requires sink { w.old ≡ fresh_sink w.old.contents }
-    ensures answered { IfOk result (IsLinesAnswered (IsLineOutput IsCheckOutput) r.old r.new w.old w.new) }
-    ensures past_end { r.new.past_end ≡ false }
-    ensures fault { IfErr result (IsLinesFault (IsLineOutput IsCheckOutput) r.old r.new w.old w.new) }
-    ensures read_failed { IsErrOf result RunFault.ReadFailed ↔ (r.new.failed ≡ true) }
-    ensures write_failed { IsErrOf result RunFault.WriteFailed ↔ (w.new.failed ≡ true) }
-    ensures past_failure { w.new.past_failure ≡ false }
-{
-    run_lines(alloc, &OfLine { command: CheckText }, r, w)
-}
-
-pub(crate) fn run_lines<C: TextCommand, R: Read, W: Write>(
+pub fn run_lines<C: TextCommand, R: Read, W: Write>(
     alloc: Global,
     command: &C,
     source: &mut Stream<R>,
     sink: &mut Sink<W>,
 ) -> Result<u8, RunFault>
     requires source { source.old ≡ fresh_source source.old.remaining }
-    requires sink { IsHealthy sink.old }
+    requires sink { (sink.old.failed ≡ false) × (sink.old.past_failure ≡ false) }
     ensures answered { IfOk result (IsLinesAnswered (C.Output command.now) source.old source.new sink.old sink.new) }
     ensures past_end { source.new.past_end ≡ false }
     ensures fault { IfErr result (IsLinesFault (C.Output command.now) source.old source.new sink.old sink.new) }
+    ensures read_failed { IsErrOf result RunFault.ReadFailed ↔ (source.new.failed ≡ true) }
+    ensures write_failed { IsErrOf result RunFault.WriteFailed ↔ (sink.new.failed ≡ true) }
     ensures past_failure { sink.new.past_failure ≡ false }
 {
     lines_are_cut();
@@ -134,13 +96,6 @@ impl Model for LineWriter {
 }
 
 impl LineWriter {
-    // The greatest status so far.
-    fn status(&self) -> u8
-        ensures { result ≡ self.now.status }
-    {
-        self.status
-    }
-
     // One more line.
     fn put<C: TextCommand>(&mut self, command: &C, text: &[u8]) -> Result<(), RunFault>
         ensures put { OnOk result (IsPut (C.Output command.now) text.now self.old self.new) }
@@ -252,7 +207,7 @@ impl LineCutter {
     {
         self.end_last(command)?;
         self.writer.send(sink)?;
-        Ok(self.writer.status())
+        Ok(self.writer.status)
     }
 
     // The bytes before a line feed: after what was kept they complete a line.
@@ -275,22 +230,13 @@ impl LineCutter {
     {
         lines_are_cut();
         if self.is_over(line) {
-            return Err(self.over(sink));
+            // What is written for the lines before it is sent first.
+            self.writer.send(sink)?;
+            return Err(RunFault::TooLong(self.lines + 1));
         }
         self.put_line(command, line)?;
         self.lines += 1;
         self.writer.send_block(sink)
-    }
-
-    // The fault of a line that is too long: what is written for the lines before it is sent first.
-    fn over<W: Write>(&mut self, sink: &mut Sink<W>) -> RunFault
-        requires { self.old.lines + 1 < 2 ^ 64 }
-        ensures { IsOver self.old self.new sink.old sink.new result }
-    {
-        match self.writer.send(sink) {
-            Ok(()) => RunFault::TooLong(self.lines + 1),
-            Err(fault) => fault,
-        }
     }
 
     // What is written for the line that ends with these bytes.

@@ -1,80 +1,27 @@
 //! Texts under rules: what `canon` writes of one; two are compared, and their difference is explained, by their forms,
 //! and by the lines of an explanation that the one of their forms lacks.
-ghost use Rattle.std.specs.Prelude.{◌≡◌, ◌↔◌, IfOk, IfErr, IsErrOf, MatchResult, codes, false, true, ◌≤◌, ◌++◌};
-ghost use Rattle.std.specs.Prelude.{OnOk, length};
+ghost use Rattle.std.specs.Prelude.{◌≡◌, ◌≤◌, ◌++◌, IfOk, MatchResult, OnOk, codes, length};
 ghost use Rattle.std.specs.List.{prefix_len};
-ghost use Rattle.crs_runs.specs.Ending.{IsWritten, IsWriteFault};
-ghost use Rattle.crs_rules.specs.Under.{IsForm};
-ghost use Rattle.crs_desk.specs.RulesOutput.{IsExplainUnderOutput, IsExplainedUnder, IsRefusedUnder, IsSameUnderOutput};
+ghost use Rattle.crs_rules.specs.Rewritten.{IsForm};
+ghost use Rattle.crs_desk.specs.RulesOutput.{IsExplainedUnder, IsRefusedUnder, with_mark};
 ghost use Rattle.crs_desk.specs.RulesOutput.{from_path, has_path, is_of_path, lines_in, marked, marked_line, path_in};
-ghost use Rattle.crs_desk.specs.RulesOutput.{with_mark};
-ghost use Rattle.crs_streams.specs.Streams.{fresh_sink};
 
 use crate::explain_run::Told;
-use crate::{Level, Manner, RunFault, Sink};
+use crate::{Level, Manner};
 use crs_canon::Canon;
-use crs_explain::StepWord;
 use crs_rules::{Rules, canon_under};
 use crs_runs::{
     Answer, Telling, TextCommand, line_of, pair_output, refusal_in, refused_line, refused_output,
-    write_answer,
 };
 use crs_same_run::InALine;
 use crs_streams::split_line;
 use std::alloc::{AllocError, Global};
-use std::io::Write;
 
-/// Writes whether two texts are the same under rules, at a level: for their forms what `run_same` writes, or `first` or
-/// `second` and the refusal of the first text that spells no CRS. `WriteFailed` where the sink has failed, `Memory` where
-/// memory ran out, and then nothing was written. Profile.
-pub fn run_same_under<W: Write>(
-    alloc: Global,
-    level: Level,
-    rules: &Rules,
-    a: &[u8],
-    b: &[u8],
-    w: &mut Sink<W>,
-) -> Result<u8, RunFault>
-    requires { w.old ≡ fresh_sink w.old.contents }
-    ensures answered { IfOk result (IsWritten (IsSameUnderOutput rules.now level a.now b.now) w.old w.new) }
-    ensures fault { IfErr result (IsWriteFault w.old w.new) }
-    ensures write_failed { IsErrOf result RunFault.WriteFailed ↔ (w.new.failed ≡ true) }
-    ensures past_failure { w.new.past_failure ≡ false }
-{
-    let under = Under { level, rules };
-    write_answer(alloc, &SameForms { under, a, b }, w)
-}
-
-/// Writes whether two texts are the same under rules, at a level: for their forms what `run_explain_pair` writes, and
-/// then, each after `the same by the rules: `, the lines that it writes without rules for the texts, but for those whose
-/// part still differs under the rules; or the refusal of the first text that spells no CRS, explained. In an object of
-/// JSON the mark is a first member, `"same_by_rules":true`. Faults are those of `run_explain_pair`. Profile.
-pub fn run_explain_pair_under<W: Write>(
-    alloc: Global,
-    how: Manner,
-    words: &[StepWord],
-    level: Level,
-    rules: &Rules,
-    a: &[u8],
-    b: &[u8],
-    w: &mut Sink<W>,
-) -> Result<u8, RunFault>
-    requires { w.old ≡ fresh_sink w.old.contents }
-    ensures answered { IfOk result (IsWritten (IsExplainUnderOutput how words.now rules.now level a.now b.now) w.old w.new) }
-    ensures fault { IfErr result (IsWriteFault w.old w.new) }
-    ensures write_failed { IsErrOf result RunFault.WriteFailed ↔ (w.new.failed ≡ true) }
-    ensures past_failure { w.new.past_failure ≡ false }
-{
-    let told = Told { how, words };
-    let under = Under { level, rules };
-    write_answer(alloc, &ExplainedForms { told, under, a, b }, w)
-}
-
-// Rules, and the level at which texts have forms under them.
+/// Rules, and the level at which texts have forms under them. Profile.
 #[derive(Clone, Copy)]
-pub(crate) struct Under<'r> {
-    pub(crate) level: Level,
-    pub(crate) rules: &'r Rules,
+pub struct Under<'r> {
+    pub level: Level,
+    pub rules: &'r Rules,
 }
 
 // `canon` under rules.
@@ -132,12 +79,13 @@ fn second_form<T: Telling>(
     }
 }
 
-// Whether two texts are the same under rules, at this level.
+/// Whether two texts are the same under rules, at a level: for their forms what `run_same` writes, or `first` or
+/// `second` and the refusal of the first text that spells no CRS. Profile.
 #[derive(Drop)]
-struct SameForms<'t> {
-    under: Under<'t>,
-    a: &'t [u8],
-    b: &'t [u8],
+pub struct SameForms<'t> {
+    pub under: Under<'t>,
+    pub a: &'t [u8],
+    pub b: &'t [u8],
 }
 
 impl Answer for SameForms<'_> {
@@ -154,13 +102,16 @@ impl Answer for SameForms<'_> {
     }
 }
 
-// Where two texts differ under rules, and where they don't, at this level.
+/// Whether two texts are the same under rules, at a level: for their forms what `Told` writes, and then, each after `the
+/// same by the rules: `, the lines that it writes without rules for the texts, but for those whose part still differs
+/// under the rules; or the refusal of the first text that spells no CRS, explained. In an object of JSON the mark is a
+/// first member, `"same_by_rules":true`. Profile.
 #[derive(Drop)]
-struct ExplainedForms<'t> {
-    told: Told<'t>,
-    under: Under<'t>,
-    a: &'t [u8],
-    b: &'t [u8],
+pub struct ExplainedForms<'t> {
+    pub told: Told<'t>,
+    pub under: Under<'t>,
+    pub a: &'t [u8],
+    pub b: &'t [u8],
 }
 
 impl Answer for ExplainedForms<'_> {

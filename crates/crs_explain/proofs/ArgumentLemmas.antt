@@ -4,7 +4,7 @@ use Rattle.crs_text.specs.declared.keyword.Keyword.TheVariants as keyword
 use Rattle.crs_text.specs.Prelude.{Item, Siblings, End, More, HasId, IsAt, count, first_of, here, place_of, rest_of}
 use Rattle.crs_value.specs.Prelude.{Holds, ahead, item_at}
 use Rattle.crs_explain.specs.Around.{is_called, last_at}
-use Rattle.crs_explain.specs.ExpectedAxes.{axes_among}
+use Rattle.crs_explain.specs.Expected.{axes_among}
 
 -- the items from an argument on
 pub ahead_is : (tree : Item) (items : Siblings) (at : Option ℕ) → IsAt tree items at → ahead tree at ≡ items

@@ -8,9 +8,7 @@ use Rattle.crs_same.specs.declared.content.Content.TheVariants as content
 use Rattle.crs_same.specs.declared.step.Step.{Step}
 use Rattle.crs_canon.specs.Named.{ArePairedNames}
 use Rattle.crs_explain.specs.Appended.{AppendsTexts}
-use Rattle.crs_explain.specs.Differing.{AreTextsOf}
-use Rattle.crs_explain.specs.DifferingSets.{AreTextsBehind, AreTextsOfNames, AreTextsOfOthers, AreTextsOfParts, AreTextsOfSet}
-use Rattle.crs_explain.specs.DifferingTexts.{AreTextsAt, AreTextsOfOne, PartTexts}
+use Rattle.crs_explain.specs.Differing.{AreTextsOf, AreTextsBehind, AreTextsOfNames, AreTextsOfOthers, AreTextsOfParts, AreTextsOfSet, AreTextsAt, AreTextsOfOne, PartTexts}
 
 -- some more texts in front of others
 pub more : (Are : List PartTexts → Type 0) (these rest old begun new : List PartTexts) → new ≡ begun ++ these →

@@ -14,8 +14,7 @@ use Rattle.crs_normal.specs.Prelude.{IsCanonicalForm, IsSpelledParameter}
 use Rattle.crs_writer.specs.Prelude.{SpellsOneOf, commas, comma_separated}
 use Rattle.crs_canon.specs.ContentText.{IsLackingText}
 use Rattle.crs_canon.specs.Named.{ArePairedNames, NamesTell, named_once, unpaired}
-use Rattle.crs_explain.specs.DifferingSets.{AreTextsOfName, AreTextsOfNames, AreTextsOfParts, AreTextsOfSet, are_empty, parameter_path, parts_of_parameter}
-use Rattle.crs_explain.specs.DifferingTexts.{PartTexts}
+use Rattle.crs_explain.specs.Differing.{AreTextsOfName, AreTextsOfNames, AreTextsOfParts, AreTextsOfSet, are_empty, parameter_path, parts_of_parameter, PartTexts}
 
 -- ---- nothing is told
 

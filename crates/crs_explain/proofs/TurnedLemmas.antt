@@ -13,8 +13,7 @@ use Rattle.crs_same.specs.Prelude.{◌⨾◌, DifferenceParts, Differences, Part
 use Rattle.crs_same.specs.declared.content.Content.{Content}
 use Rattle.crs_same.specs.declared.step.Step.{Step}
 use Rattle.crs_canon.specs.Named.{ArePairedNames, named_once}
-use Rattle.crs_explain.specs.DifferingSets.{AreTextsBehind, AreTextsOfName, AreTextsOfNames, AreTextsOfOthers, AreTextsOfSet, are_empty, parameter_path, parts_of_parameter}
-use Rattle.crs_explain.specs.DifferingTexts.{PartTexts, texts_exchanged}
+use Rattle.crs_explain.specs.Differing.{AreTextsBehind, AreTextsOfName, AreTextsOfNames, AreTextsOfOthers, AreTextsOfSet, are_empty, parameter_path, parts_of_parameter, PartTexts, texts_exchanged}
 
 abbrev Turned : List PartTexts → List PartTexts
 Turned texts = map texts_exchanged texts

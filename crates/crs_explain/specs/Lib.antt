@@ -2,15 +2,10 @@ pub mod Appended
 pub mod Around
 pub mod Cut
 pub mod Differing
-pub mod DifferingSets
-pub mod DifferingTexts
+pub mod Excerpt
 pub mod Expectation
 pub mod Expected
-pub mod ExpectedAxes
-pub mod ExpectedClasses
-pub mod ExpectedWords
 pub mod Explained
-pub mod Excerpt
 pub mod Found
 pub mod InOrder
 pub mod Json

@@ -1,20 +1,18 @@
 //! What is found at the place of a refusal, and what could stand there: as texts, and in a line for a person.
-ghost use Rattle.std.specs.Prelude.{◌≡◌, ◌++◌, ◌∷◌, ◌↔◌, [], IfOk, IsTrue, None, OnOk, codes, filter};
+ghost use Rattle.std.specs.Prelude.{◌≡◌, ◌++◌, ◌∷◌, [], IfOk, None, OnOk, codes, filter};
 ghost use Rattle.crs_shape.specs.Expected.{may_come};
-ghost use Rattle.crs_shape.specs.FaultPlace.{IsShapeNumber};
 ghost use Rattle.crs_shape.specs.Keywords.{every_class};
 ghost use Rattle.crs_explain.specs.Expectation.{expected_line, listed, node_at, or_nothing};
-ghost use Rattle.crs_explain.specs.Expected.{IsExpected, IsExpectedIn};
-ghost use Rattle.crs_explain.specs.ExpectedClasses.{IsShapeExpected, node_word};
+ghost use Rattle.crs_explain.specs.Expected.{IsExpected, IsExpectedIn, IsShapeExpected, node_word};
 
 use crate::names::{Name, append_listed, push_names};
-use crate::pieces::Pieces;
-use crate::place::{append_found, name_text, rest_of, word_at};
+use crate::place::{found_text, name_text, rest_of, word_at};
 use crate::system::{axes_expected, word_expected};
+use crate::{Pieces, Result};
 use crs_shape::{Class, Expected, classes, expected, nearest};
 use crs_streams::append_number;
 use crs_text::{Fault, Items, Refusal, laws, read_items};
-use std::alloc::{AllocError, Global};
+use std::alloc::Global;
 use std::marker::Model;
 
 /// What is found at a place, and the names of what could stand there. Profile.
@@ -58,7 +56,7 @@ impl ExpectedTexts {
     }
 
     /// Appends the line of what is found and what could stand there; nothing where there are no names.
-    pub(crate) fn append_line(&self, out: &mut Vec<u8>) -> Result<(), AllocError>
+    pub(crate) fn append_line(&self, out: &mut Vec<u8>) -> Result<()>
         ensures { OnOk result (out.new.items ≡ out.old.items ++ expected_line self.now) }
     {
         if self.names.is_empty() {
@@ -69,7 +67,7 @@ impl ExpectedTexts {
     }
 
     /// Adds that line, the keyword of the node, and what is found to pieces.
-    pub(crate) fn push_found(&self, alloc: Global, out: &mut Pieces) -> Result<(), AllocError>
+    pub(crate) fn push_found(&self, alloc: Global, out: &mut Pieces) -> Result<()>
         ensures { OnOk result (out.new ≡ out.old ++ expected_line self.now ∷ self.now.node ∷ self.now.found ∷ []) }
     {
         let mut line = Vec::new(alloc);
@@ -94,16 +92,8 @@ pub(crate) fn or_nothing<'e>(
     }
 }
 
-/// The name that was likely meant; no bytes where none is near.
-pub(crate) fn meant_in(expected: &Option<ExpectedTexts>) -> &[u8] {
-    match expected {
-        Some(expected) => &expected.meant,
-        None => b"",
-    }
-}
-
 // `: found AXIS, expected CS`, and a line feed.
-fn append_rest(found: &[u8], names: &[Name], out: &mut Vec<u8>) -> Result<(), AllocError>
+fn append_rest(found: &[u8], names: &[Name], out: &mut Vec<u8>) -> Result<()>
     ensures { OnOk result (out.new.items ≡ out.old.items
         ++ (codes ": found " ++ found.now ++ codes ", expected " ++ listed names.now ++ 10 ∷ [])) }
 {
@@ -115,7 +105,7 @@ fn append_rest(found: &[u8], names: &[Name], out: &mut Vec<u8>) -> Result<(), Al
 }
 
 // `in GEOGCRS at 0`, or `at 0` where there is no keyword.
-fn append_node(word: &[u8], place: usize, out: &mut Vec<u8>) -> Result<(), AllocError>
+fn append_node(word: &[u8], place: usize, out: &mut Vec<u8>) -> Result<()>
     ensures { OnOk result (out.new.items ≡ out.old.items ++ node_at word.now place) }
 {
     if word.is_empty() {
@@ -128,17 +118,12 @@ fn append_node(word: &[u8], place: usize, out: &mut Vec<u8>) -> Result<(), Alloc
     append_number(place, out)
 }
 
-// The numbers of a word that isn't known, and of axes that are more or fewer than the dimension.
-const UNKNOWN_WORD: u8 = 21;
-
-const AXIS_COUNT: u8 = 25;
-
 /// What is expected at a refusal of a text; nothing where that isn't known.
 pub(crate) fn expectation(
     alloc: Global,
     text: &[u8],
     refusal: Refusal,
-) -> Result<Option<ExpectedTexts>, AllocError>
+) -> Result<Option<ExpectedTexts>>
     ensures { IfOk result (IsExpected text.now refusal) }
 {
     laws::one_answer();
@@ -155,25 +140,18 @@ fn in_items(
     text: &[u8],
     items: &Items<'_>,
     refusal: Refusal,
-) -> Result<Option<ExpectedTexts>, AllocError>
+) -> Result<Option<ExpectedTexts>>
     ensures { IfOk result (IsExpectedIn text.now refusal items.now) }
 {
     let (number, place) = (refusal.number(), refusal.place());
-    if is_of_shape(number) {
-        shape_expected(alloc, text, items, place)
-    } else if number == UNKNOWN_WORD {
-        word_expected(alloc, text, items, place).map(Some)
-    } else if number == AXIS_COUNT {
-        axes_expected(alloc, items, place).map(Some)
-    } else {
-        Ok(None)
+    match number {
+        11..=13 => shape_expected(alloc, text, items, place),
+        // A word that isn't known.
+        21 => word_expected(alloc, text, items, place).map(Some),
+        // More or fewer axes than the dimension.
+        25 => axes_expected(alloc, items, place).map(Some),
+        _ => Ok(None),
     }
-}
-
-fn is_of_shape(number: u8) -> bool
-    ensures { IsTrue result ↔ IsShapeNumber number }
-{
-    number >= 11 && number <= 13
 }
 
 // What is expected at the fault of shape that the items have; nothing where they have none.
@@ -182,15 +160,14 @@ fn shape_expected(
     text: &[u8],
     items: &Items<'_>,
     place: usize,
-) -> Result<Option<ExpectedTexts>, AllocError>
+) -> Result<Option<ExpectedTexts>>
     ensures { IfOk result (IsShapeExpected text.now place items.now) }
 {
     let Some(expected) = expected(items) else {
         return Ok(None);
     };
     let node = node_text(alloc, rest_of(text, expected.place()), expected.parent())?;
-    let mut found = Vec::new(alloc);
-    append_found(rest_of(text, place), &mut found)?;
+    let found = found_text(alloc, rest_of(text, place))?;
     let may_come = classes_in(alloc, &expected)?;
     let mut names = Vec::new(alloc);
     push_names(&may_come, expected.may_end(), &mut names)?;
@@ -205,7 +182,7 @@ fn shape_expected(
 }
 
 // The expected keyword that the word nearly is with which these bytes begin; nothing where none is near.
-fn meant_at(alloc: Global, there: &[u8], expected: &Expected) -> Result<Vec<u8>, AllocError> {
+fn meant_at(alloc: Global, there: &[u8], expected: &Expected) -> Result<Vec<u8>> {
     match nearest(word_at(there), expected) {
         Some(keyword) => Vec::from_slice(alloc, keyword.spelling()),
         None => Ok(Vec::new(alloc)),
@@ -213,7 +190,7 @@ fn meant_at(alloc: Global, there: &[u8], expected: &Expected) -> Result<Vec<u8>,
 }
 
 // The keyword of a node, with which these bytes begin; nothing where it is of no class.
-fn node_text(alloc: Global, there: &[u8], parent: Option<Class>) -> Result<Vec<u8>, AllocError>
+fn node_text(alloc: Global, there: &[u8], parent: Option<Class>) -> Result<Vec<u8>>
     ensures { IfOk result (λ node. node.items ≡ node_word parent there.now) }
 {
     match parent {
@@ -223,7 +200,7 @@ fn node_text(alloc: Global, there: &[u8], parent: Option<Class>) -> Result<Vec<u
 }
 
 // The classes that may come, in the order of the table.
-fn classes_in(alloc: Global, expected: &Expected) -> Result<Vec<Class>, AllocError>
+fn classes_in(alloc: Global, expected: &Expected) -> Result<Vec<Class>>
     ensures { IfOk result (λ found. found.items ≡ filter (may_come expected.now) every_class) }
 {
     classes()

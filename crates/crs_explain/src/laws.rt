@@ -1,13 +1,12 @@
 //! Laws of what is told, as contracts of functions that do nothing.
 ghost use Rattle.std.specs.Prelude.{◌≡◌, [], ℕ, List, map};
-ghost use Rattle.crs_value.specs.ConversionValues.{ParameterParts};
+ghost use Rattle.crs_value.specs.Values.{ParameterParts};
 ghost use Rattle.crs_value.specs.Sound.{Each};
 ghost use Rattle.crs_value.specs.SoundConversion.{IsParameter};
 ghost use Rattle.crs_value.specs.declared.values.level.Level.{Level};
-ghost use Rattle.crs_matching.specs.SameConversions.{SameParameter};
+ghost use Rattle.crs_matching.specs.SameParts.{SameParameter};
 ghost use Rattle.crs_matching.specs.Sets.{SameSet};
-ghost use Rattle.crs_explain.specs.DifferingSets.{AreTextsOfSet};
-ghost use Rattle.crs_explain.specs.DifferingTexts.{PartTexts, texts_exchanged};
+ghost use Rattle.crs_explain.specs.Differing.{AreTextsOfSet, PartTexts, texts_exchanged};
 ghost use Rattle.crs_explain.specs.InOrder.{AreInOrder};
 
 use crs_canon::laws::names_tell_parameters;

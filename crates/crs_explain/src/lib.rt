@@ -4,24 +4,23 @@
 //! of how they are made.
 #![tactic(auto)]
 
-mod around;
 mod difference_texts;
 mod differences;
 mod excerpt;
 mod expected;
 pub mod laws;
 mod names;
-mod objects;
 mod pieces;
 mod place;
 mod refusal;
-mod sentences;
-mod set_texts;
 mod system;
 mod units;
 
-pub use differences::{difference_pieces, differences_text, ordered_differences_text};
+pub use difference_texts::{DifferenceTexts, differing_parts};
+pub use differences::{difference_lines, difference_objects, difference_pieces, ordered_parts};
 pub use names::Name as StepWord;
-pub use objects::{difference_objects, refusal_object};
 pub use pieces::Pieces;
-pub use refusal::{ExplanationPieces, refusal_pieces, refusal_text};
+pub use refusal::{ExplanationPieces, refusal_object, refusal_pieces, refusal_text};
+
+/// What is made where there is memory for it.
+pub type Result<T> = std::result::Result<T, std::alloc::AllocError>;

@@ -1,15 +1,15 @@
-//! Names of what could stand at a place, each by itself, listed, as an array of JSON, and of classes; and the words of
-//! paths.
+//! Names of what could stand at a place, each by itself, listed, and as an array of JSON; the names of classes; and the
+//! words of paths.
 ghost use Rattle.std.specs.Prelude.{◌≡◌, ◌++◌, ◌∷◌, [], IfOk, OnOk};
 ghost use Rattle.crs_explain.specs.Expectation.{listed};
-ghost use Rattle.crs_explain.specs.ExpectedClasses.{class_names, names_of};
+ghost use Rattle.crs_explain.specs.Expected.{class_names, names_of};
 ghost use Rattle.crs_streams.specs.Json.{json_array, json_more, json_text};
 
-use crate::pieces::Pieces;
+use crate::{Pieces, Result};
 use crs_shape::{Class, keywords};
 use crs_streams::json::append_text;
 use crs_text::Keyword;
-use std::alloc::{AllocError, Global};
+use std::alloc::Global;
 use std::marker::Model;
 
 /// A name of what could stand at a place; or a word of a path, as `datum`, and of an axis without its position, as
@@ -31,7 +31,7 @@ impl Name {
     /// The name or the word of these bytes. A word that no path has matches no step.
     ///
     /// `AllocError`: there is no memory for it.
-    pub fn new(alloc: Global, bytes: &[u8]) -> Result<Name, AllocError>
+    pub fn new(alloc: Global, bytes: &[u8]) -> Result<Name>
         ensures { IfOk result (λ name. name ≡ bytes.now) }
     {
         let bytes = Vec::from_slice(alloc, bytes)?;
@@ -47,7 +47,7 @@ impl Name {
 }
 
 /// Adds a name behind others.
-pub(crate) fn push_name(bytes: &[u8], out: &mut Vec<Name>) -> Result<(), AllocError>
+pub(crate) fn push_name(bytes: &[u8], out: &mut Vec<Name>) -> Result<()>
     ensures { OnOk result (out.new.items ≡ out.old.items ++ bytes.now ∷ []) }
 {
     out.push(Name::new(*out.allocator(), bytes)?)?;
@@ -55,7 +55,7 @@ pub(crate) fn push_name(bytes: &[u8], out: &mut Vec<Name>) -> Result<(), AllocEr
 }
 
 /// Appends names with commas between, and an `or` before the last.
-pub(crate) fn append_listed(names: &[Name], out: &mut Vec<u8>) -> Result<(), AllocError>
+pub(crate) fn append_listed(names: &[Name], out: &mut Vec<u8>) -> Result<()>
     ensures { OnOk result (out.new.items ≡ out.old.items ++ listed names.now) }
 {
     match names {
@@ -75,7 +75,7 @@ pub(crate) fn append_listed(names: &[Name], out: &mut Vec<u8>) -> Result<(), All
 }
 
 /// Adds each name to pieces.
-pub(crate) fn push_each(names: &[Name], out: &mut Pieces) -> Result<(), AllocError>
+pub(crate) fn push_each(names: &[Name], out: &mut Pieces) -> Result<()>
     ensures { OnOk result (out.new ≡ out.old ++ names.now) }
 {
     for name in names {
@@ -85,7 +85,7 @@ pub(crate) fn push_each(names: &[Name], out: &mut Pieces) -> Result<(), AllocErr
 }
 
 /// Appends an array of texts.
-pub(crate) fn append_array(names: &[Name], out: &mut Vec<u8>) -> Result<(), AllocError>
+pub(crate) fn append_array(names: &[Name], out: &mut Vec<u8>) -> Result<()>
     ensures { OnOk result (out.new.items ≡ out.old.items ++ json_array json_text names.now) }
 {
     match names {
@@ -100,7 +100,7 @@ pub(crate) fn append_array(names: &[Name], out: &mut Vec<u8>) -> Result<(), Allo
 }
 
 // Texts, each after a comma.
-fn append_more(names: &[Name], out: &mut Vec<u8>) -> Result<(), AllocError>
+fn append_more(names: &[Name], out: &mut Vec<u8>) -> Result<()>
     ensures { OnOk result (out.new.items ≡ out.old.items ++ json_more json_text names.now) }
 {
     for name in names {
@@ -111,11 +111,7 @@ fn append_more(names: &[Name], out: &mut Vec<u8>) -> Result<(), AllocError>
 }
 
 /// Adds the names of classes, and the end of the node where it may end.
-pub(crate) fn push_names(
-    classes: &[Class],
-    may_end: bool,
-    out: &mut Vec<Name>,
-) -> Result<(), AllocError>
+pub(crate) fn push_names(classes: &[Class], may_end: bool, out: &mut Vec<Name>) -> Result<()>
     ensures { OnOk result (out.new.items ≡ out.old.items ++ names_of classes.now may_end) }
 {
     for class in classes {
@@ -128,7 +124,7 @@ pub(crate) fn push_names(
 }
 
 // The names of a class: its first keyword, or what it is where it has none.
-fn push_class(class: Class, out: &mut Vec<Name>) -> Result<(), AllocError>
+fn push_class(class: Class, out: &mut Vec<Name>) -> Result<()>
     ensures { OnOk result (out.new.items ≡ out.old.items ++ class_names class) }
 {
     if class == Class::Number {
@@ -146,7 +142,7 @@ fn push_class(class: Class, out: &mut Vec<Name>) -> Result<(), AllocError>
     }
 }
 
-fn push_two(first: &[u8], second: &[u8], out: &mut Vec<Name>) -> Result<(), AllocError>
+fn push_two(first: &[u8], second: &[u8], out: &mut Vec<Name>) -> Result<()>
     ensures { OnOk result (out.new.items ≡ out.old.items ++ first.now ∷ second.now ∷ []) }
 {
     push_name(first, out)?;

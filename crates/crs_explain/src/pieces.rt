@@ -2,7 +2,8 @@
 ghost use Rattle.std.specs.Prelude.{◌≡◌, ◌++◌, ◌∷◌, [], OnOk};
 ghost use Rattle.crs_explain.specs.Pieces.{ends_from, joined};
 
-use std::alloc::{AllocError, Global};
+use crate::Result;
+use std::alloc::Global;
 use std::marker::Model;
 
 /// Texts in one buffer, one after the other, and where each ends: answers as data, for callers that hold no lists of
@@ -52,7 +53,7 @@ impl Pieces {
     }
 
     /// Adds a text behind the others.
-    pub(crate) fn push(&mut self, text: &[u8]) -> Result<(), AllocError>
+    pub(crate) fn push(&mut self, text: &[u8]) -> Result<()>
         ensures { OnOk result (self.new ≡ self.old ++ text.now ∷ []) }
     {
         // The room for the end is asked for first, so that the last push can't fail.

@@ -1,30 +1,31 @@
 //! What is at a place of a well-formed text.
-ghost use Rattle.std.specs.Prelude.{◌≡◌, ◌++◌, ◌≤◌, IfOk, OnOk, drop, length, take};
+ghost use Rattle.std.specs.Prelude.{◌≡◌, ◌≤◌, IfOk, drop, length, take};
 ghost use Rattle.std.specs.List.{prefix_len};
 ghost use Rattle.crs_explain.specs.Found.{first_byte, found_in, is_of_word, named_by, opens, opens_after_white, word_of, word_shown};
 
-use std::alloc::{AllocError, Global};
+use crate::Result;
+use std::alloc::Global;
 
 // How many bytes of a word are shown.
 const SHOWN: usize = 40;
 
-/// Appends what begins at the front of these bytes, or the delimiter that closes there.
-pub(crate) fn append_found(there: &[u8], out: &mut Vec<u8>) -> Result<(), AllocError>
-    ensures { OnOk result (out.new.items ≡ out.old.items ++ found_in there.now) }
+/// What begins at the front of these bytes, or the delimiter that closes there.
+pub(crate) fn found_text(alloc: Global, there: &[u8]) -> Result<Vec<u8>>
+    ensures { IfOk result (λ found. found.items ≡ found_in there.now) }
 {
     match first_byte(there) {
-        b']' => out.extend_from_slice(b"]"),
-        b')' => out.extend_from_slice(b")"),
-        b'"' => out.extend_from_slice(b"a text in quotes"),
+        b']' => Vec::from_slice(alloc, b"]"),
+        b')' => Vec::from_slice(alloc, b")"),
+        b'"' => Vec::from_slice(alloc, b"a text in quotes"),
         // The keyword of a node, or a word.
         letter if letter.is_ascii_alphabetic() => {
             if opens_after_white(rest_of(there, word_length(there))) {
-                append_name(word_at(there), out)
+                name_text(alloc, word_at(there))
             } else {
-                out.extend_from_slice(b"a word")
+                Vec::from_slice(alloc, b"a word")
             }
         }
-        _ => out.extend_from_slice(b"a number"),
+        _ => Vec::from_slice(alloc, b"a number"),
     }
 }
 
@@ -47,32 +48,23 @@ fn opens(bytes: &[u8]) -> bool
     matches!(first_byte(bytes), b'[' | b'(')
 }
 
-/// Appends a word in capitals, or the front of a long one.
-pub(crate) fn append_name(word: &[u8], out: &mut Vec<u8>) -> Result<(), AllocError>
-    ensures { OnOk result (out.new.items ≡ out.old.items ++ named_by word.now) }
-{
-    out.extend_from_slice(&name_text(*out.allocator(), word)?)
-}
-
 /// A word in capitals, or the front of a long one.
-pub(crate) fn name_text(alloc: Global, word: &[u8]) -> Result<Vec<u8>, AllocError>
+pub(crate) fn name_text(alloc: Global, word: &[u8]) -> Result<Vec<u8>>
     ensures { IfOk result (λ name. name.items ≡ named_by word.now) }
 {
-    let mut shown = Vec::new(alloc);
-    append_shown(word, &mut shown)?;
-    shown.to_ascii_uppercase(alloc)
+    shown_text(alloc, word)?.to_ascii_uppercase(alloc)
 }
 
-/// Appends a word as it is written, or the front of a long one.
-pub(crate) fn append_shown(word: &[u8], out: &mut Vec<u8>) -> Result<(), AllocError>
-    ensures { OnOk result (out.new.items ≡ out.old.items ++ word_shown word.now) }
+/// A word as it is written, or the front of a long one.
+pub(crate) fn shown_text(alloc: Global, word: &[u8]) -> Result<Vec<u8>>
+    ensures { IfOk result (λ shown. shown.items ≡ word_shown word.now) }
 {
     if word.len() <= SHOWN {
-        out.extend_from_slice(word)
-    } else {
-        out.extend_from_slice(front_of(word, SHOWN))?;
-        out.extend_from_slice(b"..")
+        return Vec::from_slice(alloc, word);
     }
+    let mut shown = Vec::from_slice(alloc, front_of(word, SHOWN))?;
+    shown.extend_from_slice(b"..")?;
+    Ok(shown)
 }
 
 fn front_of(word: &[u8], count: usize) -> &[u8]

@@ -1,24 +1,38 @@
-//! The refusal of a text, explained to a person and to a program.
+//! The refusal of a text, explained to a person and to a program: in lines, in pieces, and as an object of JSON.
 ghost use Rattle.std.specs.Prelude.{◌≡◌, ◌++◌, ◌∷◌, ◌≤◌, [], IfOk, OnOk, codes, decimal, length};
-ghost use Rattle.crs_explain.specs.Explained.{AreExplainedPieces, Explains, IsExplained, head};
+ghost use Rattle.crs_explain.specs.Explained.{AreExplainedPieces, AreWords, Explains, IsExplained, head, line_if_any, sentence_lines};
+ghost use Rattle.crs_explain.specs.Json.{IsRefusalObject, expected_members, place_members, sentence_members, which_member};
+ghost use Rattle.crs_explain.specs.Lines.{in_line};
 
 use crate::excerpt::excerpt;
-use crate::expected::{ExpectedTexts, expectation, meant_in, or_nothing};
-use crate::names::push_each;
-use crate::pieces::Pieces;
-use crate::sentences::{SentenceTexts, sentences};
+use crate::expected::{ExpectedTexts, expectation, or_nothing};
+use crate::names::{append_array, push_each};
+use crate::place::word_at;
+use crate::units::units;
+use crate::{Pieces, Result};
+use crs_hint::{hints, meaning, still_open};
+use crs_streams::json::{
+    append_key, append_number_member, append_text, append_text_member, append_value_member,
+};
 use crs_streams::{append_number, append_refusal};
 use crs_text::{Position, Refusal, position_of};
-use std::alloc::{AllocError, Global};
+use std::alloc::Global;
 use std::marker::Model;
 
-/// What is explained of a refusal. Profile.
-pub(crate) struct ExplanationOf {
-    pub(crate) position: Position,
-    /// The piece of the line and the caret, a line each.
-    pub(crate) excerpt: Vec<u8>,
-    pub(crate) expected: Option<ExpectedTexts>,
-    pub(crate) sentences: SentenceTexts,
+// The most bytes of a line of words.
+const MOST: usize = 1000;
+
+// What is explained of a refusal. Of words there are no bytes where nothing is to be said.
+struct ExplanationOf {
+    position: Position,
+    // The piece of the line and the caret, a line each.
+    excerpt: Vec<u8>,
+    expected: Option<ExpectedTexts>,
+    // What is open, was meant or is asked for.
+    clue: Vec<u8>,
+    // What the number means.
+    meaning: Vec<u8>,
+    hints: Vec<u8>,
 }
 
 // Hand-written: a derived drop is expanded wherever a value is dropped, which slows the proofs.
@@ -28,7 +42,9 @@ impl Drop for ExplanationOf {
             position: _,
             excerpt: _,
             expected: _,
-            sentences: _,
+            clue: _,
+            meaning: _,
+            hints: _,
         } = self;
     }
 }
@@ -42,30 +58,90 @@ impl Model for ExplanationOf {
       position = e.position;
       excerpt = e.excerpt.items;
       expected = e.expected;
-      sentences = e.sentences;
+      sentences = record { open_or_meant = e.clue.items; meaning = e.meaning.items; hints = e.hints.items };
     } };
 }
 
-/// The explanation of a text's refusal. Time is linear in the text.
-pub(crate) fn explanation(
-    alloc: Global,
-    text: &[u8],
-    refusal: Refusal,
-) -> Result<ExplanationOf, AllocError>
+impl ExplanationOf {
+    // Appends its sentences, a line each.
+    fn append_sentences(&self, out: &mut Vec<u8>) -> Result<()>
+        ensures { OnOk result (out.new.items ≡ out.old.items ++ sentence_lines self.now.sentences) }
+    {
+        append_line_if_any(&self.clue, out)?;
+        append_line(&self.meaning, out)?;
+        append_line_if_any(&self.hints, out)
+    }
+
+    // Adds each of them to pieces.
+    fn push_sentences(&self, out: &mut Pieces) -> Result<()>
+        ensures { OnOk result (out.new ≡ out.old ++ self.now.sentences.open_or_meant
+            ∷ self.now.sentences.meaning ∷ self.now.sentences.hints ∷ []) }
+    {
+        out.push(&self.clue)?;
+        out.push(&self.meaning)?;
+        out.push(&self.hints)
+    }
+
+    // Appends them as members of an object.
+    fn append_sentence_members(&self, out: &mut Vec<u8>) -> Result<()>
+        ensures { OnOk result (out.new.items ≡ out.old.items ++ sentence_members self.now.sentences) }
+    {
+        append_value_member(b"clue", &self.clue, out)?;
+        append_text_member(b"meaning", &self.meaning, out)?;
+        append_value_member(b"hints", &self.hints, out)
+    }
+}
+
+// The explanation of a text's refusal. Time is linear in the text.
+fn explanation(alloc: Global, text: &[u8], refusal: Refusal) -> Result<ExplanationOf>
     requires { refusal.place ≤ length text.now }
     ensures { IfOk result (Explains text.now refusal) }
 {
-    let place = refusal.place();
+    let (number, place) = (refusal.number(), refusal.place());
     let position = position_of(text, place);
     let excerpt = excerpt(alloc, text, place)?;
     let expected = expectation(alloc, text, refusal)?;
-    let sentences = sentences(alloc, text, refusal, meant_in(&expected))?;
+    let hints = hints(alloc, text, number, place)?;
+    let meant: &[u8] = match &expected {
+        Some(expected) if hints.is_empty() => &expected.meant,
+        _ => b"",
+    };
+    let clue = clue(alloc, text, refusal, meant)?;
     Ok(ExplanationOf {
         position,
         excerpt,
         expected,
-        sentences,
+        clue: words_of(alloc, &clue)?,
+        meaning: words_of(alloc, meaning(number).as_bytes())?,
+        hints: words_of(alloc, &hints)?,
     })
+}
+
+// What is open at the place, which units are asked for, or which name was meant; that has no bytes where there is none.
+fn clue(alloc: Global, text: &[u8], refusal: Refusal, meant: &[u8]) -> Result<Vec<u8>> {
+    match refusal.number() {
+        6 | 7 => still_open(alloc, text, refusal.place()),
+        11 | 21 if !meant.is_empty() => [b"Did you mean ", meant, b"?"].concat(alloc),
+        27 => units(alloc, text, refusal.place()),
+        _ => Ok(Vec::new(alloc)),
+    }
+}
+
+// The words of a line: the first of these, with blanks for line feeds.
+fn words_of(alloc: Global, words: &[u8]) -> Result<Vec<u8>>
+    ensures { IfOk result (λ line. AreWords line.items) }
+{
+    let mut line = Vec::new(alloc);
+    for byte in words.get(..MOST).unwrap_or(words) {
+        line.push(in_line(*byte))?;
+    }
+    Ok(line)
+}
+
+fn in_line(byte: u8) -> u8
+    ensures { result ≡ in_line byte }
+{
+    if byte == b'\n' { b' ' } else { byte }
 }
 
 /// Explains the refusal of a text, so that a person can repair the text: a line with the refusal and its line and
@@ -74,7 +150,7 @@ pub(crate) fn explanation(
 /// which units are asked for; what the number means, and a hint where one applies. Each line has its line feed.
 ///
 /// `AllocError`: there is no memory for it. Time is linear in the text. Profile.
-pub fn refusal_text(alloc: Global, text: &[u8], refusal: Refusal) -> Result<Vec<u8>, AllocError>
+pub fn refusal_text(alloc: Global, text: &[u8], refusal: Refusal) -> Result<Vec<u8>>
     requires { refusal.place ≤ length text.now }
     ensures { IfOk result (λ told. IsExplained text.now refusal told.items) }
 {
@@ -84,7 +160,7 @@ pub fn refusal_text(alloc: Global, text: &[u8], refusal: Refusal) -> Result<Vec<
     append_head(refusal, explanation.position, &mut told)?;
     told.extend_from_slice(&explanation.excerpt)?;
     or_nothing(&explanation.expected, &nothing).append_line(&mut told)?;
-    explanation.sentences.append_lines(&mut told)?;
+    explanation.append_sentences(&mut told)?;
     Ok(told)
 }
 
@@ -116,11 +192,7 @@ impl Model for ExplanationPieces {
 /// sentence has no line feed, and no bytes where nothing is to be said.
 ///
 /// `AllocError`: there is no memory for it. Time is linear in the text. Profile.
-pub fn refusal_pieces(
-    alloc: Global,
-    text: &[u8],
-    refusal: Refusal,
-) -> Result<ExplanationPieces, AllocError>
+pub fn refusal_pieces(alloc: Global, text: &[u8], refusal: Refusal) -> Result<ExplanationPieces>
     requires { refusal.place ≤ length text.now }
     ensures { IfOk result (AreExplainedPieces text.now refusal) }
 {
@@ -130,7 +202,7 @@ pub fn refusal_pieces(
     let mut pieces = Pieces::new(alloc);
     pieces.push(&explanation.excerpt)?;
     expected.push_found(alloc, &mut pieces)?;
-    explanation.sentences.push(&mut pieces)?;
+    explanation.push_sentences(&mut pieces)?;
     push_each(&expected.names, &mut pieces)?;
     Ok(ExplanationPieces {
         line: explanation.position.line,
@@ -140,8 +212,29 @@ pub fn refusal_pieces(
     })
 }
 
+/// Explains the refusal of a text as `refusal_text` does, in an object of JSON and a line feed: the number, its name, the
+/// place, line and column; the piece of the line and the caret; what is found and what could stand there, `null` and no
+/// name where that isn't known; and sentences, `null` where nothing is to be said. Of two texts a word says which it is, as
+/// `first `; no bytes say nothing.
+///
+/// `AllocError`: there is no memory for it. Time is linear in the text. Profile.
+pub fn refusal_object(alloc: Global, which: &[u8], text: &[u8], refusal: Refusal) -> Result<Vec<u8>>
+    requires { refusal.place ≤ length text.now }
+    ensures { IfOk result (λ object. IsRefusalObject which.now text.now refusal object.items) }
+{
+    let explanation = explanation(alloc, text, refusal)?;
+    let mut out = Vec::from_slice(alloc, b"{")?;
+    append_which(which, &mut out)?;
+    append_place(refusal, explanation.position, &mut out)?;
+    append_text_member(b"excerpt", &explanation.excerpt, &mut out)?;
+    append_expected(&explanation.expected, &mut out)?;
+    explanation.append_sentence_members(&mut out)?;
+    out.extend_from_slice(b"}\n")?;
+    Ok(out)
+}
+
 // `refused N NAME at P, line L, column C`, and a line feed.
-fn append_head(refusal: Refusal, position: Position, out: &mut Vec<u8>) -> Result<(), AllocError>
+fn append_head(refusal: Refusal, position: Position, out: &mut Vec<u8>) -> Result<()>
     ensures { OnOk result (out.new.items ≡ out.old.items ++ head refusal position) }
 {
     append_refusal(out, refusal)?;
@@ -149,7 +242,7 @@ fn append_head(refusal: Refusal, position: Position, out: &mut Vec<u8>) -> Resul
 }
 
 // `, line L, column C`, and a line feed.
-fn append_position(position: Position, out: &mut Vec<u8>) -> Result<(), AllocError>
+fn append_position(position: Position, out: &mut Vec<u8>) -> Result<()>
     ensures { OnOk result (out.new.items ≡ out.old.items ++ (codes ", line " ++ decimal position.line
         ++ codes ", column " ++ decimal position.column ++ 10 ∷ [])) }
 {
@@ -158,4 +251,58 @@ fn append_position(position: Position, out: &mut Vec<u8>) -> Result<(), AllocErr
     out.extend_from_slice(b", column ")?;
     append_number(position.column, out)?;
     out.extend_from_slice(b"\n")
+}
+
+fn append_line_if_any(words: &[u8], out: &mut Vec<u8>) -> Result<()>
+    ensures { OnOk result (out.new.items ≡ out.old.items ++ line_if_any words.now) }
+{
+    if words.is_empty() {
+        return Ok(());
+    }
+    append_line(words, out)
+}
+
+fn append_line(words: &[u8], out: &mut Vec<u8>) -> Result<()>
+    ensures { OnOk result (out.new.items ≡ out.old.items ++ (words.now ++ 10 ∷ [])) }
+{
+    out.extend_from_slice(words)?;
+    out.extend_from_slice(b"\n")
+}
+
+// `"text":"first",`, or nothing where there is one text.
+fn append_which(which: &[u8], out: &mut Vec<u8>) -> Result<()>
+    ensures { OnOk result (out.new.items ≡ out.old.items ++ which_member which.now) }
+{
+    if which.is_empty() {
+        return Ok(());
+    }
+    out.extend_from_slice(b"\"text\":")?;
+    append_text(word_at(which), out)?;
+    out.extend_from_slice(b",")
+}
+
+fn append_place(refusal: Refusal, position: Position, out: &mut Vec<u8>) -> Result<()>
+    ensures { OnOk result (out.new.items ≡ out.old.items ++ place_members refusal position) }
+{
+    out.extend_from_slice(b"\"refused\":")?;
+    append_number(usize::from(refusal.number()), out)?;
+    append_text_member(b"name", refusal.name().as_bytes(), out)?;
+    append_number_member(b"place", refusal.place(), out)?;
+    append_number_member(b"line", position.line, out)?;
+    append_number_member(b"column", position.column, out)
+}
+
+fn append_expected(expected: &Option<ExpectedTexts>, out: &mut Vec<u8>) -> Result<()>
+    ensures { OnOk result (out.new.items ≡ out.old.items ++ expected_members expected.now) }
+{
+    let Some(expected) = expected else {
+        return out.extend_from_slice(
+            b",\"node\":null,\"node_place\":null,\"found\":null,\"expected\":[]",
+        );
+    };
+    append_value_member(b"node", &expected.node, out)?;
+    append_number_member(b"node_place", expected.place, out)?;
+    append_text_member(b"found", &expected.found, out)?;
+    append_key(b"expected", out)?;
+    append_array(&expected.names, out)
 }

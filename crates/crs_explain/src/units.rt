@@ -2,13 +2,13 @@
 ghost use Rattle.crs_text.specs.Items.{HasId};
 ghost use Rattle.crs_value.specs.Reading.{Holds};
 
-use crate::around::{around, crs_around, is_called, part_around};
-use crate::place::append_name;
-use crate::system::raw_at;
+use crate::Result;
+use crate::place::name_text;
+use crate::system::{around, crs_around, is_called, part_around, raw_at};
 use crs_shape::{Direction, SystemType, UnitKind};
 use crs_streams::append_number;
 use crs_text::{Fault, ItemId, Items, Keyword, read_items};
-use std::alloc::{AllocError, Global};
+use std::alloc::Global;
 
 // The keywords of units.
 const UNITS: [Keyword; 3] = [Keyword::LengthUnit, Keyword::AngleUnit, Keyword::PlainUnit];
@@ -16,7 +16,7 @@ const UNITS: [Keyword; 3] = [Keyword::LengthUnit, Keyword::AngleUnit, Keyword::P
 /// For a unit on an axis, or where there is none, `found LENGTHUNIT in AXIS at 66, expected ANGLEUNIT`; for one that all
 /// axes share `found LENGTHUNIT for all axes, expected ANGLEUNIT for AXIS at 66, LENGTHUNIT for AXIS at 84`; nothing
 /// where the text has no items, or no unit is at the place or missing there.
-pub(crate) fn units(alloc: Global, text: &[u8], place: usize) -> Result<Vec<u8>, AllocError> {
+pub(crate) fn units(alloc: Global, text: &[u8], place: usize) -> Result<Vec<u8>> {
     match read_items(alloc, text) {
         Ok(items) => units_of(alloc, &items, place),
         Err(Fault::Refused(_)) => Ok(Vec::new(alloc)),
@@ -24,7 +24,7 @@ pub(crate) fn units(alloc: Global, text: &[u8], place: usize) -> Result<Vec<u8>,
     }
 }
 
-fn units_of(alloc: Global, items: &Items<'_>, place: usize) -> Result<Vec<u8>, AllocError> {
+fn units_of(alloc: Global, items: &Items<'_>, place: usize) -> Result<Vec<u8>> {
     let crs = crs_around(items, place);
     let part = part_around(items, place);
     let system = InCrs { items, crs };
@@ -55,19 +55,14 @@ struct InCrs<'i, 'a> {
 impl InCrs<'_, '_> {
     // `found LENGTHUNIT in AXIS at 66, expected ANGLEUNIT`, or that there is a unit for all axes too; nothing where no
     // unit is found and none is missing.
-    fn append_of_axis(
-        &self,
-        axis: ItemId,
-        found: ItemId,
-        out: &mut Vec<u8>,
-    ) -> Result<(), AllocError>
+    fn append_of_axis(&self, axis: ItemId, found: ItemId, out: &mut Vec<u8>) -> Result<()>
         requires axis { HasId self.now.items.now axis }
         requires found { HasId self.now.items.now found }
     {
         let is_shared = self.first(self.crs, &UNITS).is_some();
         if is_one_of(self.items, found, &UNITS) {
             out.extend_from_slice(b"found ")?;
-            append_name(self.items.raw(found), out)?;
+            out.extend_from_slice(&name_text(*out.allocator(), self.items.raw(found))?)?;
         } else if is_shared || self.first(axis, &UNITS).is_some() {
             return Ok(());
         } else {
@@ -98,12 +93,12 @@ impl InCrs<'_, '_> {
     }
 
     // `found LENGTHUNIT for all axes, expected ANGLEUNIT for AXIS at 66, LENGTHUNIT for AXIS at 84`
-    fn append_of_all(&self, unit: ItemId, out: &mut Vec<u8>) -> Result<(), AllocError>
+    fn append_of_all(&self, unit: ItemId, out: &mut Vec<u8>) -> Result<()>
         requires { HasId self.now.items.now unit }
     {
         let items = self.items;
         out.extend_from_slice(b"found ")?;
-        append_name(items.raw(unit), out)?;
+        out.extend_from_slice(&name_text(*out.allocator(), items.raw(unit))?)?;
         out.extend_from_slice(b" for all axes, expected ")?;
         let mut separator: &[u8] = b"";
         let mut at = items.arg(self.crs, 0);
@@ -124,10 +119,8 @@ impl InCrs<'_, '_> {
     fn asked(&self, axis: ItemId) -> &'static [u8]
         requires { HasId self.now.items.now axis }
     {
-        match self.kind_of(axis) {
-            Some(kind) => kind.keyword().as_bytes(),
-            None => b"a unit",
-        }
+        let kind = self.kind_of(axis);
+        kind.map_or(b"a unit", |it| it.keyword().as_bytes())
     }
 
     // By the type of its coordinate system and by its direction.

@@ -1,6 +1,6 @@
 //! What comes before a place: a look at delimiters and quoted texts, token by token, which takes no memory.
-use crate::glance::{back, front, is_of_word, keyword_at, looked_at, names, names_one_of, rest};
-use crate::hint::Open;
+use crate::glance::{back, front, is_of_word, looked_at, names, rest, split_word};
+use crate::hint::Node;
 use arrayvec::ArrayVec;
 use crs_shape::{Class, known, root_class};
 
@@ -21,23 +21,26 @@ const IN_CRS: [Class; 11] = [
 
 /// What comes before a place, or begins there.
 #[derive(Drop)]
-pub(crate) struct Before {
+pub(crate) struct Before<'t> {
+    /// The text before the place.
+    pub(crate) text: &'t [u8],
     /// The delimiters that are open, the outermost first: at most 12 are open before the place of a text's refusal, and
     /// one may begin there.
-    pub(crate) open: ArrayVec<Open, 13>,
+    pub(crate) open: ArrayVec<Node<'t>, 13>,
     quote: Option<usize>,
     /// Whether a delimiter was closed.
     has_closed: bool,
     /// Where the first quoted text begins that has nodes inside.
     pub(crate) quote_missing: Option<usize>,
     /// The first node that is where none of its kind can be, and the node that it is in.
-    pub(crate) outside: Option<(Open, Open)>,
+    pub(crate) outside: Option<(Node<'t>, Node<'t>)>,
 }
 
 /// What comes before a place of a text.
-pub(crate) fn look_before(text: &[u8], place: usize) -> Before {
+pub(crate) fn look_before(text: &[u8], place: usize) -> Before<'_> {
     let seen = front(text, place.saturating_add(400));
     let mut found = Before {
+        text: front(text, place),
         open: ArrayVec::new(),
         quote: None,
         has_closed: false,
@@ -55,9 +58,9 @@ pub(crate) fn look_before(text: &[u8], place: usize) -> Before {
     found
 }
 
-impl Before {
+impl<'t> Before<'t> {
     /// The delimiter that was opened last.
-    pub(crate) fn innermost(&self) -> Option<Open> {
+    pub(crate) fn innermost(&self) -> Option<Node<'t>> {
         self.open.last().copied()
     }
 
@@ -67,7 +70,7 @@ impl Before {
     }
 
     // Takes the byte at `at`; false where what follows doesn't count.
-    fn goes_on(&mut self, text: &[u8], place: usize, at: usize, byte: u8) -> bool {
+    fn goes_on(&mut self, text: &'t [u8], place: usize, at: usize, byte: u8) -> bool {
         match (self.quote, byte) {
             (Some(begin), b'"') => {
                 self.end_quote(front(rest(text, begin), at.saturating_sub(begin)), begin);
@@ -79,7 +82,7 @@ impl Before {
                 self.quote = (at <= place).then_some(at);
                 at <= place
             }
-            (None, b'[' | b'(') => self.enter(text, node_at(text, at, byte), place),
+            (None, b'[' | b'(') => self.enter(node_at(text, at, byte), place),
             (None, b']' | b')') => {
                 if at < place && self.open.pop().is_some() {
                     self.has_closed = true;
@@ -98,14 +101,14 @@ impl Before {
     }
 
     // A node that begins at the place itself counts too: what is missing may belong before it.
-    fn enter(&mut self, text: &[u8], node: Open, place: usize) -> bool {
+    fn enter(&mut self, node: Node<'t>, place: usize) -> bool {
         if node.begin > place {
             return false;
         }
         if let Some(outer) = self.innermost()
             && self.outside.is_none()
-            && names_one_of(keyword_of(text, node), &IN_CRS)
-            && holds_none(keyword_of(text, outer))
+            && names(node.keyword, &IN_CRS)
+            && holds_none(outer.keyword)
         {
             self.outside = Some((node, outer));
         }
@@ -115,52 +118,39 @@ impl Before {
 
 // Whether it is the keyword of a node that can't have any of `IN_CRS`, since it is neither a CRS nor a base CRS.
 fn holds_none(keyword: &[u8]) -> bool {
-    known(keyword) && root_class(keyword).is_none() && !names(keyword, Class::BaseCrs)
-}
-
-/// The keyword of a node of a text; empty where no word is before its delimiter.
-pub(crate) fn keyword_of(text: &[u8], node: Open) -> &[u8] {
-    front(rest(text, node.begin), node.length)
+    known(keyword) && root_class(keyword).is_none() && !names(keyword, &[Class::BaseCrs])
 }
 
 /// The node whose opening delimiter is at a place.
-pub(crate) fn node_at(text: &[u8], at: usize, delimiter: u8) -> Open {
-    let before = back(front(text, at), 100);
-    let behind = before.trim_ascii_end();
-    let run = behind
+pub(crate) fn node_at(text: &[u8], at: usize, delimiter: u8) -> Node<'_> {
+    let near = back(front(text, at), 100);
+    let before = near.trim_ascii_end();
+    let run = before
         .iter()
         .rev()
         .take_while(|it| is_of_word(**it))
         .count();
+    let word = back(before, run);
     // A keyword begins with a letter.
-    let letter = back(behind, run)
-        .iter()
-        .position(|it| it.is_ascii_alphabetic());
-    let length = run.saturating_sub(letter.unwrap_or(run));
-    let white = before.len().saturating_sub(behind.len());
-    Open {
-        begin: at.saturating_sub(white).saturating_sub(length),
-        length,
+    let letter = word.iter().position(|it| it.is_ascii_alphabetic());
+    let keyword = rest(word, letter.unwrap_or(run));
+    let white = near.len().saturating_sub(before.len());
+    Node {
+        begin: at.saturating_sub(white).saturating_sub(keyword.len()),
+        keyword,
         delimiter,
     }
 }
 
 // Whether a quoted text contains the end of a node, or the beginning of the next, as it does where a quote is
-// missing.
+// missing: before a comma or behind it.
 fn has_node(quoted: &[u8], opening: u8) -> bool {
-    (0..quoted.len()).any(|at| is_of_node(rest(quoted, at), opening))
-}
-
-fn is_of_node(text: &[u8], opening: u8) -> bool {
-    match (text, opening) {
-        ([b',', behind @ ..], _) => {
-            let keyword = keyword_at(behind);
-            let behind = rest(behind.trim_ascii_start(), keyword.len());
-            !keyword.is_empty() && behind.trim_ascii_start().first() == Some(&opening)
-        }
-        ([b']', behind @ ..], b'[') | ([b')', behind @ ..], b'(') => {
-            behind.trim_ascii_start().starts_with(b",")
+    let closing = if opening == b'[' { b']' } else { b')' };
+    (0..quoted.len()).any(|at| match rest(quoted, at) {
+        [b',', behind @ ..] => {
+            front(quoted, at).trim_ascii_end().last() == Some(&closing)
+                || matches!(split_word(behind), ([_, ..], [next, ..]) if *next == opening)
         }
         _ => false,
-    }
+    })
 }

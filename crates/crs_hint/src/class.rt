@@ -1,7 +1,7 @@
 //! What a text is by its first keyword, and keywords that aren't read.
-use crate::glance::{begins, ends, is_one_of, names_one_of};
-use crate::hint::{Entry, Filling, Hint};
-use crate::sentence::{BOUND, BY_PROJ, CLASS, KEYWORD, METADATA, OPERATION, TRANSFORMATION, WKT1};
+use crate::glance::{begins, ends, is_one_of, names};
+use crate::hint::{About, Entry, Filling, Hint, filled};
+use crate::sentence::{BOUND, CLASS, KEYWORD, METADATA, OPERATION, TRANSFORMATION};
 use crs_shape::Class;
 
 // The classes of CRS of WKT1.
@@ -23,8 +23,8 @@ const PARTS: [Class; 12] = [
     Class::Identifier,
 ];
 
-// Classes of the standard that aren't read.
-const OTHER_CLASSES: [Entry; 11] = [
+// Classes of CRS of the standard that aren't read.
+const OTHER_CLASSES: [Entry; 7] = [
     (b"BOUNDCRS", BOUND, b""),
     (b"ENGCRS", CLASS, b"Engineering CRSs"),
     (b"ENGINEERINGCRS", CLASS, b"Engineering CRSs"),
@@ -32,6 +32,10 @@ const OTHER_CLASSES: [Entry; 11] = [
     (b"TIMECRS", CLASS, b"Temporal CRSs"),
     (b"DERIVEDPROJCRS", CLASS, b"Derived CRSs"),
     (b"IMAGECRS", CLASS, b"Image CRSs"),
+];
+
+// What else the standard has, and isn't read.
+const OTHER_TEXTS: [Entry; 4] = [
     (b"COORDINATEOPERATION", OPERATION, b""),
     (b"CONCATENATEDOPERATION", OPERATION, b""),
     (b"POINTMOTIONOPERATION", OPERATION, b""),
@@ -52,36 +56,39 @@ const OTHER_KEYWORDS: [Entry; 9] = [
 ];
 
 /// What a text is by its first keyword.
-pub(crate) fn by_class(keyword: &[u8]) -> Option<Hint<'_>> {
+pub(crate) fn by_class<'a>(text: &[u8], keyword: &'a [u8]) -> Option<Hint<'a>> {
     if is_one_of(keyword, OLD_CLASSES) {
-        return Some(Hint(WKT1, Filling::Words(BY_PROJ)));
-    }
-    if names_one_of(keyword, &PARTS) {
-        return Some(Hint(
+        let has_transformation = text.windows(8).any(|it| begins(it, b"TOWGS84["));
+        let transformation: &[u8] = if has_transformation { b"TOWGS84" } else { b"" };
+        let told = "This is WKT1, of a .prj file or an older tool: {}";
+        filled(told, Filling::ByProj(transformation)).map(|it| it.about(About::Class))
+    } else if names(keyword, &PARTS) {
+        filled(
             "{} is a part of a CRS, and no CRS by itself.",
             Filling::Capitals(keyword),
-        ));
+        )
+    } else {
+        by_other_class(keyword)
     }
-    by_word(keyword, &OTHER_CLASSES)
 }
 
 /// Whether a text of its own begins with this keyword: a CRS, also of a class that isn't read, or an operation.
 pub(crate) fn is_of_text(keyword: &[u8]) -> bool {
     let is_crs = ends(keyword, b"CRS") && !begins(keyword, b"BASE");
-    is_crs || is_one_of(keyword, OLD_CLASSES) || by_word(keyword, &OTHER_CLASSES).is_some()
+    is_crs || is_one_of(keyword, OLD_CLASSES) || by_other_class(keyword).is_some()
 }
 
 /// What a node is that isn't allowed where it is, by its keyword.
 pub(crate) fn by_keyword(keyword: &[u8]) -> Option<Hint<'static>> {
-    by_word(keyword, &OTHER_KEYWORDS).or(by_word(keyword, &OTHER_CLASSES))
+    by_word(keyword, &OTHER_KEYWORDS).or(by_other_class(keyword))
+}
+
+fn by_other_class(keyword: &[u8]) -> Option<Hint<'static>> {
+    let class = by_word(keyword, &OTHER_CLASSES).map(|it| it.about(About::Class));
+    class.or(by_word(keyword, &OTHER_TEXTS))
 }
 
 fn by_word(word: &[u8], entries: &[Entry]) -> Option<Hint<'static>> {
     let entry = entries.iter().find(|it| it.0.eq_ignore_ascii_case(word))?;
-    Some(Hint(entry.1, Filling::Words(entry.2)))
-}
-
-/// Whether WKT1 has a transformation, `TOWGS84[`.
-pub(crate) fn has_transformation(text: &[u8]) -> bool {
-    text.windows(8).any(|it| begins(it, b"TOWGS84["))
+    filled(entry.1, Filling::Words(entry.2))
 }

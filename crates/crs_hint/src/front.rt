@@ -1,19 +1,21 @@
 //! What a text is by its front.
 use crate::class::by_class;
 use crate::glance::{
-    begins, digit_count, ends, front, is_of_word, is_one_of, keyword_at, rest, word_at, word_length,
+    begins, digit_count, ends, front, is_of_word, is_one_of, keyword_at, looked_at, rest,
+    split_word, word_length,
 };
-use crate::hint::{Entry, Filling, Hint, by_first_bytes, said};
+use crate::hint::{Entry, Filling, Hint, by_first_bytes, filled, said};
 use crate::sentence;
 
-/// What a text is by its front, which has no white space around it.
-pub(crate) fn by_front<'a>(text: &'a [u8], front: &'a [u8]) -> Option<Hint<'a>> {
+/// What a text is by its front.
+pub(crate) fn by_front(text: &[u8]) -> Option<Hint<'_>> {
+    let front = looked_at(text.trim_ascii_start(), 0).trim_ascii_end();
     if front.is_empty() {
         return said("There is nothing here: an empty file, or a program that wrote nothing.");
     }
     let by_word = match keyword_at(front) {
         [] => by_string(front),
-        keyword => by_class(keyword),
+        keyword => by_class(text, keyword),
     };
     by_first_bytes(text, &FORMATS)
         .or(by_utf16(text))
@@ -58,10 +60,10 @@ fn by_utf16(text: &[u8]) -> Option<Hint<'static>> {
         [a, 0, b, 0, ..] if *a != 0 && *b != 0 => b"UTF-16LE",
         _ => return None,
     };
-    Some(Hint(
+    filled(
         "This is UTF-16: write the file in UTF-8 (iconv -f {} -t UTF-8 FILE).",
         Filling::Words(name),
-    ))
+    )
 }
 
 const GEOMETRIES: &[u8] =
@@ -69,23 +71,22 @@ const GEOMETRIES: &[u8] =
 
 // A geometry by its kind, after an SRID too, with its coordinates or `EMPTY` behind it.
 fn by_geometry(front: &[u8]) -> Option<Hint<'_>> {
-    let text = match srid_of(front) {
-        Some(srid) => rest(front, srid.len().saturating_add(1)).trim_ascii_start(),
-        None => front,
-    };
-    let kind = word_at(text);
-    let behind = rest(text, kind.len()).trim_ascii_start();
-    let dimension = word_at(behind);
+    let srid = srid_of(front).map_or(0, |it| it.len().saturating_add(1));
+    let (kind, behind) = split_word(rest(front, srid));
+    let (dimension, coordinates) = split_word(behind);
     let coordinates = if is_one_of(dimension, b"Z M ZM") {
-        rest(behind, dimension.len()).trim_ascii_start()
+        coordinates
     } else {
         behind
     };
     let has_coordinates = coordinates.starts_with(b"(") || begins(coordinates, b"EMPTY");
-    (is_one_of(kind, GEOMETRIES) && has_coordinates).then_some(Hint(
+    if !is_one_of(kind, GEOMETRIES) || !has_coordinates {
+        return None;
+    }
+    filled(
         "This is a geometry, {}, and no CRS.",
         Filling::Capitals(kind),
-    ))
+    )
 }
 
 // `SRID=` with its digits, where a semicolon follows them.
@@ -99,26 +100,25 @@ fn srid_of(front: &[u8]) -> Option<&[u8]> {
 
 // What a text is that doesn't begin with a node, by its front.
 fn by_string(text: &[u8]) -> Option<Hint<'_>> {
-    let hint = if let Some(srid) = srid_of(text) {
-        Hint(
+    if let Some(srid) = srid_of(text) {
+        filled(
             "{}; is before the text, as in PostGIS: cut it off.",
             Filling::Words(srid),
         )
     } else if is_proj_string(text) {
-        Hint(sentence::PROJ_STRING, Filling::Words(sentence::BY_PROJ))
-    } else if digit_count(text) == text.len() {
-        Hint(sentence::CODE, Filling::EpsgCode(text))
-    } else if is_code(text) || is_address(text) {
-        Hint(sentence::CODE, Filling::Argument(text))
-    } else if is_path(text) {
-        Hint(
-            "This is the name of a file, most likely: what is wanted is the text in that file.",
-            Filling::Nothing,
+        filled(
+            "This is a PROJ string, which ends in +type=crs where it is a CRS: {}",
+            Filling::ByProj(transformation_of(text)),
         )
+    } else if digit_count(text) == text.len() {
+        filled(sentence::CODE, Filling::Argument(b"EPSG:", text))
+    } else if is_code(text) || is_address(text) {
+        filled(sentence::CODE, Filling::Argument(b"", text))
+    } else if is_path(text) {
+        said("This is the name of a file, most likely: what is wanted is the text in that file.")
     } else {
-        return None;
-    };
-    Some(hint)
+        None
+    }
 }
 
 // `+proj=utm ..`, also without plus signs, or with `init=`, or with other words before.
@@ -133,8 +133,8 @@ fn without_plus(text: &[u8]) -> &[u8] {
 
 const TRANSFORMATIONS: [&[u8]; 3] = [b"towgs84", b"nadgrids", b"geoidgrids"];
 
-/// The word of a PROJ string that asks for a transformation, such as `+towgs84`; empty where there is none.
-pub(crate) fn transformation_of(text: &[u8]) -> &[u8] {
+// The word of a PROJ string that asks for a transformation, such as `+towgs84`; empty where there is none.
+fn transformation_of(text: &[u8]) -> &[u8] {
     for at in 0..text.len() {
         let word = rest(text, at);
         let name = without_plus(word);
@@ -146,27 +146,18 @@ pub(crate) fn transformation_of(text: &[u8]) -> &[u8] {
     b""
 }
 
-// `EPSG:28992`, `OGC:CRS84`, `EPSG:28992+5709`.
+// `EPSG:28992`, `OGC:CRS84`, `EPSG:28992+5709`: an authority, and a code, or two with a plus sign between.
 fn is_code(text: &[u8]) -> bool {
     let authority = text
         .iter()
         .take_while(|it| is_of_word(**it) || matches!(**it, b'.' | b'-'))
         .count();
-    let Some(behind) = rest(text, authority).strip_prefix(b":") else {
+    let Some(codes) = rest(text, authority).strip_prefix(b":") else {
         return false;
     };
-    authority >= 3 && is_of_codes(behind.strip_prefix(b":").unwrap_or(behind))
-}
-
-// A code, or two with a plus sign between.
-fn is_of_codes(text: &[u8]) -> bool {
-    let first = word_length(text);
-    match rest(text, first) {
-        _ if first == 0 => false,
-        [] => true,
-        [b'+', second @ ..] => !second.is_empty() && word_length(second) == second.len(),
-        _ => false,
-    }
+    let codes = codes.strip_prefix(b":").unwrap_or(codes);
+    let mut codes = codes.splitn(2, |it| *it == b'+');
+    authority >= 3 && codes.all(|it| !it.is_empty() && word_length(it) == it.len())
 }
 
 // `urn:ogc:def:crs:EPSG::4326`, or a web address.
@@ -175,7 +166,7 @@ fn is_address(text: &[u8]) -> bool {
     is_begun && text.iter().all(|it| it.is_ascii_graphic())
 }
 
-// How files end.
+// How names of files end.
 const ENDINGS: [&[u8]; 12] = [
     b".wkt", b".wkt2", b".prj", b".txt", b".shp", b".gpkg", b".tif", b".tiff", b".json", b".gml",
     b".xml", b".csv",

@@ -34,23 +34,17 @@ pub(crate) fn ends(text: &[u8], words: &[u8]) -> bool {
     back(text, words.len()).eq_ignore_ascii_case(words)
 }
 
-/// Whether a word is one of these, which have blanks between, letter case aside.
+/// Whether a word is one of these words, which are separated by blanks, letter case aside.
 pub(crate) fn is_one_of(word: &[u8], words: &[u8]) -> bool {
     words
         .split(|it| *it == b' ')
         .any(|it| it.eq_ignore_ascii_case(word))
 }
 
-/// Whether a word is a keyword of this class, letter case aside.
-pub(crate) fn names(word: &[u8], class: Class) -> bool {
-    keywords(class)
-        .iter()
-        .any(|it| it.spelling().eq_ignore_ascii_case(word))
-}
-
-/// Whether a word is a keyword of one of these classes.
-pub(crate) fn names_one_of(word: &[u8], classes: &[Class]) -> bool {
-    classes.iter().any(|it| names(word, *it))
+/// Whether a word is a keyword of one of these classes, letter case aside.
+pub(crate) fn names(word: &[u8], classes: &[Class]) -> bool {
+    let mut keywords = classes.iter().flat_map(|it| keywords(*it));
+    keywords.any(|it| it.spelling().eq_ignore_ascii_case(word))
 }
 
 /// Whether a byte may be part of a word.
@@ -63,25 +57,26 @@ pub(crate) fn word_length(text: &[u8]) -> usize {
     text.iter().take_while(|it| is_of_word(**it)).count()
 }
 
-/// The word that the bytes begin with: a letter, then letters, digits and underscores; empty where there is none.
-pub(crate) fn word_at(text: &[u8]) -> &[u8] {
-    match text.first() {
-        Some(byte) if byte.is_ascii_alphabetic() => front(text, word_length(text)),
-        _ => b"",
-    }
-}
-
 /// The number of digits that the bytes begin with.
 pub(crate) fn digit_count(text: &[u8]) -> usize {
     text.iter().take_while(|it| it.is_ascii_digit()).count()
 }
 
+/// The word that the bytes begin with after white space, and what follows it and white space: a letter, then letters,
+/// digits and underscores; empty where there is none.
+pub(crate) fn split_word(text: &[u8]) -> (&[u8], &[u8]) {
+    let text = text.trim_ascii_start();
+    let length = match text {
+        [first, ..] if first.is_ascii_alphabetic() => word_length(text),
+        _ => 0,
+    };
+    (front(text, length), rest(text, length).trim_ascii_start())
+}
+
 /// The keyword of the node that the bytes begin with, after white space; empty where they begin with no node.
 pub(crate) fn keyword_at(text: &[u8]) -> &[u8] {
-    let text = text.trim_ascii_start();
-    let word = word_at(text);
-    match rest(text, word.len()).trim_ascii_start() {
-        [b'[' | b'(', ..] => word,
+    match split_word(text) {
+        (word, [b'[' | b'(', ..]) => word,
         _ => b"",
     }
 }

@@ -1,8 +1,23 @@
-//! Hints.
+//! Hints, the nodes that they name, and the tables in which they are looked for.
 
-/// What to say of a text: a sentence, and what is filled into it.
+/// What to say of a text.
 #[derive(Clone, Copy)]
-pub(crate) struct Hint<'a>(pub(crate) &'static str, pub(crate) Filling<'a>);
+pub(crate) struct Hint<'a> {
+    /// A sentence or more, with `{}` where something is filled in.
+    pub(crate) sentence: &'static str,
+    pub(crate) filling: Filling<'a>,
+    pub(crate) about: About,
+}
+
+/// What a hint is about, as far as that decides on a hint beside it.
+#[derive(Clone, Copy)]
+pub(crate) enum About {
+    /// A class of CRS that isn't read: beside it damage is named.
+    Class,
+    /// What follows a complete text, which is no damage: behind WKT1 a second text may stand.
+    Behind,
+    Other,
+}
 
 /// What is filled into a sentence.
 #[derive(Clone, Copy)]
@@ -11,34 +26,49 @@ pub(crate) enum Filling<'a> {
     Words(&'a [u8]),
     /// A word, in capitals.
     Capitals(&'a [u8]),
-    /// A word, as a shell takes it.
-    Argument(&'a [u8]),
-    /// The digits of a code of EPSG.
-    EpsgCode(&'a [u8]),
+    /// A word, as a shell takes it, behind these bytes.
+    Argument(&'static [u8], &'a [u8]),
+    /// What to do with a text that PROJ reads, and the word of its transformation, if it has one.
+    ByProj(&'a [u8]),
     Place(usize),
     /// A control character, in hexadecimal digits.
     Control(u8),
-    /// The node that is open at the place of the refusal, and by which delimiter it is closed.
-    ClosedBy(Open),
-    /// The first node before the place that is where none of its kind can be, and the node that it is in.
-    Outside(Open, Open),
-    /// What is open at the place of the refusal, which is looked for once the sentence is written; what comes before the
-    /// first.
-    AllOpen(&'static [u8]),
+    Node(Node<'a>),
+    /// A node inside another.
+    Inside(Node<'a>, Node<'a>),
+    /// Nodes that are open, behind these bytes if there are any.
+    Open(&'static [u8], &'a [Node<'a>]),
 }
 
-/// A delimiter that is open at a place of a text: where the word before it begins, how long that is, which may be
-/// nothing, and the delimiter.
+impl<'a> Hint<'a> {
+    /// The same, about this.
+    pub(crate) fn about(mut self, about: About) -> Hint<'a> {
+        self.about = about;
+        self
+    }
+}
+
+/// A node of a text: where it begins, its keyword, which may be no bytes, and its opening delimiter.
 #[derive(Clone, Copy, Default)]
-pub(crate) struct Open {
+pub(crate) struct Node<'t> {
     pub(crate) begin: usize,
-    pub(crate) length: usize,
+    pub(crate) keyword: &'t [u8],
     pub(crate) delimiter: u8,
 }
 
 /// The hint of a sentence into which nothing is filled.
-pub(crate) fn said(words: &'static str) -> Option<Hint<'static>> {
-    Some(Hint(words, Filling::Nothing))
+pub(crate) fn said(sentence: &'static str) -> Option<Hint<'static>> {
+    filled(sentence, Filling::Nothing)
+}
+
+/// The hint of a sentence into which this is filled.
+pub(crate) fn filled<'a>(sentence: &'static str, filling: Filling<'a>) -> Option<Hint<'a>> {
+    let about = About::Other;
+    Some(Hint {
+        sentence,
+        filling,
+        about,
+    })
 }
 
 /// Bytes that are looked for, and the sentence that tells of them, with the words that are filled in.
@@ -47,5 +77,5 @@ pub(crate) type Entry = (&'static [u8], &'static str, &'static [u8]);
 /// The hint of the first of these entries with which the bytes begin.
 pub(crate) fn by_first_bytes(bytes: &[u8], entries: &[Entry]) -> Option<Hint<'static>> {
     let entry = entries.iter().find(|it| bytes.starts_with(it.0))?;
-    Some(Hint(entry.1, Filling::Words(entry.2)))
+    filled(entry.1, Filling::Words(entry.2))
 }

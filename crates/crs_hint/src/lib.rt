@@ -14,4 +14,4 @@ mod sentence;
 mod writing;
 
 pub use meanings::meaning;
-pub use writing::{hints, opened};
+pub use writing::{hints, still_open};

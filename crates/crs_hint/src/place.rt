@@ -1,8 +1,8 @@
 //! What is at the place of a refusal, is missing before it, or is open there.
-use crate::before::{Before, look_before};
+use crate::before::Before;
 use crate::class::{by_keyword, is_of_text};
-use crate::glance::{back, digit_count, front, keyword_at, looked_at, names, rest};
-use crate::hint::{Entry, Filling, Hint, by_first_bytes, said};
+use crate::glance::{back, digit_count, keyword_at, looked_at, names, rest};
+use crate::hint::{About, Entry, Filling, Hint, by_first_bytes, filled, said};
 use crate::sentence;
 use crs_shape::Class;
 
@@ -24,28 +24,27 @@ const UNKNOWN_KEYWORD: u8 = 11;
 const NOT_HERE: u8 = 12;
 
 /// What is at the place of a refusal, or is missing before it.
-pub(crate) fn by_place(text: &[u8], number: u8, place: usize) -> Option<Hint<'static>> {
-    let there = looked_at(text, place);
-    let before = front(text, place);
-    let found = look_before(text, place);
+pub(crate) fn by_place<'t>(text: &[u8], number: u8, found: &'t Before<'t>) -> Option<Hint<'t>> {
+    let behind = rest(text, found.text.len());
+    let there = looked_at(behind, 0);
     let keyword = keyword_at(there);
     let hint = match number {
         BAD_CHARACTER => by_character(there),
-        BAD_NUMBER => by_number(rest(text, place)),
+        BAD_NUMBER => by_number(behind),
         NOT_UTF8 => said(
             "It is Latin-1, most likely, or another encoding: write the file in UTF-8 (iconv -f \
              ISO-8859-1 -t UTF-8 FILE).",
         ),
         UNKNOWN_KEYWORD => by_keyword(keyword),
-        NOT_HERE if names(keyword, Class::BaseCrs) => {
+        NOT_HERE if names(keyword, &[Class::BaseCrs]) => {
             said("This is a derived CRS. Derived CRSs aren't read.")
         }
-        NOT_HERE => by_keyword(keyword).or(by_comma(before, there)),
+        NOT_HERE => by_keyword(keyword).or(by_comma(found.text, there)),
         _ => None,
     };
-    by_whole_text(&found, number, there)
+    by_whole_text(found, number, there)
         .or(hint)
-        .or(by_delimiters(&found, number, before, there))
+        .or(by_delimiters(found, number, there))
 }
 
 // Characters by their bytes, most of them quotes that aren't straight, and what to say of each.
@@ -66,10 +65,10 @@ const CHARACTERS: [Entry; 10] = [
 fn by_character(there: &[u8]) -> Option<Hint<'static>> {
     match there {
         [byte, ..] if byte.is_ascii_control() => {
-            Some(Hint(
+            filled(
                 "A control character is here, {}: this is no text, or it was damaged.",
                 Filling::Control(*byte),
-            ))
+            )
         }
         _ => by_first_bytes(there, &CHARACTERS),
     }
@@ -153,60 +152,64 @@ fn ends_with_thousands(before: &[u8]) -> bool {
 }
 
 // What is at a place behind a complete text, or where a quote is missing before; `there` is the text from the place on.
-fn by_whole_text(found: &Before, number: u8, there: &[u8]) -> Option<Hint<'static>> {
+fn by_whole_text(found: &Before<'_>, number: u8, there: &[u8]) -> Option<Hint<'static>> {
     if let Some(place) = found.quote_missing
         && matches!(
             number,
             BAD_CHARACTER | BAD_NUMBER | OPEN_TEXT | UNEXPECTED | UNEXPECTED_END
         )
     {
-        return Some(Hint(
+        return filled(
             "A quote is missing, most likely: at the end of the quoted text that is opened at {}, or before it.",
             Filling::Place(place),
-        ));
+        );
     }
     if !found.is_complete() || number > UNEXPECTED {
         return None;
     }
     let keyword = keyword_at(there.strip_prefix(b",").unwrap_or(there));
-    said(if is_of_text(keyword) {
-        sentence::SECOND_TEXT
-    } else if !keyword.is_empty() {
+    if is_of_text(keyword) {
+        return behind("A second text begins here: a file has one text.");
+    }
+    said(if !keyword.is_empty() {
         "The CRS is complete before this node: a closing delimiter before it is one too many, most likely."
     } else if matches!(there, [b']' | b')', ..]) {
         "The CRS is complete before this delimiter: it is one too many, or one is missing before."
     } else {
-        sentence::BEHIND
+        return behind("The CRS is complete before this: cut off what follows it.");
     })
 }
 
+// What follows a complete text.
+fn behind(sentence: &'static str) -> Option<Hint<'static>> {
+    said(sentence).map(|it| it.about(About::Behind))
+}
+
 // What is open before the place of a refusal, or too many there; `there` is the text from the place on.
-fn by_delimiters(found: &Before, number: u8, before: &[u8], there: &[u8]) -> Option<Hint<'static>> {
+fn by_delimiters<'t>(found: &'t Before<'t>, number: u8, there: &[u8]) -> Option<Hint<'t>> {
+    let open = found.open.as_slice();
     if number == OPEN_TEXT {
-        return Some(Hint(
+        return filled(
             "Still open at the end: this quoted text{}.",
-            Filling::AllOpen(b", "),
-        ));
+            Filling::Open(b", ", open),
+        );
     }
-    let open = found.innermost()?;
+    let node = found.innermost()?;
     match number {
-        UNEXPECTED_END if !matches!(before.trim_ascii_end(), [.., b']' | b')']) => {
-            Some(Hint(
+        UNEXPECTED_END if !matches!(found.text.trim_ascii_end(), [.., b']' | b')']) => {
+            filled(
                 "The text was cut off, most likely: it has no closing delimiter at its end. Still open at the end: {}.",
-                Filling::AllOpen(b""),
-            ))
+                Filling::Open(b"", open),
+            )
         }
-        UNEXPECTED_END => {
-            let is_more_open = found.open.len() > 1;
-            let still_open = Hint("Still open at the end: {}.", Filling::AllOpen(b""));
-            by_outside(found).or(is_more_open.then_some(still_open))
+        UNEXPECTED_END if found.outside.is_none() && open.len() > 1 => {
+            filled("Still open at the end: {}.", Filling::Open(b"", open))
         }
-        NOT_HERE => by_outside(found),
+        UNEXPECTED_END | NOT_HERE => by_outside(found),
         // A closing delimiter that doesn't match the opening delimiter.
-        UNEXPECTED => match (open.delimiter, there) {
-            (b'[', [b')', ..]) | (b'(', [b']', ..]) => {
-                Some(Hint("{}.", Filling::ClosedBy(open)))
-            }
+        UNEXPECTED => match (node.delimiter, there) {
+            (b'[', [b')', ..]) => filled("{} is closed by ], not by ).", Filling::Node(node)),
+            (b'(', [b']', ..]) => filled("{} is closed by ), not by ].", Filling::Node(node)),
             _ => None,
         },
         _ => None,
@@ -214,10 +217,10 @@ fn by_delimiters(found: &Before, number: u8, before: &[u8], there: &[u8]) -> Opt
 }
 
 // A node that is where none of its kind can be.
-fn by_outside(found: &Before) -> Option<Hint<'static>> {
+fn by_outside<'t>(found: &Before<'t>) -> Option<Hint<'t>> {
     let (node, outer) = found.outside?;
-    Some(Hint(
+    filled(
         "{}, which is still open there: its closing delimiter is missing, most likely.",
-        Filling::Outside(node, outer),
-    ))
+        Filling::Inside(node, outer),
+    )
 }

@@ -1,4 +1,5 @@
-//! The sentences of hints, with `{}` where something is filled in.
+//! The sentences of hints that tables name or that are asked for again, with `{}` where something is filled in. Each
+//! other sentence stands where its hint is found.
 
 /// What to do with a text that PROJ reads.
 pub(crate) const BY_PROJ: &[u8] =
@@ -29,16 +30,11 @@ pub(crate) const XML: &str = "This is XML, most likely GML: have the tool write 
 pub(crate) const QUOTED: &str =
     "The text is in quotes, as in a table or in JSON: take them off, and halve the doubled ones inside.";
 
-pub(crate) const PROJ_STRING: &str =
-    "This is a PROJ string, which ends in +type=crs where it is a CRS: {}";
-
 pub(crate) const CODE: &str =
     "This is a code, and nothing is looked up here: have PROJ write WKT2:2019 (projinfo -q \
     --single-line -o WKT2:2019 {}).";
 
 // Of classes.
-pub(crate) const WKT1: &str = "This is WKT1, of a .prj file or an older tool: {}";
-
 pub(crate) const BOUND: &str = "A BOUNDCRS isn't read. Its source CRS is, as by pyproj \
     (CRS(text).source_crs.to_wkt()), which loses the transformation: keep the transformation as part of a key.";
 
@@ -56,11 +52,6 @@ pub(crate) const KEYWORD: &str =
 pub(crate) const TRANSFORMATION: &str =
     "TOWGS84 is WKT1's, and no part of a CRS: where you leave the node out, keep \
     the transformation as part of a key.";
-
-// Of delimiters.
-pub(crate) const SECOND_TEXT: &str = "A second text begins here: a file has one text.";
-
-pub(crate) const BEHIND: &str = "The CRS is complete before this: cut off what follows it.";
 
 // Of characters.
 pub(crate) const TYPOGRAPHIC_QUOTE: &str = "This is a typographic quote: write straight ones (\").";

@@ -2,7 +2,7 @@
 ghost use Rattle.std.specs.Prelude.{◌≡◌, ◌++◌, OnOk, Some};
 ghost use Rattle.crs_decimal.specs.Plain.{plain};
 ghost use Rattle.crs_decimal.specs.Value.{Value};
-ghost use Rattle.crs_normal.specs.SpelledUnits.{whole_value};
+ghost use Rattle.crs_normal.specs.SpelledItems.{whole_value};
 ghost use Rattle.crs_nodes.specs.Found.{IsNumber};
 ghost use Rattle.crs_leaves.specs.Direct.{Writes};
 

@@ -2,7 +2,7 @@
 use Rattle.std.proofs.Common.{◌≡◌, ℕ, ◌+◌, drop, List}
 use Rattle.std.specs.Prelude.{⊤}
 use Rattle.crs_value.specs.Prelude.{AxisParts}
-use Rattle.crs_matching.specs.SameSystems.{HasAt}
+use Rattle.crs_matching.specs.SameParts.{HasAt}
 
 -- the axes from this index on, the first of which is written at this place, are searched still
 pub record IsLeft (position place index : ℕ) (axes : List AxisParts) : Type 0 where

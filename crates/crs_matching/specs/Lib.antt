@@ -1,11 +1,6 @@
 pub mod Prelude
-pub mod SameConversions
-pub mod SameDynamic
-pub mod SameFrames
 pub mod SameIdents
-pub mod SameSystems
-pub mod SameUnits
-pub mod SameUsages
+pub mod SameParts
 pub mod Sameness
 pub mod SamenessLaws
 pub mod Sets

@@ -15,6 +15,11 @@ AllHaveSame Same (x ∷ xs) ys = HasSame Same x ys × AllHaveSame Same xs ys
 abbrev pub SameSet : {V : Type 0} → (V → V → Type 0) → List V → List V → Type 0
 SameSet Same xs ys = AllHaveSame Same xs ys × AllHaveSame Same ys xs
 
+-- the members of a list, and one before them, if there is one: of usages, the one whose parts are bare
+abbrev pub with_bare : {V : Type 0} → Option V → List V → List V
+with_bare None members = members
+with_bare (Some bare) members = bare ∷ members
+
 -- both are missing, or both are there and the same
 abbrev pub BothOrNeither : {V : Type 0} → (V → V → Type 0) → Option V → Option V → Type 0
 BothOrNeither Same None None = Unit {0}

@@ -1,14 +1,13 @@
 //! Axes by themselves, and the axis at a position.
-ghost use Rattle.std.specs.Prelude.{◌≡◌, ◌↔◌, IsTrue, None};
+ghost use Rattle.std.specs.Prelude.{◌↔◌, IsTrue};
 ghost use Rattle.std.specs.Option.{option_copied};
 ghost use Rattle.crs_matching.specs.Sets.{BothOrNeither};
-ghost use Rattle.crs_matching.specs.SameSystems.{SameAxisMeridian, SameAxisAlone, IsPositionOf, StandsAt};
+ghost use Rattle.crs_matching.specs.SameParts.{SameAxisMeridian, SameAxisAlone, IsPositionOf, StandsAt};
 
-use crate::idents::same_idents;
-use crate::texts::{same_optional_value, same_text, same_value};
-use crate::units::{same_unit_as, same_units_as};
+use crate::members::same_idents;
+use crate::single::{same_optional_value, same_text, same_unit_as, same_units_as, same_value};
 use crs_decimal::Decimal;
-use crs_value::{Axis, AxisMeridian, Direction, Level, UnitKind};
+use crs_value::{Axis, AxisMeridian, Level, UnitKind};
 
 /// Whether the meridians of two axes are the same: longitude and unit. ISO 19162:2019, "Axis direction".
 pub fn same_axis_meridian<'a>(a: &AxisMeridian<'a>, b: &AxisMeridian<'a>, level: Level) -> bool
@@ -28,20 +27,13 @@ pub fn same_axis_meridians<'a>(
     both_or_neither!(a, b, |x, y| same_axis_meridian(x, y, level))
 }
 
-/// Whether two directions are equal. Profile.
-pub fn same_direction(a: Direction, b: Direction) -> bool
-    ensures { IsTrue result ↔ (a ≡ b) }
-{
-    a == b
-}
-
 /// Whether two axes by themselves are the same: name, direction, identifiers, and meridian, order and unit, each in
 /// both or in neither; `UNIT` is a kind of its own. ISO 19162:2019, "Axis"; order and unit: profile.
 pub fn same_axis<'a>(a: &Axis<'a>, b: &Axis<'a>, level: Level) -> bool
     ensures { IsTrue result ↔ SameAxisAlone level a.now b.now }
 {
     same_text(a.name, b.name)
-        && same_direction(a.direction, b.direction)
+        && a.direction == b.direction
         && same_axis_meridians(&a.meridian, &b.meridian, level)
         && same_optional_value(a.order, b.order)
         && same_units_as(UnitKind::Plain, a.unit.as_ref(), b.unit.as_ref(), level)

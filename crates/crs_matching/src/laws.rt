@@ -3,13 +3,8 @@ ghost use Rattle.std.specs.Prelude.{length};
 ghost use Rattle.crs_shape.specs.declared.unit_kind.UnitKind.{UnitKind};
 ghost use Rattle.crs_value.specs.declared.values.level.Level.{Level};
 ghost use Rattle.crs_matching.specs.Sameness.{IsSameness};
-ghost use Rattle.crs_matching.specs.SameConversions.{SameParameter, SameGeoidModel};
-ghost use Rattle.crs_matching.specs.SameDynamic.{SameDeformationModel};
-ghost use Rattle.crs_matching.specs.SameFrames.{SameMember};
+ghost use Rattle.crs_matching.specs.SameParts.{SameParameter, SameGeoidModel, SameDeformationModel, SameMember, SameAxisMeridian, SameAxisAlone, SameValue, SameUnit, SameLength, SameBox, SameExtent, SameUsage};
 ghost use Rattle.crs_matching.specs.SameIdents.{SameIdent, SameIdents};
-ghost use Rattle.crs_matching.specs.SameSystems.{SameAxisMeridian, SameAxisAlone};
-ghost use Rattle.crs_matching.specs.SameUnits.{SameValue, SameUnit, SameLength};
-ghost use Rattle.crs_matching.specs.SameUsages.{SameBox, SameExtent, SameUsage};
 
 use crs_decimal::laws;
 

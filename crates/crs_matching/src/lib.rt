@@ -14,21 +14,20 @@ macro_rules! both_or_neither {
 }
 
 mod axes;
-mod idents;
 pub mod laws;
+mod members;
 mod sets;
-mod texts;
-mod units;
+mod single;
 mod usages;
 
-pub use axes::{axis_at, same_axis, same_axis_meridian, same_axis_meridians, same_direction};
-pub use idents::{
+pub use axes::{axis_at, same_axis, same_axis_meridian, same_axis_meridians};
+pub use members::{
     same_deformation_model, same_geoid_model, same_ident, same_idents, same_kept_idents,
-    same_member, same_models,
+    same_member, same_models, same_parameter,
 };
-pub use sets::{SetMember, same_set};
-pub use texts::{same_optional_text, same_optional_value, same_text, same_value};
-pub use units::{
-    same_length, same_parameter, same_unit, same_unit_as, same_units_as, same_units_asked,
+pub use sets::{Joined, SetMember, same_set};
+pub use single::{
+    same_length, same_optional_text, same_optional_value, same_text, same_unit, same_unit_as,
+    same_units_as, same_units_asked, same_value,
 };
-pub use usages::{same_box, same_extent, same_usage, same_usage_set};
+pub use usages::{same_box, same_extent, same_usage};

@@ -1,14 +1,12 @@
-//! Usages, one by one and as sets.
+//! Usages, and the boxes and extents that they hold.
 ghost use Rattle.std.specs.Prelude.{◌↔◌, IsTrue};
-ghost use Rattle.std.specs.Option.{option_copied};
-ghost use Rattle.crs_matching.specs.Sets.{BothOrNeither, SameSet};
-ghost use Rattle.crs_matching.specs.SameUsages.{SameBox, SameExtent, SameUsage, with_bare};
+ghost use Rattle.crs_matching.specs.Sets.{BothOrNeither};
+ghost use Rattle.crs_matching.specs.SameParts.{SameBox, SameExtent, SameUsage};
 
 use crate::laws;
-use crate::sets::{SetMember, all_have_same};
-use crate::texts::{same_optional_text, same_value};
-use crate::units::same_length;
-use crs_value::{BoundingBox, Extent, Guesses, Level, Usage};
+use crate::sets::SetMember;
+use crate::single::{same_length, same_optional_text, same_value};
+use crs_value::{BoundingBox, Extent, Level, Usage};
 
 /// Whether two bounding boxes are the same: south, west, north and east. A box is compared alike at every level.
 /// ISO 19162:2019, "Geographic bounding box".
@@ -64,19 +62,4 @@ impl SetMember for Usage<'_> {
     fn same_is_equivalence(&self) {
         laws::same_part_is_equivalence();
     }
-}
-
-/// Whether two lists of usages, each with one whose parts are bare, if there is one, are the same set. Profile.
-pub fn same_usage_set<'a>(
-    one: Option<&Usage<'a>>,
-    usages: &[Usage<'a>],
-    bare: Option<&Usage<'a>>,
-    others: &[Usage<'a>],
-    guesses: Guesses<'_>,
-) -> bool
-    ensures { IsTrue result ↔ SameSet SameUsage (with_bare (option_copied one.entry) usages.now)
-        (with_bare (option_copied bare.entry) others.now) }
-{
-    all_have_same(one, usages, bare, others, guesses, Level::Full)
-        && all_have_same(bare, others, one, usages, guesses.turned(), Level::Full)
 }

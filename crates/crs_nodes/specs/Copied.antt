@@ -12,8 +12,7 @@ use Rattle.crs_shape.specs.declared.unit_kind.UnitKind.TheVariants as kinds
 use Rattle.crs_value.specs.Reading.{Holds, ahead, item_at}
 use Rattle.crs_value.specs.declared.values.level.Level.{Level}
 use Rattle.crs_value.specs.declared.values.level.Level.TheVariants as levels
-use Rattle.crs_normal.specs.SpelledItems.{is_short}
-use Rattle.crs_normal.specs.SpelledUnits.{whole_value}
+use Rattle.crs_normal.specs.SpelledItems.{is_short, whole_value}
 use Rattle.crs_nodes.specs.Found.{IsNumber}
 
 -- a node of this keyword, and the number of its first argument

@@ -1,24 +1,18 @@
 //! Nodes of the commonest forms that are canonical as they stand: what is written of one is a copy of its bytes. A node
 //! that isn't found to have its form may be canonical too: it is written part by part.
 ghost use Rattle.std.specs.Prelude.{◌≡◌, IfSome, IsFalse, IsTrue, codes};
-ghost use Rattle.crs_decimal.specs.Plain.{plain};
 ghost use Rattle.crs_text.specs.Items.{End, HasId, Item};
 ghost use Rattle.crs_text.specs.Written.{item_text};
-ghost use Rattle.crs_value.specs.ConversionValues.{MethodParts, ParameterParts};
+ghost use Rattle.crs_value.specs.Values.{MethodParts, ParameterParts, AxisParts, DatumParts, IdentParts, SystemParts, UsageParts};
 ghost use Rattle.crs_value.specs.Reading.{Holds, ahead, item_at};
-ghost use Rattle.crs_value.specs.Reads.{ReadsAxis, ReadsDatum, ReadsIdent, ReadsUsage};
-ghost use Rattle.crs_value.specs.ReadsConversion.{ReadsMethod, ReadsParameter};
-ghost use Rattle.crs_value.specs.Values.{AxisParts, DatumParts, IdentParts, SystemParts, UsageParts};
+ghost use Rattle.crs_value.specs.Reads.{ReadsAxis, ReadsDatum, ReadsIdent, ReadsUsage, ReadsMethod, ReadsParameter};
 ghost use Rattle.crs_value.specs.declared.values.level.Level.TheVariants as levels;
 ghost use Rattle.crs_normal.specs.PartTexts.{method_text, parameter_text, usage_text};
 ghost use Rattle.crs_normal.specs.SpelledFrames.{item_datum, norm_datum};
-ghost use Rattle.crs_normal.specs.SpelledItems.{is_short};
+ghost use Rattle.crs_normal.specs.SpelledItems.{is_short, item_ident};
 ghost use Rattle.crs_normal.specs.SpelledSystems.{item_axis, norm_axis};
-ghost use Rattle.crs_normal.specs.SpelledUnits.{item_ident, whole_value};
-ghost use Rattle.crs_nodes.specs.Copied.{IsDirectionWord, IsEnd, IsNext, IsOpened, IsPlainAxis, IsPlainBox};
-ghost use Rattle.crs_nodes.specs.Copied.{IsPlainDatum, IsPlainEllipsoid, IsPlainMethod, IsPlainNumber, IsPlainOrder};
-ghost use Rattle.crs_nodes.specs.Copied.{IsPlainParameter, IsPlainUsage, IsPlainly, IsSaidKind, IsSaidUnit};
-ghost use Rattle.crs_nodes.specs.Copied.{IsShortIdent, IsTextNode};
+ghost use Rattle.crs_nodes.specs.Copied.{IsDirectionWord, IsEnd, IsNext, IsOpened, IsPlainBox, IsPlainEllipsoid};
+ghost use Rattle.crs_nodes.specs.Copied.{IsPlainNumber, IsPlainOrder, IsSaidKind, IsSaidUnit, IsShortIdent, IsTextNode};
 ghost use Rattle.crs_nodes.specs.Cursor.{item};
 
 use crate::node::Node;
@@ -66,8 +60,9 @@ fn next_plain(items: &Items<'_>, at: Option<ItemId>) -> Option<(ItemId, Option<I
     ensures next { IfSome result (λ found. IsNext items.now at ItemKind.Number found.0 found.1) }
     ensures plain { IfSome result (λ found. IsPlainNumber (item_at items.now found.0)) }
 {
+    crs_decimal::laws::plain_is_the_one();
     let (number, next) = next_of(items, at, ItemKind::Number)?;
-    is_plainly(items.raw(number)).then_some((number, next))
+    is_plain(items.raw(number)).then_some((number, next))
 }
 
 // Nothing comes next.
@@ -96,14 +91,6 @@ pub fn is_short(raw: &[u8]) -> bool
     are_digits(raw) && 1 <= raw.len() && raw.len() <= 18
 }
 
-// Whether these bytes are the plain spelling of the number that they spell.
-fn is_plainly(raw: &[u8]) -> bool
-    ensures { IsTrue result → IsPlainly raw.now }
-{
-    crs_decimal::laws::plain_is_the_one();
-    is_plain(raw)
-}
-
 // Whether this is the keyword of a kind of unit, which `UNIT` isn't.
 fn is_said_kind(raw: &[u8]) -> bool
     ensures { IsTrue result → IsSaidKind raw.now }
@@ -120,14 +107,6 @@ fn is_direction_word(raw: &[u8]) -> bool
         None => false,
         Some(direction) => direction.word().as_bytes() == raw,
     }
-}
-
-// Whether these are the digits of a position.
-fn is_position(raw: &[u8], position: u64) -> bool
-    ensures { IsTrue result → raw.now ≡ plain (whole_value position) }
-{
-    let mut digits = Buffer::new();
-    digits.format(position).as_bytes() == raw
 }
 
 // ---- forms: `Some` where the item has the form
@@ -168,28 +147,6 @@ fn said_unit(items: &Items<'_>, id: ItemId, level: Level) -> Option<()>
     ends(items, at, level)
 }
 
-fn plain_method(items: &Items<'_>, id: ItemId, level: Level) -> Option<()>
-    requires { HasId items.now id }
-    ensures { IfSome result (λ _. IsPlainMethod level (item_at items.now id)) }
-{
-    let at = opened(items, id, b"METHOD")?;
-    let (_name, at) = next_of(items, at, ItemKind::Text)?;
-    ends(items, at, level)
-}
-
-fn plain_parameter(items: &Items<'_>, id: ItemId, level: Level) -> Option<()>
-    requires { HasId items.now id }
-    ensures { IfSome result (λ _. IsPlainParameter level (item_at items.now id)) }
-{
-    let at = opened(items, id, b"PARAMETER")?;
-    let (_name, at) = next_of(items, at, ItemKind::Text)?;
-    let (_value, at) = next_plain(items, at)?;
-    let (unit, at) = next_of(items, at, ItemKind::Node)?;
-    said_unit(items, unit, level)?;
-    ends(items, at, level)?;
-    Some(())
-}
-
 fn text_node(items: &Items<'_>, id: ItemId, word: &[u8]) -> Option<()>
     requires { HasId items.now id }
     ensures { IfSome result (λ _. IsTextNode word.now (item_at items.now id)) }
@@ -212,20 +169,6 @@ fn plain_box(items: &Items<'_>, id: ItemId) -> Option<()>
     Some(())
 }
 
-fn plain_usage(items: &Items<'_>, id: ItemId) -> Option<()>
-    requires { HasId items.now id }
-    ensures { IfSome result (λ _. IsPlainUsage (item_at items.now id)) }
-{
-    let at = opened(items, id, b"USAGE")?;
-    let (scope, at) = next_of(items, at, ItemKind::Node)?;
-    let (area, at) = next_of(items, at, ItemKind::Node)?;
-    let (bbox, at) = next_of(items, at, ItemKind::Node)?;
-    none_next(at)?;
-    text_node(items, scope, b"SCOPE")?;
-    text_node(items, area, b"AREA")?;
-    plain_box(items, bbox)
-}
-
 fn plain_ellipsoid(items: &Items<'_>, id: ItemId, level: Level) -> Option<()>
     requires { HasId items.now id }
     ensures { IfSome result (λ _. IsPlainEllipsoid level (item_at items.now id)) }
@@ -243,17 +186,6 @@ fn plain_ellipsoid(items: &Items<'_>, id: ItemId, level: Level) -> Option<()>
     Some(())
 }
 
-fn plain_datum(items: &Items<'_>, id: ItemId, level: Level) -> Option<()>
-    requires { HasId items.now id }
-    ensures { IfSome result (λ _. IsPlainDatum level (item_at items.now id)) }
-{
-    let at = opened(items, id, b"DATUM")?;
-    let (_name, at) = next_of(items, at, ItemKind::Text)?;
-    let (ellipsoid, at) = next_of(items, at, ItemKind::Node)?;
-    none_next(at)?;
-    plain_ellipsoid(items, ellipsoid, level)
-}
-
 fn plain_order(items: &Items<'_>, id: ItemId, position: u64) -> Option<()>
     requires { HasId items.now id }
     ensures { IfSome result (λ _. IsPlainOrder position (item_at items.now id)) }
@@ -261,28 +193,8 @@ fn plain_order(items: &Items<'_>, id: ItemId, position: u64) -> Option<()>
     let at = opened(items, id, b"ORDER")?;
     let (number, at) = next_of(items, at, ItemKind::Number)?;
     none_next(at)?;
-    is_position(items.raw(number), position).then_some(())
-}
-
-fn plain_axis(items: &Items<'_>, id: ItemId, position: u64, level: Level) -> Option<()>
-    requires { HasId items.now id }
-    ensures { IfSome result (λ _. IsPlainAxis level position (item_at items.now id)) }
-{
-    let at = opened(items, id, b"AXIS")?;
-    let (_name, at) = next_of(items, at, ItemKind::Text)?;
-    let (direction, at) = next_of(items, at, ItemKind::Word)?;
-    let (order, at) = next_of(items, at, ItemKind::Node)?;
-    let (unit, at) = next_of(items, at, ItemKind::Node)?;
-    if !is_direction_word(items.raw(direction)) {
-        return None;
-    }
-    plain_order(items, order, position)?;
-    if items.raw(unit) == b"SCALEUNIT".as_slice() {
-        return None;
-    }
-    said_unit(items, unit, level)?;
-    ends(items, at, level)?;
-    Some(())
+    let mut digits = Buffer::new();
+    (digits.format(position).as_bytes() == items.raw(number)).then_some(())
 }
 
 // ---- copies
@@ -306,7 +218,9 @@ pub fn method<'a>(node: &Node<'_, 'a>, level: Level) -> Option<&'a [u8]>
     if node.class != Class::Method {
         return None;
     }
-    plain_method(items, node.id, level)?;
+    let at = opened(items, node.id, b"METHOD")?;
+    let (_name, at) = next_of(items, at, ItemKind::Text)?;
+    ends(items, at, level)?;
     items.written(node.id)
 }
 
@@ -319,7 +233,12 @@ pub fn parameter<'a>(node: &Node<'_, 'a>, level: Level) -> Option<&'a [u8]>
     if node.class != Class::Parameter {
         return None;
     }
-    plain_parameter(items, node.id, level)?;
+    let at = opened(items, node.id, b"PARAMETER")?;
+    let (_name, at) = next_of(items, at, ItemKind::Text)?;
+    let (_value, at) = next_plain(items, at)?;
+    let (unit, at) = next_of(items, at, ItemKind::Node)?;
+    said_unit(items, unit, level)?;
+    ends(items, at, level)?;
     items.written(node.id)
 }
 
@@ -332,7 +251,14 @@ pub fn usage<'a>(node: &Node<'_, 'a>, level: Level) -> Option<&'a [u8]>
     if node.class != Class::Usage {
         return None;
     }
-    plain_usage(items, node.id)?;
+    let at = opened(items, node.id, b"USAGE")?;
+    let (scope, at) = next_of(items, at, ItemKind::Node)?;
+    let (area, at) = next_of(items, at, ItemKind::Node)?;
+    let (bbox, at) = next_of(items, at, ItemKind::Node)?;
+    none_next(at)?;
+    text_node(items, scope, b"SCOPE")?;
+    text_node(items, area, b"AREA")?;
+    plain_box(items, bbox)?;
     items.written(node.id)
 }
 
@@ -345,7 +271,11 @@ pub fn datum<'a>(node: &Node<'_, 'a>, level: Level) -> Option<&'a [u8]>
     if node.class != Class::GeodeticFrame {
         return None;
     }
-    plain_datum(items, node.id, level)?;
+    let at = opened(items, node.id, b"DATUM")?;
+    let (_name, at) = next_of(items, at, ItemKind::Text)?;
+    let (ellipsoid, at) = next_of(items, at, ItemKind::Node)?;
+    none_next(at)?;
+    plain_ellipsoid(items, ellipsoid, level)?;
     items.written(node.id)
 }
 
@@ -358,6 +288,19 @@ pub fn axis<'a>(node: &Node<'_, 'a>, position: u64, level: Level) -> Option<&'a 
     if node.class != Class::Axis {
         return None;
     }
-    plain_axis(items, node.id, position, level)?;
+    let at = opened(items, node.id, b"AXIS")?;
+    let (_name, at) = next_of(items, at, ItemKind::Text)?;
+    let (direction, at) = next_of(items, at, ItemKind::Word)?;
+    let (order, at) = next_of(items, at, ItemKind::Node)?;
+    let (unit, at) = next_of(items, at, ItemKind::Node)?;
+    if !is_direction_word(items.raw(direction)) {
+        return None;
+    }
+    plain_order(items, order, position)?;
+    if items.raw(unit) == b"SCALEUNIT".as_slice() {
+        return None;
+    }
+    said_unit(items, unit, level)?;
+    ends(items, at, level)?;
     items.written(node.id)
 }

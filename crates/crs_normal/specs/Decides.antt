@@ -1,25 +1,21 @@
 -- A bridge: one form decides sameness: two values have the same form exactly where they are the
 -- same.
 use Rattle.std.specs.Prelude.{◌≡◌, ◌↔◌, ◌<◌, ◌^◌, length, Option, IfSome}
-use Rattle.crs_value.specs.Sound.{Each, IsIdent}
+use Rattle.crs_value.specs.Sound.{Each, IsIdent, IsSystem, IsUsage}
 use Rattle.crs_value.specs.SoundConversion.{IsGeoidModel, IsParameter}
 use Rattle.crs_value.specs.SoundCrs.{IsCrs}
 use Rattle.crs_value.specs.SoundFrames.{IsMember}
-use Rattle.crs_value.specs.SoundSystem.{IsSystem}
-use Rattle.crs_value.specs.SoundUsages.{IsUsage}
 use Rattle.crs_value.specs.Values.{SystemParts}
 use Rattle.crs_value.specs.Kept.{kept}
 use Rattle.crs_value.specs.declared.values.level.Level.{Level}
-use Rattle.crs_matching.specs.SameConversions.{SameGeoidModel, SameParameter}
+use Rattle.crs_matching.specs.SameParts.{SameGeoidModel, SameParameter, SameMember, SameUsage}
 use Rattle.crs_same.specs.SameCrs.{SameCrs}
-use Rattle.crs_matching.specs.SameFrames.{SameMember}
 use Rattle.crs_matching.specs.SameIdents.{SameIdents}
-use Rattle.crs_matching.specs.SameUsages.{SameUsage}
 use Rattle.crs_matching.specs.Sets.{SameSet}
 use Rattle.crs_normal.specs.SpelledConversions.{set_geoid_models, set_parameters}
 use Rattle.crs_normal.specs.SpelledCrs.{norm_crs}
 use Rattle.crs_normal.specs.SpelledFrames.{set_members}
-use Rattle.crs_normal.specs.SpelledUnits.{set_idents}
+use Rattle.crs_normal.specs.SpelledItems.{set_idents}
 use Rattle.crs_normal.specs.SpelledUsages.{set_usages}
 
 -- values for which `Is` holds have the same form exactly where they are the same

@@ -19,7 +19,6 @@ pub mod SpelledDynamic
 pub mod SpelledFrames
 pub mod SpelledItems
 pub mod SpelledSystems
-pub mod SpelledUnits
 pub mod SpelledUsages
 pub mod WithoutPlaces
 pub mod WrittenForm

@@ -1,21 +1,18 @@
 -- A bridge: what the lower crates provide, as one fact: laws of numbers, of items and their texts, and
 -- of the axes of coordinate systems; and the test that a number is a whole one.
 use Rattle.std.specs.Prelude.{◌≡◌, ◌↔◌, ◌<◌, ◌≤◌, ◌^◌, ℕ, ⊤, true, List, codes, length}
-use Rattle.crs_decimal.specs.Bounds.{Denotes, IsInBounds}
-use Rattle.crs_decimal.specs.Number.{Number, SameNumber, whole_number}
+use Rattle.crs_decimal.specs.Spelling.{Denotes, IsInBounds, AreDigits, HasForm, IsRun, Parts, SpellsNumber}
+use Rattle.crs_decimal.specs.Value.{Number, SameNumber, whole_number, Value, IsNormal, exact, zero}
 use Rattle.crs_decimal.specs.Plain.{IsPlain, plain}
-use Rattle.crs_decimal.specs.Spelling.{AreDigits, HasForm, IsRun, Parts, SpellsNumber}
-use Rattle.crs_decimal.specs.Value.{Value, IsNormal, exact, zero}
 use Rattle.crs_text.specs.Items.{Item}
 use Rattle.crs_text.specs.TextFault.{SpellsNode}
 use Rattle.crs_text.specs.Written.{AreFormed, WrittenSpells}
 use Rattle.crs_shape.specs.declared.class.Class.{Class}
 use Rattle.crs_shape.specs.ShapeFault.{Inside, IsFree}
 use Rattle.crs_shape.specs.Shaped.{Shaped}
-use Rattle.crs_value.specs.SoundSystem.{IsSystem}
+use Rattle.crs_value.specs.Sound.{IsSystem}
 use Rattle.crs_value.specs.Values.{AxisParts, SystemParts}
-use Rattle.crs_matching.specs.SameSystems.{HasAt}
-use Rattle.crs_matching.specs.SameUnits.{SameValue}
+use Rattle.crs_matching.specs.SameParts.{HasAt, SameValue}
 use Rattle.crs_normal.specs.SpelledSystems.{is_number}
 
 -- normal values are equal where their numbers are, each has one plain spelling, and a number is

@@ -5,24 +5,12 @@ use Rattle.crs_shape.specs.declared.class.Class.TheVariants as class
 use Rattle.crs_shape.specs.declared.unit_kind.UnitKind.{UnitKind}
 use Rattle.crs_shape.specs.declared.unit_kind.UnitKind.TheVariants as kinds
 use Rattle.crs_value.specs.CompoundValues.{CompoundParts}
-use Rattle.crs_value.specs.ConversionValues.{ConversionParts, GeoidModelParts, MethodParts}
-use Rattle.crs_value.specs.ConversionValues.{ParameterParts}
+use Rattle.crs_value.specs.Values.{ConversionParts, GeoidModelParts, MethodParts, ParameterParts, DeformationModelParts, DynamicParts, AxisMeridianParts, BoxParts, DatumParts, EllipsoidParts, EnsembleParts, ExtentParts, IdentParts, MemberParts, MeridianParts, UnitParts, UsageParts}
 use Rattle.crs_value.specs.CrsValues.{BaseParts, GeodeticParts, ProjectedParts, VerticalParts}
-use Rattle.crs_value.specs.DynamicValues.{DeformationModelParts, DynamicParts}
-use Rattle.crs_value.specs.Reads.{ReadsAxisMeridian, ReadsBox, ReadsDatum, ReadsEllipsoid}
-use Rattle.crs_value.specs.Reads.{ReadsEnsemble}
-use Rattle.crs_value.specs.Reads.{ReadsExtent, ReadsIdent, ReadsMember, ReadsMeridian, ReadsUnit}
-use Rattle.crs_value.specs.Reads.{ReadsUsage}
-use Rattle.crs_value.specs.ReadsConversion.{ReadsConversion, ReadsGeoidModel, ReadsMethod}
-use Rattle.crs_value.specs.ReadsConversion.{ReadsParameter}
+use Rattle.crs_value.specs.Reads.{ReadsAxisMeridian, ReadsBox, ReadsDatum, ReadsEllipsoid, ReadsEnsemble, ReadsExtent, ReadsIdent, ReadsMember, ReadsMeridian, ReadsUnit, ReadsUsage, ReadsConversion, ReadsGeoidModel, ReadsMethod, ReadsParameter, ReadsDeformationModel, ReadsDynamic}
 use Rattle.crs_value.specs.ReadsCrs.{ReadsBase, ReadsCompound, ReadsGeodetic, ReadsProjected}
 use Rattle.crs_value.specs.ReadsCrs.{ReadsVertical}
-use Rattle.crs_value.specs.ReadsDynamic.{ReadsDeformationModel, ReadsDynamic}
 use Rattle.crs_value.specs.SoundFrames.{IsDatum, IsEnsemble}
-use Rattle.crs_value.specs.Values.{AxisMeridianParts, BoxParts, DatumParts, EllipsoidParts}
-use Rattle.crs_value.specs.Values.{EnsembleParts}
-use Rattle.crs_value.specs.Values.{ExtentParts, IdentParts, MemberParts, MeridianParts, UnitParts}
-use Rattle.crs_value.specs.Values.{UsageParts}
 use Rattle.crs_value.specs.declared.values.compound.Horizontal.{Horizontal}
 use Rattle.crs_value.specs.declared.values.compound.Horizontal.TheVariants as horizontal
 use Rattle.crs_value.specs.declared.values.frame.Frame.{Frame}
@@ -35,16 +23,10 @@ use Rattle.crs_same.specs.PartsOfCrs.{parts_of_geodetic, parts_of_projected, par
 use Rattle.crs_same.specs.PartsOfCrs.{parts_of_compound}
 use Rattle.crs_same.specs.PartsOfFrames.{parts_of_ellipsoid, parts_of_given, parts_of_datum}
 use Rattle.crs_same.specs.PartsOfFrames.{parts_of_ensemble}
-use Rattle.crs_matching.specs.SameConversions.{SameGeoidModel}
+use Rattle.crs_matching.specs.SameParts.{SameGeoidModel, SameParameter, SameDeformationModel, SameMember, SameAxisMeridian, SameUnit, SameBox, SameExtent, SameUsage}
 use Rattle.crs_same.specs.SameCrs.{SameDynamic}
-use Rattle.crs_matching.specs.SameConversions.{SameParameter}
 pub use Rattle.crs_same.specs.SameCrs.{IsHorizontalPart}
-use Rattle.crs_matching.specs.SameDynamic.{SameDeformationModel}
-use Rattle.crs_matching.specs.SameFrames.{SameMember}
 use Rattle.crs_matching.specs.SameIdents.{SameIdent}
-use Rattle.crs_matching.specs.SameSystems.{SameAxisMeridian}
-use Rattle.crs_matching.specs.SameUnits.{SameUnit}
-use Rattle.crs_matching.specs.SameUsages.{SameBox, SameExtent, SameUsage}
 use Rattle.crs_normal.specs.CrsClass.{geodetic_class}
 use Rattle.crs_normal.specs.SpelledAs.{IsSpelledAs}
 

@@ -4,14 +4,8 @@ use Rattle.crs_text.specs.Items.{Item}
 use Rattle.crs_text.specs.Written.{item_text}
 use Rattle.crs_shape.specs.declared.unit_kind.UnitKind.TheVariants as kinds
 use Rattle.crs_value.specs.CompoundValues.{CompoundParts}
-use Rattle.crs_value.specs.ConversionValues.{ConversionParts, GeoidModelParts, MethodParts}
-use Rattle.crs_value.specs.ConversionValues.{ParameterParts}
+use Rattle.crs_value.specs.Values.{ConversionParts, GeoidModelParts, MethodParts, ParameterParts, DeformationModelParts, DynamicParts, AxisMeridianParts, AxisParts, BoxParts, DatumParts, EllipsoidParts, EnsembleParts, ExtentParts, IdentParts, MemberParts, MeridianParts, UnitParts, UsageParts}
 use Rattle.crs_value.specs.CrsValues.{BaseParts, GeodeticParts, ProjectedParts, VerticalParts}
-use Rattle.crs_value.specs.DynamicValues.{DeformationModelParts, DynamicParts}
-use Rattle.crs_value.specs.Values.{AxisMeridianParts, AxisParts, BoxParts, DatumParts}
-use Rattle.crs_value.specs.Values.{EllipsoidParts, EnsembleParts}
-use Rattle.crs_value.specs.Values.{ExtentParts, IdentParts, MemberParts, MeridianParts, UnitParts}
-use Rattle.crs_value.specs.Values.{UsageParts}
 use Rattle.crs_value.specs.declared.values.compound.Horizontal.{Horizontal}
 use Rattle.crs_value.specs.declared.values.frame.Frame.{Frame}
 use Rattle.crs_value.specs.declared.values.frame.Frame.TheVariants as frame
@@ -33,7 +27,7 @@ use Rattle.crs_normal.specs.SpelledFrames.{norm_datum, norm_ellipsoid, norm_ense
 use Rattle.crs_normal.specs.SpelledFrames.{norm_member}
 use Rattle.crs_normal.specs.SpelledSystems.{item_axis, item_axis_meridian, norm_axis_meridian}
 use Rattle.crs_normal.specs.SpelledSystems.{norm_axis_meridians}
-use Rattle.crs_normal.specs.SpelledUnits.{item_ident, item_unit, norm_unit, norm_units, set_idents}
+use Rattle.crs_normal.specs.SpelledItems.{item_ident, item_unit, norm_unit, norm_units, set_idents}
 use Rattle.crs_normal.specs.SpelledUsages.{item_box, item_extent, item_usage, norm_extent}
 use Rattle.crs_normal.specs.SpelledUsages.{norm_usage}
 

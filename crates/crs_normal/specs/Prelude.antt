@@ -14,11 +14,10 @@ pub use Rattle.crs_normal.specs.SpelledCrs.{item_base, item_crs, item_horizontal
 pub use Rattle.crs_normal.specs.SpelledDynamic.{item_dynamic, norm_dynamic}
 pub use Rattle.crs_normal.specs.SpelledFrames.{greenwich, is_zero, item_datum, item_ellipsoid, item_ensemble, item_frame, item_member, norm_datum, norm_ellipsoid, norm_ensemble, norm_frame, norm_given, norm_member, norm_meridian}
 unfoldable pub use Rattle.crs_normal.specs.SpelledFrames.{set_members}
-pub use Rattle.crs_normal.specs.SpelledItems.{code_item, each, is_short, node_from, node_of, number_item, number_node, opt, text_item, text_node, word_item}
+pub use Rattle.crs_normal.specs.SpelledItems.{code_item, each, is_short, node_from, node_of, number_item, number_node, opt, text_item, text_node, word_item, item_ident, item_unit, norm_length, norm_unit, norm_units, whole_value}
 pub use Rattle.crs_normal.specs.SpelledSystems.{axes_from, axis_at, is_at, is_number, item_axis, item_axis_meridian, item_head, norm_axis_meridians, norm_system, system_items, with_axis}
 unfoldable pub use Rattle.crs_normal.specs.SpelledSystems.{norm_axis}
-pub use Rattle.crs_normal.specs.SpelledUnits.{item_ident, item_unit, norm_length, norm_unit, norm_units, whole_value}
-unfoldable pub use Rattle.crs_normal.specs.SpelledUnits.{set_idents}
+unfoldable pub use Rattle.crs_normal.specs.SpelledItems.{set_idents}
 pub use Rattle.crs_normal.specs.SpelledUsages.{item_box, item_extent, item_usage, norm_extent, norm_tail, norm_usage, tail_items}
 unfoldable pub use Rattle.crs_normal.specs.SpelledUsages.{set_usages}
 pub use Rattle.crs_normal.specs.WrittenForm.{IsWrittenForm}

@@ -3,12 +3,10 @@ use Rattle.std.specs.Prelude.{List, codes, map}
 use Rattle.crs_text.specs.Items.{Item, End, More}
 use Rattle.crs_text.specs.Written.{item_text}
 use Rattle.crs_shape.specs.declared.unit_kind.UnitKind.TheVariants as kinds
-use Rattle.crs_value.specs.ConversionValues.{MethodParts, ParameterParts, ConversionParts}
-use Rattle.crs_value.specs.ConversionValues.{GeoidModelParts}
+use Rattle.crs_value.specs.Values.{MethodParts, ParameterParts, ConversionParts, GeoidModelParts}
 use Rattle.crs_value.specs.declared.values.level.Level.{Level}
 use Rattle.crs_normal.specs.Ordered.{in_order}
-use Rattle.crs_normal.specs.SpelledItems.{each, node_of, number_item, opt, text_item}
-use Rattle.crs_normal.specs.SpelledUnits.{item_ident, item_unit, norm_units, set_idents}
+use Rattle.crs_normal.specs.SpelledItems.{each, node_of, number_item, opt, text_item, item_ident, item_unit, norm_units, set_idents}
 
 -- the method of a conversion, with the identifiers that the level keeps
 abbrev pub norm_method : Level → MethodParts → MethodParts

@@ -16,9 +16,8 @@ use Rattle.crs_normal.specs.SpelledConversions.{item_conversion, item_geoid_mode
 use Rattle.crs_normal.specs.SpelledConversions.{set_geoid_models}
 use Rattle.crs_normal.specs.SpelledDynamic.{item_dynamic, norm_dynamic}
 use Rattle.crs_normal.specs.SpelledFrames.{item_frame, item_meridian, norm_frame, norm_meridian}
-use Rattle.crs_normal.specs.SpelledItems.{each, node_of, opt, text_item}
+use Rattle.crs_normal.specs.SpelledItems.{each, node_of, opt, text_item, item_ident, item_unit, norm_units, set_idents}
 use Rattle.crs_normal.specs.SpelledSystems.{norm_system, system_items}
-use Rattle.crs_normal.specs.SpelledUnits.{item_ident, item_unit, norm_units, set_idents}
 use Rattle.crs_normal.specs.SpelledUsages.{norm_tail, tail_items}
 
 -- ---- geodetic and geographic CRSs

@@ -2,10 +2,9 @@
 use Rattle.std.specs.Prelude.{codes}
 use Rattle.std.specs.Option.{option_map}
 use Rattle.crs_text.specs.Items.{Item, End}
-use Rattle.crs_value.specs.DynamicValues.{DeformationModelParts, DynamicParts}
+use Rattle.crs_value.specs.Values.{DeformationModelParts, DynamicParts}
 use Rattle.crs_value.specs.declared.values.level.Level.{Level}
-use Rattle.crs_normal.specs.SpelledItems.{each, node_of, number_node, opt, text_item}
-use Rattle.crs_normal.specs.SpelledUnits.{item_ident, set_idents}
+use Rattle.crs_normal.specs.SpelledItems.{each, node_of, number_node, opt, text_item, item_ident, set_idents}
 
 -- a deformation model, with the identifiers that the level keeps
 abbrev pub norm_deformation_model : Level → DeformationModelParts → DeformationModelParts

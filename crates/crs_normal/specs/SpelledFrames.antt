@@ -7,16 +7,12 @@ use Rattle.crs_decimal.specs.Value.{Value}
 use Rattle.crs_text.specs.Items.{Item, End, More}
 use Rattle.crs_text.specs.Written.{item_text}
 use Rattle.crs_shape.specs.declared.unit_kind.UnitKind.TheVariants as kinds
-use Rattle.crs_value.specs.Values.{EllipsoidParts, MeridianParts, MemberParts, DatumParts}
-use Rattle.crs_value.specs.Values.{EnsembleParts}
+use Rattle.crs_value.specs.Values.{EllipsoidParts, MeridianParts, MemberParts, DatumParts, EnsembleParts}
 use Rattle.crs_value.specs.declared.values.frame.Frame.{Frame}
 use Rattle.crs_value.specs.declared.values.frame.Frame.TheVariants as frame
 use Rattle.crs_value.specs.declared.values.level.Level.{Level}
 use Rattle.crs_normal.specs.Ordered.{in_order}
-use Rattle.crs_normal.specs.SpelledItems.{each, node_of, number_item, number_node, opt, text_item}
-use Rattle.crs_normal.specs.SpelledItems.{text_node}
-use Rattle.crs_normal.specs.SpelledUnits.{item_ident, item_unit, norm_length, norm_units}
-use Rattle.crs_normal.specs.SpelledUnits.{set_idents, whole_value}
+use Rattle.crs_normal.specs.SpelledItems.{each, node_of, number_item, number_node, opt, text_item, text_node, item_ident, item_unit, norm_length, norm_units, set_idents, whole_value}
 
 -- ---- ellipsoids: the unit is written
 

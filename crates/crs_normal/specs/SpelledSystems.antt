@@ -11,11 +11,8 @@ use Rattle.crs_shape.specs.UnitKinds.{asked_kind}
 use Rattle.crs_shape.specs.Words.{direction_word, system_word}
 use Rattle.crs_value.specs.Values.{AxisMeridianParts, AxisParts, SystemParts}
 use Rattle.crs_value.specs.declared.values.level.Level.{Level}
-use Rattle.crs_matching.specs.SameSystems.{own_or}
-use Rattle.crs_normal.specs.SpelledItems.{each, node_of, number_item, number_node, opt, text_item}
-use Rattle.crs_normal.specs.SpelledItems.{word_item}
-use Rattle.crs_normal.specs.SpelledUnits.{item_ident, item_unit, norm_unit, norm_units, set_idents}
-use Rattle.crs_normal.specs.SpelledUnits.{whole_value}
+use Rattle.crs_matching.specs.SameParts.{own_or}
+use Rattle.crs_normal.specs.SpelledItems.{each, node_of, number_item, number_node, opt, text_item, word_item, item_ident, item_unit, norm_unit, norm_units, set_idents, whole_value}
 
 -- the meridian of an axis: its unit is one of angle
 abbrev pub norm_axis_meridian : Level → AxisMeridianParts → AxisMeridianParts

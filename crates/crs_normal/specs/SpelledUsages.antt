@@ -7,10 +7,9 @@ use Rattle.crs_value.specs.Values.{BoxParts, ExtentParts, UsageParts, TailParts}
 use Rattle.crs_value.specs.Kept.{kept, kept_one}
 use Rattle.crs_value.specs.declared.values.level.Level.{Level}
 use Rattle.crs_value.specs.declared.values.level.Level.TheVariants as levels
-use Rattle.crs_matching.specs.SameUsages.{usages_of}
+use Rattle.crs_matching.specs.SameParts.{usages_of}
 use Rattle.crs_normal.specs.Ordered.{in_order}
-use Rattle.crs_normal.specs.SpelledItems.{each, node_from, node_of, number_item, opt, text_node}
-use Rattle.crs_normal.specs.SpelledUnits.{item_ident, item_unit, norm_length, set_idents}
+use Rattle.crs_normal.specs.SpelledItems.{each, node_from, node_of, number_item, opt, text_node, item_ident, item_unit, norm_length, set_idents}
 
 -- a vertical extent, with its unit written; in a usage the unit keeps its identifiers at each level
 abbrev pub norm_extent : Level → ExtentParts → ExtentParts

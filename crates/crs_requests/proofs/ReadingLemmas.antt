@@ -7,47 +7,18 @@ use Rattle.clap.specs.declared.parser.matches.Found.{Found}
 use Rattle.clap.specs.Words.{Text, first_value, rows_of}
 use Rattle.clap.specs.Matches.{matched_of, raw_values}
 use Rattle.clap.proofs.WalkLemmas.{first_value-rows, raw_values-rows}
-use Rattle.crs_requests.specs.declared.requests.ExplainOptions.{ExplainOptions}
-use Rattle.crs_requests.specs.declared.requests.Request.TheVariants.{Explain}
-use Rattle.crs_requests.specs.Requests.{explain_of, explained_operands, has_flag, level_of, options_of, words_of}
-
--- the getters' words are the operands
-explained_read : (f : Found) (first second : Option (Bor Text)) → option_map (λ s. s.now) first ≡ first_value f (codes "first")
-    → option_map (λ s. s.now) second ≡ first_value f (codes "second")
-    → explain_of (rows_of f) ≡ explained_operands (has_flag (codes "files") (rows_of f)) (options_of (rows_of f))
-    (option_map (λ s. s.now) first) (option_map (λ s. s.now) second)
-explained_read f first second one other =
-    ap₂ (explained_operands (has_flag (codes "files") (rows_of f)) (options_of (rows_of f)))
-    (sym (one ∙ first_value-rows f (codes "first"))) (sym (other ∙ first_value-rows f (codes "second")))
+use Rattle.crs_requests.specs.Requests.{has_flag, level_of, operands, operands_of, words_of}
 
 abbrev nows : Option (Bor Text) → Option Text
 nows found = option_map (λ s. s.now) found
 
--- what is explained, where no operand is there, one, or two
-pub explained_none : (f : Found) (first second : Option (Bor Text)) (options : ExplainOptions) → nows first ≡ first_value f (codes "first")
-    → nows second ≡ first_value f (codes "second") → first ≡ None → options ≡ options_of (rows_of f)
-    → Explain options ≡ explain_of (rows_of f)
-explained_none f first second options one other none is =
-    ap Explain is ∙ sym (explained_read f first second one other
-    ∙ ap (λ (o : Option (Bor Text)). explained_operands (has_flag (codes "files") (rows_of f)) (options_of (rows_of f)) (nows o) (nows second)) none)
-
-pub explained_one : (f : Found) (first second : Option (Bor Text)) (a : Bor Text) (are_files : Bool) (options : ExplainOptions)
-    → nows first ≡ first_value f (codes "first") → nows second ≡ first_value f (codes "second")
-    → first ≡ Some a → second ≡ None → are_files ≡ has_flag (codes "files") (rows_of f) → options ≡ options_of (rows_of f)
-    → explained_operands are_files options (Some a.now) None ≡ explain_of (rows_of f)
-explained_one f first second a are_files options one other some none flag is =
-    sym (explained_read f first second one other
-    ∙ ap₂ (λ (o p : Option (Bor Text)). explained_operands (has_flag (codes "files") (rows_of f)) (options_of (rows_of f)) (nows o) (nows p)) some none
-    ∙ ap₂ (λ t l. explained_operands t l (Some a.now) None) (sym flag) (sym is))
-
-pub explained_both : (f : Found) (first second : Option (Bor Text)) (a b : Bor Text) (are_files : Bool) (options : ExplainOptions)
-    → nows first ≡ first_value f (codes "first") → nows second ≡ first_value f (codes "second")
-    → first ≡ Some a → second ≡ Some b → are_files ≡ has_flag (codes "files") (rows_of f) → options ≡ options_of (rows_of f)
-    → explained_operands are_files options (Some a.now) (Some b.now) ≡ explain_of (rows_of f)
-explained_both f first second a b are_files options one other some more flag is =
-    sym (explained_read f first second one other
-    ∙ ap₂ (λ (o p : Option (Bor Text)). explained_operands (has_flag (codes "files") (rows_of f)) (options_of (rows_of f)) (nows o) (nows p)) some more
-    ∙ ap₂ (λ t l. explained_operands t l (Some a.now) (Some b.now)) (sym flag) (sym is))
+-- the getters' words are the operands
+pub operands_read : (f : Found) (first second a b : Option (Bor Text)) → nows first ≡ first_value f (codes "first")
+    → nows second ≡ first_value f (codes "second") → first ≡ a → second ≡ b
+    → operands (nows a) (nows b) ≡ operands_of (rows_of f)
+operands_read f first second a b one other is more =
+    sym (ap₂ (λ (o p : Option (Bor Text)). operands (nows o) (nows p)) is more)
+    ∙ ap₂ operands (one ∙ first_value-rows f (codes "first")) (other ∙ first_value-rows f (codes "second"))
 
 -- ---- the level
 

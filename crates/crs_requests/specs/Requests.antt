@@ -1,13 +1,10 @@
 -- What a command line asks for, by the name of its command and the matches that `clap` gives.
-use Rattle.std.specs.Prelude.{◌==◌, ◌||◌, [], ◌∷◌, Bool, true, false, List, Option}
-use Rattle.std.specs.Prelude.{Some, None, codes, length}
-use Rattle.std.specs.Prelude.{option_map, unwrap_or, if◌then◌else◌}
+use Rattle.std.specs.Prelude.{◌==◌, ◌||◌, ◌&&◌, [], ◌∷◌, Bool, true, false, not, List, Option}
+use Rattle.std.specs.Prelude.{Some, None, codes, length, unwrap_or, if◌then◌else◌}
 use Rattle.std.specs.Str.{bytes_eq}
 use Rattle.clap.specs.Words.{Row, Text, all_of, first_of}
 use Rattle.crs_requests.specs.declared.requests.Request.{Request}
-use Rattle.crs_requests.specs.declared.requests.Request.TheVariants.{Canon, Check, Same, Group, CanonLines, CheckLines}
-use Rattle.crs_requests.specs.declared.requests.Request.TheVariants.{Explain, ExplainText, ExplainPair, GroupListed}
-use Rattle.crs_requests.specs.declared.requests.Request.TheVariants.{Files, FilesUnder, TextsUnder}
+use Rattle.crs_requests.specs.declared.requests.Request.TheVariants.{Canon, Check, Same, Group, Texts, Files}
 use Rattle.crs_requests.specs.declared.requests.GroupFlags.{GroupFlags}
 use Rattle.crs_requests.specs.declared.requests.ExplainOptions.{ExplainOptions}
 use Rattle.crs_requests.specs.declared.requests.Task.{Task}
@@ -25,30 +22,45 @@ has_flag name rows = bytes_eq (unwrap_or (first_of name rows) (codes "false")) (
 abbrev pub words_of : Text → List Row → List Text
 words_of name rows = unwrap_or (all_of name rows) []
 
--- the files among a command's matches
-abbrev pub files_of : List Row → List Text
-files_of rows = words_of (codes "file") rows
-
 -- the rules files among a command's matches
 abbrev pub rules_of : List Row → List Text
 rules_of rows = words_of (codes "rules") rows
 
--- what is asked of standard input, or of files where there are some
-abbrev pub over : Request → Task → List Text → Request
-over alone asked names = if length names == 0 then alone else Files asked names
+-- the name of standard input among those of files
+abbrev pub standard : List Text
+standard = codes "-" ∷ []
+
+-- whether a flag of `group` is there
+abbrev pub is_flagged : GroupFlags → Bool
+is_flagged flags = (flags.repeated || flags.names) || flags.json
+
+-- what a task asks of standard input, where there are neither words nor rules
+abbrev pub over_standard : Task → List Text → List Text → Request
+over_standard (task.Canon level false) words rules = Canon level
+over_standard (task.Check false) words rules = Check
+over_standard (task.Group level flags) words rules =
+    if is_flagged flags then Texts (task.Group level flags) words rules else Group level
+over_standard asked words rules = Texts asked words rules
+
+-- what a task asks of words, files or else texts, or of standard input where there are none, under
+-- the rules of files where there are some
+abbrev pub over : Task → Bool → List Text → List Text → Request
+over asked are_files words rules =
+    if length words == 0 && not (length rules == 0) then Files asked standard rules
+    else (if length words == 0 then over_standard asked words rules
+    else (if are_files then Files asked words rules else Texts asked words rules))
+
+-- what a task asks of the files among a command's matches
+abbrev pub over_files : Task → List Row → Request
+over_files asked rows = over asked true (words_of (codes "file") rows) (rules_of rows)
 
 -- the canonical text at a level, of one text or of each line
 abbrev pub canon_of : List Row → Request
-canon_of rows =
-    if has_flag (codes "lines") rows
-    then over (CanonLines (level_of rows)) (task.CanonLines (level_of rows)) (files_of rows)
-    else over (Canon (level_of rows)) (task.Canon (level_of rows)) (files_of rows)
+canon_of rows = over_files (task.Canon (level_of rows) (has_flag (codes "lines") rows)) rows
 
 -- the kind of one text or of each line
 abbrev pub check_of : List Row → Request
-check_of rows =
-    if has_flag (codes "lines") rows then over CheckLines task.CheckLines (files_of rows)
-    else over Check task.Check (files_of rows)
+check_of rows = over_files (task.Check (has_flag (codes "lines") rows)) rows
 
 -- the flags of `group` among its matches
 abbrev pub group_flags : List Row → GroupFlags
@@ -58,30 +70,22 @@ group_flags rows = record {
   json = has_flag (codes "json") rows;
 }
 
--- whether a flag of `group` is there
-abbrev pub is_flagged : GroupFlags → Bool
-is_flagged flags = (flags.repeated || flags.names) || flags.json
-
--- the groups at a level, as the flags say where there is one
+-- the groups at a level, as the flags say
 abbrev pub group_of : List Row → Request
-group_of rows =
-    if is_flagged (group_flags rows)
-    then over (GroupListed (level_of rows) (group_flags rows))
-    (task.GroupListed (level_of rows) (group_flags rows)) (files_of rows)
-    else over (Group (level_of rows)) (task.Group (level_of rows)) (files_of rows)
+group_of rows = over_files (task.Group (level_of rows) (group_flags rows)) rows
 
 -- two operands are compared at a level where both are there: files, or else texts
-abbrev pub same_operands : Bool → Text → Option Text → Option Text → Option Request
-same_operands are_files level (Some first) (Some second) =
-    Some (if are_files then Files (task.Same level) (first ∷ second ∷ [])
-    else Same first second level)
-same_operands are_files level first second = None
+abbrev pub same_operands : Bool → Text → List Text → Option Text → Option Text → Option Request
+same_operands are_files level rules (Some first) (Some second) =
+    Some (if are_files || not (length rules == 0)
+    then over (task.Same level) are_files (first ∷ second ∷ []) rules else Same first second level)
+same_operands are_files level rules first second = None
 
--- the level and the operands of `same`, among its matches
+-- the level, the rules and the operands of `same`, among its matches
 abbrev pub same_of : List Row → Option Request
 same_of rows =
-    same_operands (has_flag (codes "files") rows) (level_of rows) (first_of (codes "first") rows)
-    (first_of (codes "second") rows)
+    same_operands (has_flag (codes "files") rows) (level_of rows) (rules_of rows)
+    (first_of (codes "first") rows) (first_of (codes "second") rows)
 
 -- the options of `explain` among its matches
 abbrev pub options_of : List Row → ExplainOptions
@@ -95,57 +99,27 @@ options_of rows = record {
 abbrev pub plainly : Text → ExplainOptions
 plainly level = record { level = level; json = false; first = [] }
 
--- two operands are explained where both are there, the first alone, or the text on standard input;
--- they are files, or else texts
-abbrev pub explained_operands : Bool → ExplainOptions → Option Text → Option Text → Request
-explained_operands are_files options None second = Explain options
-explained_operands are_files options (Some first) None =
-    if are_files then Files (task.Explain options) (first ∷ []) else ExplainText first options
-explained_operands are_files options (Some first) (Some second) =
-    if are_files then Files (task.ExplainPair options) (first ∷ second ∷ [])
-    else ExplainPair first second options
+-- both operands, the first alone, or none
+abbrev pub operands : Option Text → Option Text → List Text
+operands None second = []
+operands (Some first) None = first ∷ []
+operands (Some first) (Some second) = first ∷ second ∷ []
 
--- the options and the operands of `explain`, as far as they are among its matches
+-- those among a command's matches
+abbrev pub operands_of : List Row → List Text
+operands_of rows = operands (first_of (codes "first") rows) (first_of (codes "second") rows)
+
+-- what one text spells or why it is refused, or where two differ, as the options say
 abbrev pub explain_of : List Row → Request
 explain_of rows =
-    explained_operands (has_flag (codes "files") rows) (options_of rows)
-    (first_of (codes "first") rows) (first_of (codes "second") rows)
+    over (task.Explain (options_of rows)) (has_flag (codes "files") rows) (operands_of rows)
+    (rules_of rows)
 
--- the name of standard input among those of files
-abbrev pub standard : List Text
-standard = codes "-" ∷ []
-
--- what is asked, under the rules of these files: of files, of which standard input is one, or of
--- texts; a check has no rules
-abbrev pub ruled : List Text → Request → Request
-ruled rules (Canon level) = FilesUnder (task.Canon level) standard rules
-ruled rules Check = Check
-ruled rules (Same first second level) = TextsUnder (task.Same level) (first ∷ second ∷ []) rules
-ruled rules (Group level) = FilesUnder (task.Group level) standard rules
-ruled rules (GroupListed level flags) = FilesUnder (task.GroupListed level flags) standard rules
-ruled rules (CanonLines level) = FilesUnder (task.CanonLines level) standard rules
-ruled rules CheckLines = CheckLines
-ruled rules (Explain options) = FilesUnder (task.Explain options) standard rules
-ruled rules (ExplainText text options) = TextsUnder (task.Explain options) (text ∷ []) rules
-ruled rules (ExplainPair first second options) =
-    TextsUnder (task.ExplainPair options) (first ∷ second ∷ []) rules
-ruled rules (Files asked names) = FilesUnder asked names rules
-ruled rules (FilesUnder asked names others) = FilesUnder asked names others
-ruled rules (TextsUnder asked texts others) = TextsUnder asked texts others
-
--- what is asked, under rules where there are some
-abbrev pub under : List Text → Request → Request
-under rules asked = if length rules == 0 then asked else ruled rules asked
-
--- what a command asks for, by its name and its matches, but for rules
-abbrev pub command_of : Text × List Row → Option Request
-command_of (name, rows) =
+-- the request of a command's name and of its matches
+abbrev pub request_of : Text × List Row → Option Request
+request_of (name, rows) =
     if bytes_eq name (codes "canon") then Some (canon_of rows)
     else (if bytes_eq name (codes "check") then Some (check_of rows)
     else (if bytes_eq name (codes "same") then same_of rows
     else (if bytes_eq name (codes "group") then Some (group_of rows)
     else (if bytes_eq name (codes "explain") then Some (explain_of rows) else None))))
-
--- the request of a command's name and of its matches
-abbrev pub request_of : Text × List Row → Option Request
-request_of (name, rows) = option_map (under (rules_of rows)) (command_of (name, rows))

@@ -1,10 +1,10 @@
-//! What the program is asked for: words, requests, and those of single commands, read of the matches that `clap` gives.
+//! What the program is asked for: words, tasks and requests, and the parts that the commands share, read of the matches that
+//! `clap` gives.
 #![tactic(auto)]
 
 pub use requests::{ExplainOptions, GroupFlags, Request, RequestFault, Task};
 pub use word::{LineWord, LineWords};
 
-pub mod pieces;
-mod reading;
+pub mod reading;
 mod requests;
 mod word;

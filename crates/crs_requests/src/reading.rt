@@ -1,9 +1,9 @@
-//! The requests of single commands, read of the matches that `clap` gives.
-ghost use Rattle.std.specs.Prelude.{◌≡◌, IfOk, Some};
+//! What `crs_line_request` makes the request of a whole command line of: words and tasks, read of the matches that `clap`
+//! gives.
+ghost use Rattle.std.specs.Prelude.{◌≡◌, IfOk};
 ghost use Rattle.clap.specs.Words.{found_of, rows_of};
-ghost use Rattle.crs_requests.specs.Requests.{canon_of, check_of, explain_of};
-ghost use Rattle.crs_requests.specs.Requests.{explained_operands, group_flags, group_of, has_flag};
-ghost use Rattle.crs_requests.specs.Requests.{level_of, options_of, under, words_of};
+ghost use Rattle.crs_requests.specs.Requests.{explain_of, group_flags, has_flag, level_of};
+ghost use Rattle.crs_requests.specs.Requests.{operands_of, over, over_files, words_of};
 
 use crate::{ExplainOptions, GroupFlags, LineWord, LineWords, Request, Task};
 use clap::ArgMatches;
@@ -12,60 +12,45 @@ use std::alloc::{AllocError, Global};
 // The level where the line names none.
 const USUAL_LEVEL: &str = "full";
 
-/// What is asked, under the rules of these files where there are some. `AllocError`: memory ran out. Profile.
-pub fn under(alloc: Global, rules: LineWords, asked: Request) -> Result<Request, AllocError>
-    ensures { IfOk result (λ found. found ≡ under rules asked) }
-{
-    if rules.is_empty() {
-        return Ok(asked);
-    }
-    asked.ruled(alloc, rules)
-}
+// The name of standard input among those of files.
+const STANDARD: &str = "-";
 
-/// What `canon` asks for. `AllocError`: memory ran out. Profile.
-pub fn canon_request(alloc: Global, options: &ArgMatches) -> Result<Request, AllocError>
-    ensures { IfOk result (λ found. found ≡ canon_of (rows_of (found_of options.now))) }
-{
-    let level = level_word(alloc, options)?;
-    let files = words_named(alloc, options, "file")?;
-    match (flag_asked(options, "lines"), files.is_empty()) {
-        (false, true) => Ok(Request::Canon(level)),
-        (true, true) => Ok(Request::CanonLines(level)),
-        (false, false) => Ok(Request::Files(Task::Canon(level), files)),
-        (true, false) => Ok(Request::Files(Task::CanonLines(level), files)),
-    }
-}
-
-/// What `check` asks for. `AllocError`: memory ran out. Profile.
-pub fn check_request(alloc: Global, options: &ArgMatches) -> Result<Request, AllocError>
-    ensures { IfOk result (λ found. found ≡ check_of (rows_of (found_of options.now))) }
+/// What a task asks of the files that a command names, or of standard input where it names none, under the rules of
+/// others. `AllocError`: memory ran out. Profile.
+pub fn over_files(alloc: Global, options: &ArgMatches, task: Task) -> Result<Request, AllocError>
+    ensures { IfOk result (λ found. found ≡ over_files task (rows_of (found_of options.now))) }
 {
     let files = words_named(alloc, options, "file")?;
-    match (flag_asked(options, "lines"), files.is_empty()) {
-        (false, true) => Ok(Request::Check),
-        (true, true) => Ok(Request::CheckLines),
-        (false, false) => Ok(Request::Files(Task::Check, files)),
-        (true, false) => Ok(Request::Files(Task::CheckLines, files)),
-    }
+    let rules = words_named(alloc, options, "rules")?;
+    over(alloc, task, true, files, rules)
 }
 
-/// What `group` asks for. `AllocError`: memory ran out. Profile.
-pub fn group_request(alloc: Global, options: &ArgMatches) -> Result<Request, AllocError>
-    ensures { IfOk result (λ found. found ≡ group_of (rows_of (found_of options.now))) }
+/// What a task asks of words, which name files or else are texts, or of standard input where there are none, under the
+/// rules of files where there are some. `AllocError`: memory ran out. Profile.
+pub fn over(
+    alloc: Global,
+    task: Task,
+    are_files: bool,
+    words: LineWords,
+    rules: LineWords,
+) -> Result<Request, AllocError>
+    ensures { IfOk result (λ found. found ≡ over task are_files words rules) }
 {
-    let level = level_word(alloc, options)?;
-    let files = words_named(alloc, options, "file")?;
-    let flags = group_flags(options);
-    let is_flagged = flags.repeated || flags.names || flags.json;
-    match (is_flagged, files.is_empty()) {
-        (false, true) => Ok(Request::Group(level)),
-        (true, true) => Ok(Request::GroupListed(level, flags)),
-        (false, false) => Ok(Request::Files(Task::Group(level), files)),
-        (true, false) => Ok(Request::Files(Task::GroupListed(level, flags), files)),
+    if words.is_empty() && !rules.is_empty() {
+        let names = LineWords::of(alloc, &[STANDARD])?;
+        return Ok(Request::Files(task, names, rules));
     }
+    if words.is_empty() {
+        return Ok(task.over_standard(words, rules));
+    }
+    if are_files {
+        return Ok(Request::Files(task, words, rules));
+    }
+    Ok(Request::Texts(task, words, rules))
 }
 
-fn group_flags(options: &ArgMatches) -> GroupFlags
+/// The flags of `group`. Profile.
+pub fn group_flags(options: &ArgMatches) -> GroupFlags
     ensures { result ≡ group_flags (rows_of (found_of options.now)) }
 {
     GroupFlags {
@@ -79,60 +64,28 @@ fn group_flags(options: &ArgMatches) -> GroupFlags
 pub fn explain_request(alloc: Global, operands: &ArgMatches) -> Result<Request, AllocError>
     ensures { IfOk result (λ found. found ≡ explain_of (rows_of (found_of operands.now))) }
 {
-    let options = explain_options(alloc, operands)?;
-    let are_files = flag_asked(operands, "files");
-    match (operands.get_str("first"), operands.get_str("second")) {
-        (None, _) => Ok(Request::Explain(options)),
-        (Some(first), None) => explain_one(alloc, are_files, options, first),
-        (Some(first), Some(second)) => explain_two(alloc, are_files, options, first, second),
-    }
-}
-
-fn explain_options(alloc: Global, operands: &ArgMatches) -> Result<ExplainOptions, AllocError>
-    ensures { IfOk result (λ options. options ≡ options_of (rows_of (found_of operands.now))) }
-{
     let level = level_word(alloc, operands)?;
     let first = words_named(alloc, operands, "order")?;
-    Ok(ExplainOptions {
+    let options = ExplainOptions {
         level,
         json: flag_asked(operands, "json"),
         first,
-    })
+    };
+    let words = operand_words(alloc, operands)?;
+    let rules = words_named(alloc, operands, "rules")?;
+    let are_files = flag_asked(operands, "files");
+    over(alloc, Task::Explain(options), are_files, words, rules)
 }
 
-// A text is explained, or a file.
-fn explain_one(
-    alloc: Global,
-    are_files: bool,
-    options: ExplainOptions,
-    first: &str,
-) -> Result<Request, AllocError>
-    ensures { IfOk result (λ found. found ≡ explained_operands are_files options (Some first.now) None) }
+// Both operands, the first alone, or none.
+fn operand_words(alloc: Global, operands: &ArgMatches) -> Result<LineWords, AllocError>
+    ensures { IfOk result (λ words. words ≡ operands_of (rows_of (found_of operands.now))) }
 {
-    if are_files {
-        let files = LineWords::of(alloc, &[first])?;
-        return Ok(Request::Files(Task::Explain(options), files));
+    match (operands.get_str("first"), operands.get_str("second")) {
+        (None, _) => LineWords::of(alloc, &[]),
+        (Some(first), None) => LineWords::of(alloc, &[first]),
+        (Some(first), Some(second)) => LineWords::of(alloc, &[first, second]),
     }
-    Ok(Request::ExplainText(LineWord::new(alloc, first)?, options))
-}
-
-// Two texts are explained, or two files.
-fn explain_two(
-    alloc: Global,
-    are_files: bool,
-    options: ExplainOptions,
-    first: &str,
-    second: &str,
-) -> Result<Request, AllocError>
-    ensures { IfOk result (λ found. found ≡ explained_operands are_files options (Some first.now) (Some second.now)) }
-{
-    if are_files {
-        let files = LineWords::of(alloc, &[first, second])?;
-        return Ok(Request::Files(Task::ExplainPair(options), files));
-    }
-    let first = LineWord::new(alloc, first)?;
-    let second = LineWord::new(alloc, second)?;
-    Ok(Request::ExplainPair(first, second, options))
 }
 
 /// The word of the level, `full` where none is named. `AllocError`: memory ran out. Profile.

@@ -45,7 +45,7 @@ impl LineWord {
 /// Words of the command line, in their order.
 #[derive(Debug)]
 pub struct LineWords {
-    pub(crate) words: Vec<LineWord>,
+    words: Vec<LineWord>,
 }
 
 impl Drop for LineWords {
@@ -74,7 +74,8 @@ impl LineWords {
         Ok(LineWords { words })
     }
 
-    pub(crate) fn is_empty(&self) -> bool
+    /// Whether there are none.
+    pub fn is_empty(&self) -> bool
         ensures { result ≡ (length self.now == 0) }
     {
         self.words.is_empty()

@@ -7,8 +7,9 @@ use std::alloc::AllocError;
 /// Whether a part is the same as itself, once it is appended; None where there is no such part.
 pub type Appended = Option<Result<bool, AllocError>>;
 
-/// Appends a CRS at a level, as `crs`, or the part of a vertical one that has this name: its `frame`, its `dynamic part` with
-/// its `model`, of its first `axis` the `unit`, of its first `usage` the `extent`, its first `identifier` or the `set` of them.
+/// Appends at a level what this name says of a CRS: `crs`, the CRS itself; of a vertical one `frame`, `dynamic part` and
+/// its `model`, the first `axis` and its `unit`, the first `usage` and its `extent`, the first `identifier`, or the `set`
+/// of all identifiers. None where there is no such part, also for any other name.
 pub fn append_part(crs: &Crs<'_>, part: &str, level: Level, out: &mut Vec<u8>) -> Appended {
     match crs {
         _ if part == "crs" => append(crs, level, out),

@@ -16,9 +16,8 @@ use Rattle.crs_normal.specs.Prelude.{axis_text}
 use Rattle.crs_writer.specs.Prelude.{IsCanonicalOf}
 use Rattle.crs_canon.specs.MainTheorem.{MainTheorem}
 use Rattle.crs_rules.specs.NoRules.{no_rules}
-use Rattle.crs_rules.specs.Rewritten.{across, axis, dynamic, ellipsoid, extent, frame_or_ensemble, meridian, parameter, rewritten, usage}
+use Rattle.crs_rules.specs.Rewritten.{across, axis, dynamic, ellipsoid, extent, frame_or_ensemble, meridian, parameter, rewritten, usage, AreTextsOfAxes, IsForm}
 use Rattle.crs_rules.specs.Rules.{meaning}
-use Rattle.crs_rules.specs.Under.{AreTextsOfAxes, IsForm}
 
 abbrev ChangesNothing : {A : Type 0} → (A → A) → Type 0
 ChangesNothing {A} f = ◌≡◌ {A = A → A} (λ x. f x) (λ x. x)

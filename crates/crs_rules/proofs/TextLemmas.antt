@@ -10,9 +10,8 @@ use Rattle.crs_value.specs.declared.values.level.Level.{Level}
 use Rattle.crs_value.specs.declared.values.level.Level.TheVariants as levels
 use Rattle.crs_matching.specs.Prelude.{SameAxisAlone}
 use Rattle.crs_normal.specs.Prelude.{IsSpelledAxis, axis_text, IsWrittenForm}
-use Rattle.crs_rules.specs.Rewritten.{among, arranged, arranged_across, arranged_crs, ascending, renamed, rewritten}
+use Rattle.crs_rules.specs.Rewritten.{among, arranged, arranged_across, arranged_crs, ascending, renamed, rewritten, AreTextsOfAxes}
 use Rattle.crs_rules.specs.Rules.{Meaning}
-use Rattle.crs_rules.specs.Under.{AreTextsOfAxes}
 use Rattle.crs_rules.proofs.AliasLemmas.{IsSoundMeaning}
 use Rattle.crs_rules.proofs.CrsLemmas.{each-ascending, renamed-sound}
 

@@ -8,4 +8,3 @@ pub mod Rules
 pub mod Sinking
 pub mod SoundRules
 pub mod SteadyRules
-pub mod Under

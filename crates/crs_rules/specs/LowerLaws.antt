@@ -2,13 +2,12 @@
 use Rattle.std.specs.Prelude.{◌≡◌, ◌↔◌, ℕ, Bool, List, map}
 use Rattle.std.specs.List.{list_all}
 use Rattle.crs_text.specs.Written.{item_text}
-use Rattle.crs_value.specs.ConversionValues.{ParameterParts}
+use Rattle.crs_value.specs.Values.{ParameterParts, AxisParts, UsageParts}
 use Rattle.crs_value.specs.NamedValues.{IdentParts, NamedParts}
 use Rattle.crs_value.specs.Sound.{Each, IsAxis}
 use Rattle.crs_value.specs.SoundConversion.{IsParameter}
 use Rattle.crs_value.specs.SoundCrs.{IsCrs}
 use Rattle.crs_value.specs.SpellsText.{Spells}
-use Rattle.crs_value.specs.Values.{AxisParts, UsageParts}
 use Rattle.crs_value.specs.declared.values.crs.Crs.{Crs}
 use Rattle.crs_value.specs.declared.values.level.Level.{Level}
 use Rattle.crs_value.specs.declared.values.level.Level.TheVariants as levels
@@ -21,7 +20,7 @@ use Rattle.crs_normal.specs.SpelledConversions.{item_geoid_model, item_parameter
 use Rattle.crs_normal.specs.SpelledConversions.{set_parameters}
 use Rattle.crs_normal.specs.SpelledCrs.{item_crs, norm_crs}
 use Rattle.crs_normal.specs.SpelledFrames.{item_member}
-use Rattle.crs_normal.specs.SpelledUnits.{item_ident}
+use Rattle.crs_normal.specs.SpelledItems.{item_ident}
 use Rattle.crs_normal.specs.SpelledUsages.{item_usage}
 use Rattle.crs_writer.specs.Canonical.{IsCanonicalText}
 

@@ -1,29 +1,30 @@
 -- A CRS under rules, part by part. It is taken as its canonical text has it: all that is usual is
 -- written.
-use Rattle.std.specs.Prelude.{ℕ, ◌||◌, ◌&&◌, ◌==◌, Bool, true, List, [], ◌∷◌, Option, Some, None, map}
-use Rattle.std.specs.Prelude.{if◌then◌else◌}
+use Rattle.std.specs.Prelude.{ℕ, ◌||◌, ◌&&◌, ◌==◌, Bool, true, List, [], ◌∷◌, Option, Some, None, map, if◌then◌else◌}
 use Rattle.std.specs.List.{list_all}
 use Rattle.std.specs.Option.{is_some, option_map}
 use Rattle.std.specs.Cmp.Lexicographic.{slice_cmp}
 use Rattle.std.specs.Ordering.{nat_cmp, match_ordering}
 use Rattle.crs_shape.specs.declared.class.Class.{Class}
-use Rattle.crs_shape.specs.declared.class.Class.TheVariants as class
 use Rattle.crs_value.specs.CompoundValues.{CompoundParts}
-use Rattle.crs_value.specs.ConversionValues.{ConversionParts, ParameterParts}
+use Rattle.crs_value.specs.Values.{ConversionParts, ParameterParts, DynamicParts, AxisMeridianParts, AxisParts, DatumParts, EllipsoidParts, EnsembleParts, ExtentParts, MeridianParts, SystemParts, TailParts, UnitParts, UsageParts}
 use Rattle.crs_value.specs.CrsValues.{BaseParts, GeodeticParts, ProjectedParts, VerticalParts}
-use Rattle.crs_value.specs.DynamicValues.{DynamicParts}
 use Rattle.crs_value.specs.EnsembleFrames.{datum_of}
 use Rattle.crs_value.specs.NamedValues.{NamedParts}
-use Rattle.crs_value.specs.Values.{AxisMeridianParts, AxisParts, DatumParts, EllipsoidParts}
-use Rattle.crs_value.specs.Values.{EnsembleParts, ExtentParts, MeridianParts, SystemParts, TailParts}
-use Rattle.crs_value.specs.Values.{UnitParts, UsageParts}
 use Rattle.crs_value.specs.declared.values.compound.Horizontal.{Horizontal}
-use Rattle.crs_value.specs.declared.values.compound.Horizontal.TheVariants as horizontal
 use Rattle.crs_value.specs.declared.values.crs.Crs.{Crs}
-use Rattle.crs_value.specs.declared.values.crs.Crs.TheVariants as crs
 use Rattle.crs_value.specs.declared.values.frame.Frame.{Frame}
+use Rattle.crs_rules.specs.Rules.{Meaning, without_ensemble, RulesParts, meaning}
+use Rattle.crs_value.specs.Sound.{IsAxis}
+use Rattle.crs_value.specs.SpellsText.{Spells}
+use Rattle.crs_value.specs.declared.values.level.Level.{Level}
+use Rattle.crs_normal.specs.AxisAlone.{IsSpelledAxis}
+use Rattle.crs_writer.specs.Canonical.{IsCanonicalText, IsCanonicalOf}
+use Rattle.crs_shape.specs.declared.class.Class.TheVariants as class
+use Rattle.crs_value.specs.declared.values.compound.Horizontal.TheVariants as horizontal
+use Rattle.crs_value.specs.declared.values.crs.Crs.TheVariants as crs
 use Rattle.crs_value.specs.declared.values.frame.Frame.TheVariants as frame
-use Rattle.crs_rules.specs.Rules.{Meaning, without_ensemble}
+use Rattle.crs_value.specs.declared.values.level.Level.TheVariants as levels
 
 -- ---- names, units, and what doesn't count
 
@@ -291,3 +292,24 @@ arranged_crs text (crs.Compound c) = crs.Compound (arranged_compound text c)
 abbrev pub rewritten : (AxisParts → List ℕ) → Meaning → Crs → Crs
 rewritten text r x =
     if r.uncounted.axis_order then arranged_crs text (renamed r x) else renamed r x
+
+-- ---- the form of a text under rules, and which texts are the same under them
+
+-- these are the texts of axes: the one spelling of each by itself, with all that it holds
+abbrev pub AreTextsOfAxes : (AxisParts → List ℕ) → Type 0
+AreTextsOfAxes text = (axis : AxisParts) → IsAxis axis → IsSpelledAxis levels.Full axis (text axis)
+
+-- the form of a text under rules at a level: its canonical text spells a CRS; the form is the
+-- canonical text of that CRS rewritten
+pub record IsForm (rules : RulesParts) (level : Level) (text bytes : List ℕ) : Type 0 where
+  pub canonical : List ℕ
+  pub is_canonical : IsCanonicalOf level text canonical
+  pub value : Crs
+  pub spells : Spells canonical value
+  pub axis_text : AxisParts → List ℕ
+  pub are_axis_texts : AreTextsOfAxes axis_text
+  pub form : IsCanonicalText level (rewritten axis_text (meaning rules) value) bytes
+
+-- two texts are the same under rules: they have one form
+abbrev pub SameUnder : RulesParts → Level → List ℕ → List ℕ → Type 0
+SameUnder rules level a b = (bytes : List ℕ) × IsForm rules level a bytes × IsForm rules level b bytes

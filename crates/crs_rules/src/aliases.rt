@@ -91,54 +91,31 @@ impl Alias for UnitAlias {
     }
 }
 
-// Where aliases are looked for: for each digest a place before which no alias has it. What stands there is compared, so
-// no answer rests on a digest.
-#[derive(Drop)]
-struct Firsts {
-    places: IndexMap<u64, usize>,
+// The place that is kept for a digest.
+fn place(firsts: &IndexMap<u64, usize>, digest: u64) -> Option<usize>
+    ensures { result ≡ place_of firsts.now.entries digest }
+{
+    firsts.get(&digest).copied()
 }
 
-impl Model for Firsts {
-    ghost Value = { List (ℕ × ℕ) };
-
-    ghost view = { λ firsts. firsts.places.entries };
+// Notes that an alias with this digest is at this place. Out of memory, all is as before.
+fn note(firsts: &mut IndexMap<u64, usize>, digest: u64, at: usize) -> Result<(), AllocError>
+    ensures noted { OnOk result (IsNoted digest at firsts.old.entries firsts.new.entries) }
+    ensures unchanged { OnErr result (firsts.new.entries ≡ firsts.old.entries) }
+{
+    if place(firsts, digest).is_some_and(|first| first <= at) {
+        return Ok(());
+    }
+    firsts.insert(digest, at)?;
+    Ok(())
 }
 
-impl Firsts {
-    // No places. They take no memory.
-    fn new(alloc: Global) -> Firsts
-        ensures { result ≡ [] }
-    {
-        Firsts {
-            places: IndexMap::new(alloc),
-        }
-    }
-
-    // The place that is kept for a digest.
-    fn place(&self, digest: u64) -> Option<usize>
-        ensures { result ≡ place_of self.now digest }
-    {
-        self.places.get(&digest).copied()
-    }
-
-    // Notes that an alias with this digest is at this place. Out of memory, all is as before.
-    fn note(&mut self, digest: u64, at: usize) -> Result<(), AllocError>
-        ensures noted { OnOk result (IsNoted digest at self.old self.new) }
-        ensures unchanged { OnErr result (self.new ≡ self.old) }
-    {
-        if self.place(digest).is_some_and(|first| first <= at) {
-            return Ok(());
-        }
-        self.places.insert(digest, at)?;
-        Ok(())
-    }
-}
-
-// Aliases, in the order in which they were added.
+// Aliases, in the order in which they were added. For each digest a place is kept before which no alias has it. What
+// stands there is compared, so no answer rests on a digest.
 #[derive(Drop)]
 pub(crate) struct Aliases<A: Alias> {
     aliases: Vec<A>,
-    firsts: Firsts,
+    firsts: IndexMap<u64, usize>,
 }
 
 impl<A: Alias> Model for Aliases<A> {
@@ -146,7 +123,7 @@ impl<A: Alias> Model for Aliases<A> {
 
     ghost view = { λ known. known.aliases.items };
 
-    ghost invariant = { λ known. AreFound A.digest known.firsts 0 known.aliases.items };
+    ghost invariant = { λ known. AreFound A.digest known.firsts.entries 0 known.aliases.items };
 }
 
 impl<A: Alias> Aliases<A> {
@@ -156,7 +133,7 @@ impl<A: Alias> Aliases<A> {
     {
         Aliases {
             aliases: Vec::new(alloc),
-            firsts: Firsts::new(alloc),
+            firsts: IndexMap::new(alloc),
         }
     }
 
@@ -173,7 +150,7 @@ impl<A: Alias> Aliases<A> {
     {
         let digest = alias.digest();
         let at = self.len();
-        self.firsts.note(digest, at)?;
+        note(&mut self.firsts, digest, at)?;
         self.aliases.push(alias)?;
         Ok(())
     }
@@ -220,7 +197,7 @@ fn name_alias<'a>(names: &'a Aliases<NameAlias>, class: Class, name: &[u8]) -> O
     if names.aliases.len() <= FEW {
         return name_alias_among(names.aliases.as_slice(), class, name);
     }
-    match names.firsts.place(name_digest(class, name)) {
+    match place(&names.firsts, name_digest(class, name)) {
         None => None,
         Some(first) => name_alias_among(rest_of(names.aliases.as_slice(), first), class, name),
     }
@@ -295,10 +272,7 @@ pub(crate) fn unit_alias<'a>(
     denotes_one();
     normal_is_one();
     plain_is_the_one();
-    match units
-        .firsts
-        .place(unit_digest(unit.name, unit.factor.digits()))
-    {
+    match place(&units.firsts, unit_digest(unit.name, unit.factor.digits())) {
         None => None,
         Some(first) => unit_alias_among(rest_of(units.aliases.as_slice(), first), unit),
     }

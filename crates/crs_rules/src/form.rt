@@ -6,9 +6,8 @@ ghost use Rattle.crs_value.specs.declared.values.level.Level.TheVariants as leve
 ghost use Rattle.crs_normal.specs.PartTexts.{axis_text};
 ghost use Rattle.crs_writer.specs.Canonical.{IsCanonicalText};
 ghost use Rattle.crs_canon.specs.MainTheorem.{IsAccepted};
-ghost use Rattle.crs_rules.specs.Rewritten.{rewritten};
+ghost use Rattle.crs_rules.specs.Rewritten.{rewritten, IsForm};
 ghost use Rattle.crs_rules.specs.Rules.{meaning};
-ghost use Rattle.crs_rules.specs.Under.{IsForm};
 
 use crate::rewriting::crs::rewrite;
 use crate::rules::Rules;

@@ -11,11 +11,10 @@ ghost use Rattle.crs_rules.specs.LowerLaws.{FormLaws, SetLaws};
 ghost use Rattle.crs_rules.specs.NoRules.{no_rules};
 ghost use Rattle.crs_rules.specs.OrderOfRules.{DifferInOrder};
 ghost use Rattle.crs_rules.specs.ReorderedAxes.{IsCrsReordered};
-ghost use Rattle.crs_rules.specs.Rewritten.{rewritten};
+ghost use Rattle.crs_rules.specs.Rewritten.{rewritten, IsForm, SameUnder};
 ghost use Rattle.crs_rules.specs.Rules.{RulesParts, meaning};
 ghost use Rattle.crs_rules.specs.SoundRules.{AreRules};
 ghost use Rattle.crs_rules.specs.SteadyRules.{AreSteady};
-ghost use Rattle.crs_rules.specs.Under.{IsForm, SameUnder};
 
 use crate::rules::Rules;
 use crs_canon::laws::{

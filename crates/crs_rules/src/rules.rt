@@ -1,6 +1,6 @@
 //! Rules.
 ghost use Rattle.std.specs.Prelude.{◌≡◌, ◌++◌, ◌∷◌, [], OnErr, OnOk, length, take};
-ghost use Rattle.crs_value.specs.BadValue.{IsAboveZero};
+ghost use Rattle.crs_value.specs.Checks.{IsAboveZero};
 ghost use Rattle.crs_value.specs.Sound.{IsText};
 ghost use Rattle.crs_rules.specs.NoRules.{no_rules};
 ghost use Rattle.crs_rules.specs.Rules.{RulesParts};
@@ -38,7 +38,7 @@ impl Rules {
         Rules {
             names: Aliases::new(alloc),
             units: Aliases::new(alloc),
-            uncounted: Uncounted::nothing(),
+            uncounted: Uncounted::default(),
         }
     }
 

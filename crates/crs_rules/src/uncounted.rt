@@ -1,9 +1,5 @@
-//! What doesn't count.
-ghost use Rattle.std.specs.Prelude.{◌≡◌};
-ghost use Rattle.crs_rules.specs.NoRules.{nothing};
-
-/// What doesn't count, in CRSs that are compared under rules. Profile.
-#[derive(Clone, Copy, Debug)]
+/// What doesn't count, in CRSs that are compared under rules; by default everything counts. Profile.
+#[derive(Clone, Copy, Debug, Default)]
 pub struct Uncounted {
     /// The names of CRSs.
     pub crs_names: bool,
@@ -27,24 +23,4 @@ pub struct Uncounted {
     pub ensembles: bool,
     /// The order of axes: they are put in order of their texts, without `ORDER`.
     pub axis_order: bool,
-}
-
-impl Uncounted {
-    /// Everything counts.
-    pub fn nothing() -> Uncounted
-        ensures { result ≡ nothing }
-    {
-        Uncounted {
-            crs_names: false,
-            base_names: false,
-            conversion_names: false,
-            axis_names: false,
-            dynamics: false,
-            anchors: false,
-            geoid_models: false,
-            base_units: false,
-            ensembles: false,
-            axis_order: false,
-        }
-    }
 }

@@ -7,9 +7,9 @@ use Rattle.crs_rules.specs.Rules.{RulesParts}
 use Rattle.crs_rules.specs.declared.uncounted.Uncounted.{Uncounted}
 use Rattle.crs_rules_file.specs.Grown.{Extends, HasGrown}
 use Rattle.crs_rules_file.specs.Marks.{IsMarked, gone_back}
-use Rattle.crs_rules_file.specs.Members.{MemberParts}
+use Rattle.crs_rules_file.specs.Members.{MemberParts, kind_of}
 use Rattle.crs_rules_file.specs.Seen.{IsAdded}
-use Rattle.crs_rules_file.specs.Statements.{Reading, with_alias}
+use Rattle.crs_rules_file.specs.Statements.{Reading, joined, with_alias}
 use Rattle.crs_rules_file.specs.declared.reader.Mark.{Mark}
 
 extends-on : {A : Type 0} (xs ys zs : List A) → Extends xs ys → Extends ys zs → Extends xs zs
@@ -49,9 +49,14 @@ grown_alias : (r : Reading) (k : Option UnitKind) (first m : MemberParts)
 grown_alias r None first m = record { seen = (grown_self r).seen; names = (_, refl); units = (grown_self r).units }
 grown_alias r (Some k) first m = record { seen = (grown_self r).seen; names = (grown_self r).names; units = (_, refl) }
 
-pub grown_joined : (r q : Reading) (k : Option UnitKind) (first m : MemberParts) (rules : RulesParts) → q ≡ r
-    → rules ≡ with_alias k first m q.rules → HasGrown r (record q { rules = rules })
-grown_joined r q k first m rules e is = rw (← e, is) (grown_alias q k first m)
+-- the alias of a node that isn't the first of its set
+grown_on_join : (r : Reading) (first : Option MemberParts) (m : MemberParts) → HasGrown r (record r { rules = joined first m r.rules })
+grown_on_join r None m = grown_self r
+grown_on_join r (Some first) m = grown_alias r (kind_of first.class) first m
+
+pub grown_joined : (r : Reading) (first : Option MemberParts) (m : MemberParts) (rules : RulesParts)
+    → rules ≡ joined first m r.rules → HasGrown r (record r { rules = rules })
+grown_joined r first m rules is = rw is (grown_on_join r first m)
 
 -- another thing doesn't count
 pub grown_dropped : (r : Reading) (u : Uncounted) → HasGrown r (record r { rules = record r.rules { uncounted = u } })

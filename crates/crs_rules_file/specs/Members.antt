@@ -10,7 +10,7 @@ use Rattle.crs_shape.specs.declared.class.Class.{Class}
 use Rattle.crs_shape.specs.declared.class.Class.TheVariants as class
 use Rattle.crs_shape.specs.declared.unit_kind.UnitKind.{UnitKind}
 use Rattle.crs_shape.specs.declared.unit_kind.UnitKind.TheVariants as kind
-use Rattle.crs_value.specs.BadValue.{IsAboveZero}
+use Rattle.crs_value.specs.Checks.{IsAboveZero}
 use Rattle.crs_value.specs.Reading.{is_same}
 
 -- the classes of nodes that may count as one; a keyword is that of the first that has it

@@ -4,7 +4,7 @@ use Rattle.crs_decimal.specs.Value.{Value}
 use Rattle.crs_text.specs.Items.{Siblings}
 use Rattle.crs_shape.specs.declared.class.Class.{Class}
 use Rattle.crs_shape.specs.declared.unit_kind.UnitKind.{UnitKind}
-use Rattle.crs_value.specs.BadValue.{IsAboveZero}
+use Rattle.crs_value.specs.Checks.{IsAboveZero}
 use Rattle.crs_value.specs.Sound.{IsText}
 use Rattle.crs_rules_file.specs.Members.{MemberParts, SaysName, kind_of}
 

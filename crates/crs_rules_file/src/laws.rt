@@ -4,7 +4,7 @@ ghost use Rattle.crs_value.specs.declared.values.level.Level.{Level};
 ghost use Rattle.crs_rules.specs.OrderOfRules.{DifferInOrder};
 ghost use Rattle.crs_rules.specs.Rules.{RulesParts};
 ghost use Rattle.crs_rules.specs.SteadyRules.{AreSteady};
-ghost use Rattle.crs_rules.specs.Under.{IsForm};
+ghost use Rattle.crs_rules.specs.Rewritten.{IsForm};
 ghost use Rattle.crs_rules_file.specs.OrderOfLines.{AreReordered};
 ghost use Rattle.crs_rules_file.specs.RulesFile.{ReadsFile, RefusesFile, SpellsRules, start};
 ghost use Rattle.crs_rules_file.specs.Statements.{Over, Reading};

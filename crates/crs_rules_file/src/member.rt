@@ -1,7 +1,7 @@
 //! The nodes of a `SAME`, and their classes.
 ghost use Rattle.std.specs.Prelude.{◌≡◌, ◌↔◌, IfSome, IsTrue, Some};
 ghost use Rattle.crs_text.specs.Items.{HasId, here, kind_of_item, rest_of};
-ghost use Rattle.crs_value.specs.BadValue.{IsAboveZero};
+ghost use Rattle.crs_value.specs.Checks.{IsAboveZero};
 ghost use Rattle.crs_value.specs.Reading.{IsReading, item_at};
 ghost use Rattle.crs_rules_file.specs.Members.{Says, SaysFactor, kind_of, subject_of};
 ghost use Rattle.crs_rules_file.specs.Named.{SaysNamed};

@@ -1,18 +1,17 @@
 //! From the bytes of rules files to their rules, line by line.
 ghost use Rattle.std.specs.Prelude.{◌≡◌, ◌≢◌, ◌↔◌, ◌+◌, ◌^◌, ◌<◌, [], ◌∷◌, ℕ, List, length};
-ghost use Rattle.std.specs.Prelude.{IfErr, IfOk, IsTrue, MatchResult, OnErr, OnOk, Some};
+ghost use Rattle.std.specs.Prelude.{IsTrue, MatchResult, OnErr, OnOk, Some};
 ghost use Rattle.std.specs.Option.{option_copied};
 ghost use Rattle.crs_text.specs.Items.{HasId, IsNode, arguments};
 ghost use Rattle.crs_streams.specs.Lines.{AreLines};
 ghost use Rattle.crs_value.specs.Reading.{Holds, ahead, item_at};
-ghost use Rattle.crs_rules_file.specs.Members.{kind_of};
 ghost use Rattle.crs_rules_file.specs.RulesFile.{FaultOfLine, Reads, ReadsFile, RefusesFile, SpellsRules, is_idle, start};
 ghost use Rattle.crs_rules_file.specs.Statements.{Adds, AddsSet, Drops, FaultOfNode, FaultOfSet, FaultOfStatement};
 ghost use Rattle.crs_rules_file.specs.Statements.{FaultOfWord, FaultOver, IsRefusedBy, Joins, Over, States};
-ghost use Rattle.crs_rules_file.specs.Statements.{IsOfSet, joined, listed, with_alias};
+ghost use Rattle.crs_rules_file.specs.Statements.{IsOfSet, joined, listed};
 ghost use Rattle.crs_rules_file.specs.Grown.{HasGrown};
 ghost use Rattle.crs_rules_file.specs.Marks.{IsMarked, gone_back};
-ghost use Rattle.crs_rules_file.specs.Faults.{IsFaultIn, IsMemory, refused_at};
+ghost use Rattle.crs_rules_file.specs.Faults.{IsFaultIn, refused_at};
 
 use crate::fault::{RulesFault, RulesRefusal};
 use crate::member::{Member, kind_of, member_at};
@@ -202,32 +201,11 @@ impl RulesReader {
             return Err(refused(self.line, items, id, 43));
         }
         match self.seen.add(alloc, &member) {
-            Ok(true) => self.join(alloc, first, member),
+            Ok(true) => match join(alloc, &mut self.rules, first, &member) {
+                Ok(()) => Ok(member),
+                Err(error) => Err(RulesFault::Memory(error)),
+            },
             Ok(false) => Err(refused(self.line, items, id, 44)),
-            Err(error) => Err(RulesFault::Memory(error)),
-        }
-    }
-
-    // A node counts as the first of its set, if it isn't itself the first.
-    #[tactic(auto, using(crate::proofs::GrownLemmas::grown_self, crate::proofs::GrownLemmas::grown_by))]
-    fn join<'a>(
-        &mut self,
-        alloc: Global,
-        first: Option<&Member<'a>>,
-        member: Member<'a>,
-    ) -> Result<Member<'a>, RulesFault>
-        ensures same { IfOk result (λ m. m ≡ member.entry) }
-        ensures joined { OnOk result (self.new ≡ record self.old {
-          rules = joined (option_copied first.entry) member.entry self.old.rules;
-        }) }
-        ensures memory { IfErr result IsMemory }
-        ensures grown { HasGrown self.old self.new }
-    {
-        let Some(first) = first else {
-            return Ok(member)
-        };
-        match join(alloc, &mut self.rules, first, &member) {
-            Ok(()) => Ok(member),
             Err(error) => Err(RulesFault::Memory(error)),
         }
     }
@@ -345,16 +323,19 @@ impl RulesReader {
     }
 }
 
-// A node counts as the first of its set. Out of memory, the rules are as before.
+// A node counts as the first of its set, if it isn't itself the first. Out of memory, the rules are as before.
 fn join(
     alloc: Global,
     rules: &mut Rules,
-    first: &Member<'_>,
+    first: Option<&Member<'_>>,
     member: &Member<'_>,
 ) -> Result<(), AllocError>
-    ensures joined { OnOk result (rules.new ≡ with_alias (kind_of first.now.class) first.now member.now rules.old) }
+    ensures joined { OnOk result (rules.new ≡ joined (option_copied first.entry) member.now rules.old) }
     ensures unchanged { OnErr result (rules.new ≡ rules.old) }
 {
+    let Some(first) = first else {
+        return Ok(());
+    };
     match kind_of(first.class) {
         None => rules.alias_name(alloc, member.class, member.name, first.name),
         Some(kind) => rules.alias_unit(

@@ -9,7 +9,7 @@ pub use pair::{PairAnswer, Telling, pair_output, refused_output};
 pub use text::read_text;
 pub use text_run::{
     CanonText, CheckText, accepted_line, kind_of_text, kind_word, line_of, refusal_in,
-    refused_line, run_canon, run_check,
+    refused_line, run_canon, run_check, run_text,
 };
 
 mod answer;

@@ -1,9 +1,6 @@
 //! The text of a source, whole, or judged piece by piece as it is read.
-ghost use Rattle.std.specs.Prelude.{◌≡◌, ◌≤◌, ◌<◌, [], IfOk, IfErr, false, length, take, ◌++◌, ℕ, List};
-ghost use Rattle.std.specs.Io.{ReadsAtMost};
-ghost use Rattle.std.specs.Io.KnownBytes.{ReadConsumes};
-ghost use Rattle.crs_streams.specs.Given.{GivesMore};
-ghost use Rattle.crs_streams.specs.Streams.{CountsRead, fresh_source};
+ghost use Rattle.std.specs.Prelude.{◌≡◌, ◌≤◌, ◌++◌, IfOk, IfErr, false, ℕ, List};
+ghost use Rattle.crs_streams.specs.Streams.{fresh_source};
 ghost use Rattle.crs_runs.specs.Whole.{IsWhole, IsReadFault};
 ghost use Rattle.crs_runs.specs.Pieces.{IsHeld, IsHeldOf};
 
@@ -28,7 +25,7 @@ pub fn read_text<R: Read>(alloc: Global, source: &mut Source<R>) -> Result<Vec<u
     let room = bytes.as_mut_slice();
     let mut text = Vec::new(alloc);
     for turn in 0..MAX_READS {
-        let count = read_next(source, room)?;
+        let count = source.read(room).map_err(|_| RunFault::ReadFailed)?;
         if count == 0 {
             return Ok(text);
         }
@@ -38,20 +35,6 @@ pub fn read_text<R: Read>(alloc: Global, source: &mut Source<R>) -> Result<Vec<u
         append_bytes(&mut text, &room[..count])?;
     }
     Err(RunFault::TooManyReads)
-}
-
-// One read, whose failure is a fault of the run.
-fn read_next<R: Read>(source: &mut Source<R>, room: &mut [u8]) -> Result<usize, RunFault>
-    requires some { 1 ≤ length room.old }
-    requires few { length room.old ≤ 65536 }
-    requires reads { source.old.reads < 1048576 }
-    ensures bound { ReadsAtMost result room.new }
-    ensures bytes { ReadConsumes source.old.remaining source.new.remaining result room.new }
-    ensures counted { CountsRead source.old source.new result }
-    ensures given { IfOk result (λ count. GivesMore source.old source.new (take count room.new)) }
-    ensures fault { IfErr result (λ fault. fault ≡ RunFault.ReadFailed) }
-{
-    source.read(room).map_err(|_| RunFault::ReadFailed)
 }
 
 // A feeder that was fed the whole text of a source, at most 1,048,576 bytes. After a settled refusal the rest is read
@@ -72,7 +55,7 @@ pub(crate) fn read_pieces<R: Read>(
     let mut taken = 0;
     let mut refused = false;
     for turn in 0..MAX_READS {
-        let count = read_next(source, room)?;
+        let count = source.read(room).map_err(|_| RunFault::ReadFailed)?;
         if count == 0 {
             return Ok(feeder);
         }

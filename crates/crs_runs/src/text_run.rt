@@ -20,9 +20,7 @@ use std::alloc::{AllocError, Global};
 use std::io::{Read, Write};
 
 /// Reads a text to its end, and writes a line: the canonical text at a level of a text that spells a CRS, with status
-/// 0, else the refusal, with status 1. `ReadFailed` and `WriteFailed` where the source or the sink has failed,
-/// `TooLong(0)` for more than 1,048,576 bytes, `TooManyReads` where 1,048,576 reads have not shown the end, `Memory`
-/// where memory ran out. Every fault but `WriteFailed` leaves the sink untouched. Profile.
+/// 0, else the refusal, with status 1. Faults are those of `run_text`. Profile.
 pub fn run_canon<R: Read, W: Write>(
     alloc: Global,
     level: Level,
@@ -40,8 +38,30 @@ pub fn run_canon<R: Read, W: Write>(
     ensures past_failure { w.new.past_failure ≡ false }
     ensures too_long { IsErrOf result (RunFault.TooLong 0) ↔ (1048576 < r.new.taken) × (r.new.failed ≡ false) }
 {
+    run_text(alloc, CanonText { level }, r, w)
+}
+
+/// Reads a text to its end, and writes what a command answers for it. `ReadFailed` and `WriteFailed` where the source or
+/// the sink has failed, `TooLong(0)` for more than 1,048,576 bytes, `TooManyReads` where 1,048,576 reads have not shown
+/// the end, `Memory` where memory ran out. Every fault but `WriteFailed` leaves the sink untouched. Profile.
+pub fn run_text<C: TextCommand + Drop, R: Read, W: Write>(
+    alloc: Global,
+    command: C,
+    r: &mut Source<R>,
+    w: &mut Sink<W>,
+) -> Result<u8, RunFault>
+    requires source { r.old ≡ fresh_source r.old.remaining }
+    requires sink { w.old ≡ fresh_sink w.old.contents }
+    ensures answered { IfOk result (IsAnswered (C.Output command) r.old r.new w.old w.new) }
+    ensures reads { r.new.reads ≤ 1048576 }
+    ensures past_end { r.new.past_end ≡ false }
+    ensures fault { IfErr result (IsRunFault r.new w.old w.new) }
+    ensures read_failed { IsErrOf result RunFault.ReadFailed ↔ (r.new.failed ≡ true) }
+    ensures write_failed { IsErrOf result RunFault.WriteFailed ↔ (w.new.failed ≡ true) }
+    ensures past_failure { w.new.past_failure ≡ false }
+    ensures too_long { IsErrOf result (RunFault.TooLong 0) ↔ (1048576 < r.new.taken) × (r.new.failed ≡ false) }
+{
     let bytes = read_text(alloc, r)?;
-    let command = CanonText { level };
     let text = bytes.as_slice();
     write_answer(alloc, &ForText { command, text }, w)
 }
@@ -66,9 +86,7 @@ impl TextCommand for CanonText {
 }
 
 /// Reads a text to its end, and writes a line: `accepted KIND` for a text that spells a CRS, with status 0, else the
-/// refusal, with status 1. `ReadFailed` and `WriteFailed` where the source or the sink has failed, `TooLong(0)` for
-/// more than 1,048,576 bytes, `TooManyReads` where 1,048,576 reads have not shown the end, `Memory` where memory ran
-/// out. Every fault but `WriteFailed` leaves the sink untouched. Profile.
+/// refusal, with status 1. Faults are those of `run_text`. Profile.
 pub fn run_check<R: Read, W: Write>(
     alloc: Global,
     r: &mut Source<R>,

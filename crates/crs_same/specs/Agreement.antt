@@ -11,16 +11,13 @@ use Rattle.crs_value.specs.declared.values.frame.Frame.{Frame}
 use Rattle.crs_value.specs.declared.values.frame.Frame.TheVariants as frame
 use Rattle.crs_value.specs.declared.values.level.Level.{Level}
 use Rattle.crs_value.specs.CompoundValues.{CompoundParts}
-use Rattle.crs_value.specs.ConversionValues.{MethodParts, ConversionParts}
+use Rattle.crs_value.specs.Values.{MethodParts, ConversionParts, DynamicParts, EllipsoidParts, MeridianParts, DatumParts, EnsembleParts, AxisParts, SystemParts, TailParts, UnitParts}
 use Rattle.crs_value.specs.CrsValues.{GeodeticParts, BaseParts, ProjectedParts, VerticalParts}
-use Rattle.crs_value.specs.DynamicValues.{DynamicParts}
 use Rattle.crs_value.specs.ReadsCrs.{kind_by, kind_of}
 use Rattle.crs_value.specs.SoundCompound.{IsCompound}
 use Rattle.crs_value.specs.SoundCrs.{IsCrs}
 use Rattle.crs_value.specs.SoundSingle.{IsGeodetic, IsProjected, IsVertical}
-use Rattle.crs_value.specs.SoundSystem.{IsSystem}
-use Rattle.crs_value.specs.Values.{EllipsoidParts, MeridianParts, DatumParts, EnsembleParts, AxisParts}
-use Rattle.crs_value.specs.Values.{SystemParts, TailParts, UnitParts}
+use Rattle.crs_value.specs.Sound.{IsSystem}
 use Rattle.crs_same.specs.Parts.{AreSame}
 use Rattle.crs_same.specs.PartsOfCrs.{parts_of_method, parts_of_conversion, parts_of_tail}
 use Rattle.crs_same.specs.PartsOfCrs.{parts_of_geodetic, parts_of_base, parts_of_projected}
@@ -28,14 +25,9 @@ use Rattle.crs_same.specs.PartsOfCrs.{parts_of_vertical, parts_of_horizontal, pa
 use Rattle.crs_same.specs.PartsOfFrames.{parts_of_ellipsoid, parts_of_given, or_greenwich, parts_of_meridian}
 use Rattle.crs_same.specs.PartsOfFrames.{parts_of_datum, parts_of_ensemble, parts_of_frame}
 use Rattle.crs_same.specs.PartsOfSystems.{parts_of_system}
-use Rattle.crs_matching.specs.SameConversions.{SameParameter, SameGeoidModel}
+use Rattle.crs_matching.specs.SameParts.{SameParameter, SameGeoidModel, SameDeformationModel, IsZero, SameMember, SameAxisMeridian, HasAt, own_or, SameValue, SameUnit, SameLength, SameUsages, SameRemark}
 use Rattle.crs_same.specs.SameCrs.{SameCrs, SameDynamic, IsHorizontalPart}
-use Rattle.crs_matching.specs.SameDynamic.{SameDeformationModel}
-use Rattle.crs_matching.specs.SameFrames.{IsZero, SameMember}
 use Rattle.crs_matching.specs.SameIdents.{SameIdents}
-use Rattle.crs_matching.specs.SameSystems.{SameAxisMeridian, HasAt, own_or}
-use Rattle.crs_matching.specs.SameUnits.{SameValue, SameUnit, SameLength}
-use Rattle.crs_matching.specs.SameUsages.{SameUsages, SameRemark}
 use Rattle.crs_matching.specs.Sets.{SameSet, BothOrNeither}
 
 -- ---- conversions

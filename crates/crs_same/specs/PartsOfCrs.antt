@@ -10,21 +10,17 @@ use Rattle.crs_value.specs.declared.values.crs.Kind.{Kind}
 use Rattle.crs_value.specs.declared.values.crs.Kind.TheVariants as kind
 use Rattle.crs_value.specs.declared.values.level.Level.{Level}
 use Rattle.crs_value.specs.CompoundValues.{CompoundParts}
-use Rattle.crs_value.specs.ConversionValues.{MethodParts, ConversionParts}
+use Rattle.crs_value.specs.Values.{MethodParts, ConversionParts, DynamicParts, TailParts}
 use Rattle.crs_value.specs.CrsValues.{GeodeticParts, BaseParts, ProjectedParts, VerticalParts}
-use Rattle.crs_value.specs.DynamicValues.{DynamicParts}
 use Rattle.crs_value.specs.Kept.{kept, kept_one}
 use Rattle.crs_value.specs.ReadsCrs.{kind_by, kind_of}
-use Rattle.crs_value.specs.Values.{TailParts}
 use Rattle.crs_same.specs.declared.content.Content.TheVariants as content
 use Rattle.crs_same.specs.declared.step.Step.{Step}
 use Rattle.crs_same.specs.declared.step.Step.TheVariants as step
 use Rattle.crs_same.specs.PartsOfFrames.{parts_of_meridian, parts_of_frame}
 use Rattle.crs_same.specs.PartsOfSystems.{parts_of_system}
 use Rattle.crs_same.specs.Parts.{◌▸◌, Parts, PartsOf, ◌⨾◌, First, DifferenceParts, Differences}
-use Rattle.crs_matching.specs.SameConversions.{SameParameter, SameGeoidModel}
-use Rattle.crs_matching.specs.SameDynamic.{SameDeformationModel}
-use Rattle.crs_matching.specs.SameUsages.{SameUsage, usages_of}
+use Rattle.crs_matching.specs.SameParts.{SameParameter, SameGeoidModel, SameDeformationModel, SameUsage, usages_of}
 use Rattle.crs_same.specs.SingleParts.{texts, optional_texts, words, unlike, optional, optional_numbers, units}
 use Rattle.crs_same.specs.SingleParts.{sets, identifiers}
 

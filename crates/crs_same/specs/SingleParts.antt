@@ -12,7 +12,7 @@ use Rattle.crs_same.specs.declared.step.Step.TheVariants as step
 use Rattle.crs_same.specs.Contents.{given}
 use Rattle.crs_same.specs.Parts.{◌▸◌, Parts, none, part}
 use Rattle.crs_matching.specs.SameIdents.{SameIdent}
-use Rattle.crs_matching.specs.SameUnits.{SameValue, SameUnitAsked}
+use Rattle.crs_matching.specs.SameParts.{SameValue, SameUnitAsked}
 use Rattle.crs_matching.specs.Sets.{SameSet, BothOrNeither}
 
 -- two texts

@@ -3,9 +3,9 @@ ghost use Rattle.std.specs.Prelude.{◌≡◌};
 ghost use Rattle.std.specs.Option.{option_copied};
 ghost use Rattle.crs_same.specs.declared.content.Content.TheVariants as content;
 ghost use Rattle.crs_same.specs.Contents.{given, length_unit};
-ghost use Rattle.crs_matching.specs.SameUsages.{with_bare};
 
 use crs_decimal::Decimal;
+use crs_matching::Joined;
 use crs_value::{
     AxisMeridian, DeformationModel, GeoidModel, Ident, Member, Parameter, Unit, UnitKind, Usage,
 };
@@ -82,31 +82,7 @@ impl<'b, T> Members<'b, T> {
 }
 
 /// The usages at the end of a CRS; the parts that are bare are together one. Profile.
-#[derive(Drop)]
-pub struct Usages<'b, 'a> {
-    pub(crate) bare: Option<&'b Usage<'a>>,
-    pub(crate) usages: &'b [Usage<'a>],
-}
-
-impl<'b, 'a> Model for Usages<'b, 'a> {
-    ghost use Rattle.std.specs.Prelude.{List};
-    ghost use Rattle.std.specs.Option.{option_copied};
-    ghost use Rattle.crs_value.specs.Values.{UsageParts};
-    ghost use Rattle.crs_matching.specs.SameUsages.{with_bare};
-
-    ghost Value = { List UsageParts };
-
-    ghost view = { λ u. with_bare (option_copied u.bare) u.usages.now };
-}
-
-impl<'b, 'a> Usages<'b, 'a> {
-    /// The one whose parts are bare, if there is one, and the others.
-    pub fn parts(&self) -> (Option<&'b Usage<'a>>, &'b [Usage<'a>])
-        ensures { with_bare (option_copied result.0) result.1.now ≡ self.now }
-    {
-        (self.bare, self.usages)
-    }
-}
+pub type Usages<'b, 'a> = Joined<'b, Usage<'a>>;
 
 /// The value of a part of one of two CRSs. A set comes with the members that the other CRS has there. Profile.
 #[derive(Drop)]

@@ -1,5 +1,5 @@
 //! Coordinate reference systems.
-ghost use Rattle.std.specs.Prelude.{◌≡◌, ◌<◌, ◌≤◌, ◌↔◌, [], IfOk, IfSome, IsTrue, None, length};
+ghost use Rattle.std.specs.Prelude.{◌≡◌, ◌≤◌, ◌↔◌, [], IfOk, IfSome, IsTrue, None, length};
 ghost use Rattle.crs_value.specs.ReadsCrs.{kind_by, kind_of};
 ghost use Rattle.crs_same.specs.declared.content.Content.TheVariants as content;
 ghost use Rattle.crs_same.specs.declared.step.Step.TheVariants as step;
@@ -10,14 +10,14 @@ ghost use Rattle.crs_same.specs.PartsOfCrs.{parts_of_compound, parts_of_crs, Fir
 ghost use Rattle.crs_same.specs.SingleParts.{words, unlike, sets};
 ghost use Rattle.crs_same.specs.Walked.{Walked};
 ghost use Rattle.crs_same.specs.SameCrs.{SameCrs};
-ghost use Rattle.crs_matching.specs.SameConversions.{SameGeoidModel};
+ghost use Rattle.crs_matching.specs.SameParts.{SameGeoidModel};
 
 use crate::content::{Content, Members};
 use crate::found::{Differences, Found};
 use crate::laws;
 use crate::path::{At, Path};
 use crate::step::Step;
-use crs_matching::same_set;
+use crs_matching::{Joined, same_set};
 use crs_value::laws::crs_is_sound;
 use crs_value::{
     Base, Compound, Crs, Geodetic, GeoidModel, Horizontal, Kind, Level, List, Projected,
@@ -61,7 +61,6 @@ fn horizontal_word(part: &Horizontal<'_>) -> &'static str
 impl<'b, 'a> Found<'b, 'a> {
     #[tactic(auto, using(crate::proofs::WalkedLemmas::part_rules))]
     fn kind(self, at: &At, a: SystemType, b: SystemType) -> Self
-        requires { length at.now.path < 5 }
         ensures { Walked (words (at.now.path ▸ step.Kind) kind_word (kind_by a) (kind_by b)) self.entry result }
     {
         let (a, b) = (geodetic_kind(a), geodetic_kind(b));
@@ -112,7 +111,6 @@ impl<'b, 'a> Found<'b, 'a> {
 
     #[tactic(auto, using(crate::proofs::WalkedLemmas::part_rules))]
     fn geoids(self, at: &At, a: &'b List<GeoidModel<'a>>, b: &'b List<GeoidModel<'a>>) -> Self
-        requires { length at.now.path < 5 }
         ensures { Walked (sets (at.now.path ▸ step.Geoid) (SameGeoidModel at.now.level) content.GeoidModels
             a.now b.now) self.entry result }
     {
@@ -272,7 +270,9 @@ pub fn differences<'b, 'a>(
 ) -> Result<Differences<'b, 'a>, AllocError>
     ensures { IfOk result (λ differences. DifferencesInCrs level a.now b.now differences) }
 {
-    Found::all(alloc).crs(a, b, level).into_all()
+    let differences = Vec::new(alloc);
+    let found = Found::All(Differences { differences });
+    found.crs(a, b, level).into_all()
 }
 
 /// Whether two CRSs are the same at a level: of one kind, and with the same parts. Profile; the defaults of an

@@ -1,5 +1,5 @@
 //! What a walk over the parts of two values finds: the first part that differs, or all.
-ghost use Rattle.std.specs.Prelude.{◌≡◌, ◌<◌, ◌++◌, ◌∷◌, ◌↔◌, [], IfOk, IsTrue, List, None, Option, length};
+ghost use Rattle.std.specs.Prelude.{◌≡◌, ◌++◌, ◌∷◌, ◌↔◌, [], IfOk, IsTrue, List, None, Option};
 ghost use Rattle.std.specs.Option.{option_copied};
 ghost use Rattle.crs_value.specs.Kept.{kept};
 ghost use Rattle.crs_same.specs.declared.content.Content.TheVariants as content;
@@ -11,7 +11,7 @@ ghost use Rattle.crs_same.specs.Contents.{length_unit};
 ghost use Rattle.crs_same.specs.Parts.{◌▸◌, part};
 ghost use Rattle.crs_same.specs.SingleParts.{texts, optional_texts, unlike, numbers, optional_numbers, units};
 ghost use Rattle.crs_same.specs.SingleParts.{identifiers};
-ghost use Rattle.crs_matching.specs.SameUnits.{SameLength};
+ghost use Rattle.crs_matching.specs.SameParts.{SameLength};
 ghost use Rattle.crs_same.specs.Walked.{IsDone, IsOfAll, Walked};
 
 use crate::content::{Content, Members};
@@ -23,7 +23,7 @@ use crs_matching::{
     same_units_asked, same_value,
 };
 use crs_value::{Guesses, Ident, List, Unit, UnitKind};
-use std::alloc::{AllocError, Global};
+use std::alloc::AllocError;
 use std::marker::Model;
 
 /// A part in which two CRSs differ: the path to it, and its value in either. Profile.
@@ -68,7 +68,7 @@ impl<'b, 'a> Difference<'b, 'a> {
 /// The parts in which two CRSs differ, in the order of the canonical text. Profile.
 #[derive(Drop)]
 pub struct Differences<'b, 'a> {
-    differences: Vec<Difference<'b, 'a>>,
+    pub(crate) differences: Vec<Difference<'b, 'a>>,
 }
 
 impl<'b, 'a> Model for Differences<'b, 'a> {
@@ -106,15 +106,6 @@ impl<'b, 'a> Found<'b, 'a> {
         ensures { result ≡ found.First None }
     {
         Found::First(None)
-    }
-
-    // All parts that differ are looked for.
-    pub(crate) fn all(alloc: Global) -> Found<'b, 'a>
-        ensures { result ≡ found.All [] }
-    {
-        Found::All(Differences {
-            differences: Vec::new(alloc),
-        })
     }
 
     // Whether nothing more is looked for.
@@ -168,7 +159,6 @@ impl<'b, 'a> Found<'b, 'a> {
         first: Content<'b, 'a>,
         second: Content<'b, 'a>,
     ) -> Self
-        requires { length at.now.path < 5 }
         ensures { Walked (part (at.now.path ▸ step) ⊥ (first.entry) (second.entry)) self.entry result }
     {
         match self {
@@ -191,7 +181,6 @@ impl<'b, 'a> Found<'b, 'a> {
 
     // Two things that are never the same, with their words.
     pub(crate) fn unlike(self, at: &At, step: Step, a: &'static str, b: &'static str) -> Self
-        requires { length at.now.path < 5 }
         ensures { Walked (unlike (at.now.path ▸ step) a.now b.now) self.entry result }
     {
         self.alone(at, step, Content::word(a), Content::word(b))
@@ -199,7 +188,6 @@ impl<'b, 'a> Found<'b, 'a> {
 
     #[tactic(auto, using(crate::proofs::WalkedLemmas::part_rules))]
     pub(crate) fn text(self, at: &At, step: Step, a: &'a [u8], b: &'a [u8]) -> Self
-        requires { length at.now.path < 5 }
         ensures { Walked (texts (at.now.path ▸ step) a.now b.now) self.entry result }
     {
         if same_text(a, b) {
@@ -216,7 +204,6 @@ impl<'b, 'a> Found<'b, 'a> {
         a: Option<&'a [u8]>,
         b: Option<&'a [u8]>,
     ) -> Self
-        requires { length at.now.path < 5 }
         ensures { Walked (optional_texts (at.now.path ▸ step) (option_copied a.entry) (option_copied b.entry))
             self.entry result }
     {
@@ -229,7 +216,6 @@ impl<'b, 'a> Found<'b, 'a> {
 
     #[tactic(auto, using(crate::proofs::WalkedLemmas::part_rules))]
     pub(crate) fn number(self, at: &At, step: Step, a: &Decimal, b: &Decimal) -> Self
-        requires { length at.now.path < 5 }
         ensures { Walked (numbers (at.now.path ▸ step) a.now b.now) self.entry result }
     {
         if same_value(a, b) {
@@ -246,7 +232,6 @@ impl<'b, 'a> Found<'b, 'a> {
         a: &Option<Decimal>,
         b: &Option<Decimal>,
     ) -> Self
-        requires { length at.now.path < 5 }
         ensures { Walked (optional_numbers (at.now.path ▸ step) a.now b.now) self.entry result }
     {
         if same_optional_value(*a, *b) {
@@ -258,7 +243,6 @@ impl<'b, 'a> Found<'b, 'a> {
 
     #[tactic(auto, using(crate::proofs::WalkedLemmas::part_rules))]
     pub(crate) fn length(self, at: &At, a: &'b Option<Unit<'a>>, b: &'b Option<Unit<'a>>) -> Self
-        requires { length at.now.path < 5 }
         ensures { Walked (part (at.now.path ▸ step.Unit) (SameLength at.now.level a.now b.now)
             (length_unit a.now) (length_unit b.now)) self.entry result }
     {
@@ -278,7 +262,6 @@ impl<'b, 'a> Found<'b, 'a> {
         a: Option<&'b Unit<'a>>,
         b: Option<&'b Unit<'a>>,
     ) -> Self
-        requires { length at.now.path < 5 }
         ensures { Walked (units (at.now.path ▸ step.Unit) at.now.level asked.0 asked.1
             (option_copied a.entry) (option_copied b.entry)) self.entry result }
     {
@@ -292,7 +275,6 @@ impl<'b, 'a> Found<'b, 'a> {
 
     // Units of which an angle's is asked.
     pub(crate) fn angle(self, at: &At, a: Option<&'b Unit<'a>>, b: Option<&'b Unit<'a>>) -> Self
-        requires { length at.now.path < 5 }
         ensures { Walked (units (at.now.path ▸ step.Unit) at.now.level kinds.Angle kinds.Angle
             (option_copied a.entry) (option_copied b.entry)) self.entry result }
     {
@@ -302,7 +284,6 @@ impl<'b, 'a> Found<'b, 'a> {
     // The identifiers that the level keeps.
     #[tactic(auto, using(crate::proofs::WalkedLemmas::part_rules))]
     pub(crate) fn identifiers(self, at: &At, a: &'b List<Ident<'a>>, b: &'b List<Ident<'a>>) -> Self
-        requires { length at.now.path < 5 }
         ensures { Walked (identifiers (at.now.path ▸ step.Id) at.now.level a.now b.now) self.entry result }
     {
         if self.is_done() || same_idents(a, b, at.level) {
@@ -314,7 +295,6 @@ impl<'b, 'a> Found<'b, 'a> {
     // Of slices, of which one is empty.
     #[tactic(auto, using(crate::proofs::WalkedLemmas::part_rules))]
     pub(crate) fn identifiers_of(self, at: &At, a: &'b [Ident<'a>], b: &'b [Ident<'a>]) -> Self
-        requires { length at.now.path < 5 }
         ensures { Walked (identifiers (at.now.path ▸ step.Id) at.now.level a.now b.now) self.entry result }
     {
         if self.is_done() || same_kept_idents(a, b, Guesses::none(), at.level) {
@@ -325,7 +305,6 @@ impl<'b, 'a> Found<'b, 'a> {
 
     // Those that the level keeps, which aren't the same.
     fn unlike_identifiers(self, at: &At, a: &'b [Ident<'a>], b: &'b [Ident<'a>]) -> Self
-        requires { length at.now.path < 5 }
         ensures { Walked (part (at.now.path ▸ step.Id) ⊥
             (content.Identifiers (kept at.now.level a.now) (kept at.now.level b.now))
             (content.Identifiers (kept at.now.level b.now) (kept at.now.level a.now))) self.entry result }

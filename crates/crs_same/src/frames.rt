@@ -1,5 +1,5 @@
 //! Ellipsoids, prime meridians, reference frames and ensembles.
-ghost use Rattle.std.specs.Prelude.{◌≡◌, ◌<◌, ◌≤◌, ◌↔◌, [], IsTrue, None, length};
+ghost use Rattle.std.specs.Prelude.{◌≡◌, ◌≤◌, ◌↔◌, [], IsTrue, None, length};
 ghost use Rattle.std.specs.Option.{option_copied};
 ghost use Rattle.crs_value.specs.declared.values.frame.Frame.TheVariants as frame;
 ghost use Rattle.crs_same.specs.declared.content.Content.TheVariants as content;
@@ -10,14 +10,14 @@ ghost use Rattle.crs_same.specs.PartsOfFrames.{parts_of_datum, parts_of_ensemble
 ghost use Rattle.crs_same.specs.SingleParts.{sets};
 ghost use Rattle.crs_same.specs.Walked.{Walked};
 ghost use Rattle.crs_same.specs.Parts.{◌▸◌, AreSame};
-ghost use Rattle.crs_matching.specs.SameFrames.{SameMember};
+ghost use Rattle.crs_matching.specs.SameParts.{SameMember};
 
 use crate::content::{Content, Members};
 use crate::found::Found;
 use crate::path::At;
 use crate::step::Step;
 use crs_decimal::Decimal;
-use crs_matching::same_set;
+use crs_matching::{Joined, same_set};
 use crs_value::{Datum, Ellipsoid, Ensemble, Frame, Ident, Level, List, Member, Meridian, Unit};
 
 // At longitude 0 there is none.
@@ -48,7 +48,6 @@ fn datum_word(ellipsoid: &Option<Ellipsoid<'_>>) -> &'static str
 
 impl<'b, 'a> Found<'b, 'a> {
     fn ellipsoid(self, at: At, a: &'b Ellipsoid<'a>, b: &'b Ellipsoid<'a>) -> Self
-        requires { length at.path ≤ 4 }
         ensures { Walked (parts_of_ellipsoid at.path at.level a.now b.now) self.entry result }
     {
         let found = self.text(&at, Step::Name, a.name, b.name);
@@ -61,7 +60,6 @@ impl<'b, 'a> Found<'b, 'a> {
 
     // The ellipsoids of two frames: both have one, or neither.
     fn ellipsoids(self, at: At, a: &'b Option<Ellipsoid<'a>>, b: &'b Option<Ellipsoid<'a>>) -> Self
-        requires { length at.path ≤ 4 }
         ensures { Walked (parts_of_ellipsoids at.path at.level a.now b.now) self.entry result }
     {
         match (a, b) {
@@ -73,7 +71,6 @@ impl<'b, 'a> Found<'b, 'a> {
     }
 
     fn given(self, at: At, a: &'b Meridian<'a>, b: &'b Meridian<'a>) -> Self
-        requires { length at.path ≤ 4 }
         ensures { Walked (parts_of_given at.path at.level a.now b.now) self.entry result }
     {
         let found = self.text(&at, Step::Name, a.name, b.name);
@@ -84,7 +81,6 @@ impl<'b, 'a> Found<'b, 'a> {
 
     // A written prime meridian before a missing one, which is Greenwich.
     fn before_greenwich(self, at: At, meridian: &'b Meridian<'a>) -> Self
-        requires { length at.path ≤ 4 }
         ensures { Walked (parts_of_given at.path at.level meridian.now (or_greenwich None)) self.entry result }
     {
         let found = self.text(&at, Step::Name, meridian.name, b"Greenwich");
@@ -95,7 +91,6 @@ impl<'b, 'a> Found<'b, 'a> {
 
     // A missing prime meridian before a written one.
     fn behind_greenwich(self, at: At, meridian: &'b Meridian<'a>) -> Self
-        requires { length at.path ≤ 4 }
         ensures { Walked (parts_of_given at.path at.level (or_greenwich None) meridian.now) self.entry result }
     {
         let found = self.text(&at, Step::Name, b"Greenwich", meridian.name);
@@ -111,7 +106,6 @@ impl<'b, 'a> Found<'b, 'a> {
         a: &'b Option<Meridian<'a>>,
         b: &'b Option<Meridian<'a>>,
     ) -> Self
-        requires { length at.path ≤ 4 }
         ensures { Walked (parts_of_meridian at.path at.level a.now b.now) self.entry result }
     {
         if self.is_done() {
@@ -127,7 +121,6 @@ impl<'b, 'a> Found<'b, 'a> {
 
     #[tactic(auto, using(crate::proofs::WalkedLemmas::part_rules))]
     fn members(self, at: &At, a: &'b List<Member<'a>>, b: &'b List<Member<'a>>) -> Self
-        requires { length at.now.path < 5 }
         ensures { Walked (sets (at.now.path ▸ step.Members) (SameMember at.now.level) content.Members a.now b.now)
             self.entry result }
     {

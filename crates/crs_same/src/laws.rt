@@ -7,8 +7,7 @@ ghost use Rattle.crs_value.specs.declared.values.level.Level.TheVariants as leve
 ghost use Rattle.crs_value.specs.SoundCompound.{IsCompound};
 ghost use Rattle.crs_value.specs.SoundCrs.{IsCrs};
 ghost use Rattle.crs_value.specs.SoundSingle.{IsGeodetic, IsProjected, IsVertical};
-ghost use Rattle.crs_value.specs.SoundSystem.{IsSystem};
-ghost use Rattle.crs_value.specs.Sound.{Each};
+ghost use Rattle.crs_value.specs.Sound.{IsSystem, Each};
 ghost use Rattle.crs_value.specs.Values.{AxisParts, SystemParts};
 ghost use Rattle.crs_same.specs.declared.step.Step.{Step};
 ghost use Rattle.crs_same.specs.declared.step.Step.TheVariants as step;
@@ -24,8 +23,7 @@ ghost use Rattle.crs_same.specs.Parts.{◌▸◌, AreSame, DifferenceParts, Firs
 ghost use Rattle.crs_same.specs.Paths.{path_text};
 ghost use Rattle.crs_matching.specs.Sameness.{IsSameness, IsSamenessOf};
 ghost use Rattle.crs_same.specs.SameCrs.{SameCrs, SameDynamic, IsHorizontalPart};
-ghost use Rattle.crs_matching.specs.SameSystems.{HasAt};
-ghost use Rattle.crs_matching.specs.SameUnits.{SameValue};
+ghost use Rattle.crs_matching.specs.SameParts.{HasAt, SameValue};
 
 use crs_decimal::laws;
 pub use crs_matching::laws::{
@@ -47,7 +45,7 @@ pub fn one_axis_each()
 }
 
 /// Coordinate systems of one dimension have as many axes.
-#[tactic(auto, unfolding(crs_matching::specs::SameUnits::SameValue))]
+#[tactic(auto, unfolding(crs_matching::specs::SameParts::SameValue))]
 pub fn as_many_axes()
     ensures { (a b : SystemParts) → IsSystem a → IsSystem b → SameValue a.dimension b.dimension →
         length a.axes ≡ length b.axes }

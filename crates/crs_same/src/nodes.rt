@@ -1,10 +1,8 @@
 //! Conversions, dynamic parts, and the ends of CRSs.
-ghost use Rattle.std.specs.Prelude.{◌≡◌, ◌<◌, ◌≤◌, ◌↔◌, IsTrue, None, length};
+ghost use Rattle.std.specs.Prelude.{◌≡◌, ◌≤◌, ◌↔◌, IsTrue, None, length};
 ghost use Rattle.std.specs.Option.{option_and_then, option_copied, option_map};
 ghost use Rattle.crs_value.specs.Kept.{kept};
-ghost use Rattle.crs_matching.specs.SameConversions.{SameParameter};
-ghost use Rattle.crs_matching.specs.SameDynamic.{SameDeformationModel};
-ghost use Rattle.crs_matching.specs.SameUsages.{SameUsage, usages_of, SameUsages};
+ghost use Rattle.crs_matching.specs.SameParts.{SameParameter, SameDeformationModel, SameUsage, usages_of, SameUsages};
 ghost use Rattle.crs_same.specs.declared.content.Content.TheVariants as content;
 ghost use Rattle.crs_same.specs.declared.step.Step.TheVariants as step;
 ghost use Rattle.crs_same.specs.Parts.{◌▸◌, AreSame};
@@ -18,7 +16,7 @@ use crate::found::Found;
 use crate::path::At;
 use crate::step::Step;
 use crs_decimal::Decimal;
-use crs_matching::{same_models, same_set, same_usage_set, same_value};
+use crs_matching::{Joined, same_models, same_set, same_value};
 use crs_value::{
     Conversion, DeformationModel, Dynamic, Level, List, Method, Parameter, Tail, Usage,
 };
@@ -44,20 +42,6 @@ fn model_of<'b, 'a>(dynamic: &'b Option<Dynamic<'a>>) -> Option<&'b DeformationM
     dynamic.as_ref().and_then(|dynamic| dynamic.model.as_ref())
 }
 
-// What the level keeps of them.
-#[tactic(auto, using(crate::proofs::KeptLemmas::kept_rules))]
-fn same_usages<'a>(a: &Tail<'a>, b: &Tail<'a>, level: Level) -> bool
-    ensures { IsTrue result ↔ SameUsages level a.now b.now }
-{
-    same_usage_set(
-        level.kept_one(a.bare_parts.as_ref()),
-        level.kept(a.usages.as_slice()),
-        level.kept_one(b.bare_parts.as_ref()),
-        level.kept(b.usages.as_slice()),
-        a.usages.guesses(&b.usages, Level::Full),
-    )
-}
-
 // The usages that the level keeps of the end of a CRS.
 #[tactic(auto, using(crate::proofs::KeptLemmas::kept_rules))]
 fn usages_of<'b, 'a>(tail: &'b Tail<'a>, level: Level) -> Usages<'b, 'a>
@@ -65,14 +49,21 @@ fn usages_of<'b, 'a>(tail: &'b Tail<'a>, level: Level) -> Usages<'b, 'a>
 {
     Usages {
         bare: level.kept_one(tail.bare_parts.as_ref()),
-        usages: level.kept(tail.usages.as_slice()),
+        listed: level.kept(tail.usages.as_slice()),
     }
+}
+
+fn same_usages<'a>(a: &Tail<'a>, b: &Tail<'a>, level: Level) -> bool
+    ensures { IsTrue result ↔ SameUsages level a.now b.now }
+{
+    let guesses = a.usages.guesses(&b.usages, Level::Full);
+    let (these, others) = (usages_of(a, level), usages_of(b, level));
+    same_set(&these, &others, guesses, Level::Full)
 }
 
 impl<'b, 'a> Found<'b, 'a> {
     #[tactic(auto, unfolding(crate::specs::PartsOfCrs::parts_of_method))]
     fn method(self, at: At, a: &'b Method<'a>, b: &'b Method<'a>) -> Self
-        requires { length at.path ≤ 4 }
         ensures { Walked (parts_of_method at.path at.level a.now b.now) self.entry result }
     {
         let found = self.text(&at, Step::Name, a.name, b.name);
@@ -81,7 +72,6 @@ impl<'b, 'a> Found<'b, 'a> {
 
     #[tactic(auto, using(crate::proofs::WalkedLemmas::part_rules))]
     fn parameters(self, at: &At, a: &'b List<Parameter<'a>>, b: &'b List<Parameter<'a>>) -> Self
-        requires { length at.now.path < 5 }
         ensures { Walked (sets (at.now.path ▸ step.Parameters) (SameParameter at.now.level) content.Parameters
             a.now b.now) self.entry result }
     {
@@ -109,7 +99,6 @@ impl<'b, 'a> Found<'b, 'a> {
         a: Option<&'b DeformationModel<'a>>,
         b: Option<&'b DeformationModel<'a>>,
     ) -> Self
-        requires { length at.now.path < 5 }
         ensures { Walked (optional (at.now.path ▸ step.Model) (SameDeformationModel at.now.level) content.Model
             (option_copied a.entry) (option_copied b.entry)) self.entry result }
     {
@@ -127,7 +116,6 @@ impl<'b, 'a> Found<'b, 'a> {
         a: &'b Option<Dynamic<'a>>,
         b: &'b Option<Dynamic<'a>>,
     ) -> Self
-        requires { length at.path ≤ 4 }
         ensures { Walked (parts_of_dynamic at.path at.level a.now b.now) self.entry result }
     {
         let found = self.optional_number(&at, Step::Epoch, &epoch_of(a), &epoch_of(b));
@@ -136,7 +124,6 @@ impl<'b, 'a> Found<'b, 'a> {
 
     #[tactic(auto, using(crate::proofs::WalkedLemmas::part_rules))]
     fn usages(self, at: &At, a: &'b Tail<'a>, b: &'b Tail<'a>) -> Self
-        requires { length at.now.path < 5 }
         ensures { Walked (sets (at.now.path ▸ step.Usage) SameUsage content.Usages
             (kept at.now.level (usages_of a.now)) (kept at.now.level (usages_of b.now))) self.entry result }
     {
@@ -150,7 +137,6 @@ impl<'b, 'a> Found<'b, 'a> {
 
     #[tactic(auto, unfolding(crate::specs::PartsOfCrs::parts_of_tail))]
     pub(crate) fn tail(self, at: At, a: &'b Tail<'a>, b: &'b Tail<'a>) -> Self
-        requires { length at.path ≤ 4 }
         ensures { Walked (parts_of_tail at.path at.level a.now b.now) self.entry result }
     {
         if self.is_done() {

@@ -91,11 +91,13 @@ fn write_further(steps: &[Step], out: &mut Vec<u8>) -> Result<(), AllocError>
     Ok(())
 }
 
-// Where a part is, and the level at which it is compared.
+// Where a part is that has parts, and the level at which it is compared.
 #[derive(Drop)]
 pub(crate) struct At {
     pub(crate) path: Path,
     pub(crate) level: Level,
+    // So there is room for a part's step.
+    pub(crate) ghost within: { length path ≤ 4 },
 }
 
 impl At {
@@ -113,7 +115,7 @@ impl At {
 
     // One step further.
     pub(crate) fn then(&self, step: Step) -> At
-        requires { length self.now.path < 5 }
+        requires { length self.now.path < 4 }
         ensures path { result.path ≡ self.now.path ++ step ∷ [] }
         ensures level { result.level ≡ self.now.level }
     {

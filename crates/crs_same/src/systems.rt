@@ -1,29 +1,28 @@
 //! Axes and coordinate systems.
-ghost use Rattle.std.specs.Prelude.{◌<◌, ◌≤◌, length, max};
+ghost use Rattle.std.specs.Prelude.{◌≤◌, length, max};
 ghost use Rattle.std.specs.Option.{option_copied};
 ghost use Rattle.crs_shape.specs.Words.{direction_word, system_word};
 ghost use Rattle.crs_same.specs.declared.content.Content.TheVariants as content;
 ghost use Rattle.crs_same.specs.declared.step.Step.TheVariants as step;
 ghost use Rattle.crs_same.specs.Parts.{◌▸◌};
-ghost use Rattle.crs_same.specs.SingleParts.{words, optional, nodes};
+ghost use Rattle.crs_same.specs.SingleParts.{words, optional};
 ghost use Rattle.crs_same.specs.Walked.{Walked};
 ghost use Rattle.crs_same.specs.PartsOfSystems.{parts_of_axis, parts_at, parts_of_axes, parts_of_system};
-ghost use Rattle.crs_matching.specs.SameSystems.{SameAxisMeridian};
+ghost use Rattle.crs_matching.specs.SameParts.{SameAxisMeridian};
 
 use crate::content::Content;
 use crate::found::Found;
 use crate::path::At;
 use crate::step::Step;
-use crs_matching::{axis_at, same_axis_meridians, same_direction};
+use crs_matching::{axis_at, same_axis_meridians};
 use crs_value::{Axis, AxisMeridian, Direction, System, SystemType};
 
 impl<'b, 'a> Found<'b, 'a> {
     #[tactic(auto, using(crate::proofs::WalkedLemmas::part_rules))]
     fn direction(self, at: &At, a: Direction, b: Direction) -> Self
-        requires { length at.now.path < 5 }
         ensures { Walked (words (at.now.path ▸ step.Direction) direction_word a b) self.entry result }
     {
-        if same_direction(a, b) {
+        if a == b {
             return self;
         }
         self.unlike(at, Step::Direction, a.word(), b.word())
@@ -31,7 +30,6 @@ impl<'b, 'a> Found<'b, 'a> {
 
     #[tactic(auto, using(crate::proofs::WalkedLemmas::part_rules))]
     fn system_type(self, at: &At, a: SystemType, b: SystemType) -> Self
-        requires { length at.now.path < 5 }
         ensures { Walked (words (at.now.path ▸ step.SystemType) system_word a b) self.entry result }
     {
         if a == b {
@@ -47,7 +45,6 @@ impl<'b, 'a> Found<'b, 'a> {
         a: &'b Option<AxisMeridian<'a>>,
         b: &'b Option<AxisMeridian<'a>>,
     ) -> Self
-        requires { length at.now.path < 5 }
         ensures { Walked (optional (at.now.path ▸ step.Meridian) (SameAxisMeridian at.now.level) content.Meridian
             a.now b.now) self.entry result }
     {
@@ -69,7 +66,6 @@ impl<'b, 'a> Found<'b, 'a> {
         x: &'b Axis<'a>,
         y: &'b Axis<'a>,
     ) -> Self
-        requires { length at.path ≤ 4 }
         ensures { Walked (parts_of_axis at.path at.level a.now b.now x.now y.now) self.entry result }
     {
         if self.is_done() {
@@ -84,35 +80,18 @@ impl<'b, 'a> Found<'b, 'a> {
         found.identifiers(&at, &x.identifiers, &y.identifiers)
     }
 
-    // The parts of two axes of which each may be missing.
-    fn axis_of_either(
-        self,
-        at: At,
-        a: &'b System<'a>,
-        b: &'b System<'a>,
-        x: Option<&'b Axis<'a>>,
-        y: Option<&'b Axis<'a>>,
-    ) -> Self
-        requires { length at.path ≤ 4 }
-        ensures { Walked (nodes at.path (λ axis. axis.name) (parts_of_axis at.path at.level a.now b.now)
-            (option_copied x.entry) (option_copied y.entry)) self.entry result }
+    // The parts of the axes at this position, of which each may be missing.
+    fn axis_at(self, at: At, a: &'b System<'a>, b: &'b System<'a>, position: u64) -> Self
+        ensures { Walked (parts_at at.path at.level a.now b.now position) self.entry result }
     {
+        let x = axis_at(a.axes.as_slice(), position);
+        let y = axis_at(b.axes.as_slice(), position);
         match (x, y) {
             (None, None) => self,
             (Some(x), Some(y)) => self.axis(at, a, b, x, y),
             (None, Some(y)) => self.alone(&at, Step::Name, Content::Nothing, Content::text(y.name)),
             (Some(x), None) => self.alone(&at, Step::Name, Content::text(x.name), Content::Nothing),
         }
-    }
-
-    // The parts of the axes at this position.
-    fn axis_at(self, at: At, a: &'b System<'a>, b: &'b System<'a>, position: u64) -> Self
-        requires { length at.path ≤ 4 }
-        ensures { Walked (parts_at at.path at.level a.now b.now position) self.entry result }
-    {
-        let x = axis_at(a.axes.as_slice(), position);
-        let y = axis_at(b.axes.as_slice(), position);
-        self.axis_of_either(at, a, b, x, y)
     }
 
     fn axes(self, at: At, a: &'b System<'a>, b: &'b System<'a>) -> Self

@@ -1,5 +1,4 @@
-ghost use Rattle.std.specs.Prelude.{◌≡◌, ◌↔◌, ◌++◌, ◌∷◌, [], IfOk, IfErr, IsErrOf, codes, false, true};
-ghost use Rattle.crs_same.specs.Paths.{path_text};
+ghost use Rattle.std.specs.Prelude.{◌≡◌, ◌↔◌, IfOk, IfErr, IsErrOf, false, true};
 ghost use Rattle.crs_runs.specs.Ending.{IsWritten, IsWriteFault};
 ghost use Rattle.crs_same_run.specs.SameOutput.{IsSameOutput, WritesPart};
 ghost use Rattle.crs_streams.specs.Streams.{fresh_sink};
@@ -64,21 +63,15 @@ impl Telling for InALine {
     }
 }
 
+// `same`, or `different PATH`, and a line end.
 fn part_output(alloc: Global, found: Option<Path>) -> Result<(Vec<u8>, u8), AllocError>
     ensures { IfOk result (λ output. WritesPart found output.0.items output.1) }
 {
-    match found {
-        None => Ok((Vec::from_slice(alloc, b"same\n")?, 0)),
-        Some(path) => Ok((different_line(alloc, &path)?, 1)),
-    }
-}
-
-// `different PATH` and a line end.
-fn different_line(alloc: Global, path: &Path) -> Result<Vec<u8>, AllocError>
-    ensures { IfOk result (λ line. line.items ≡ (codes "different " ++ path_text path.now) ++ 10 ∷ []) }
-{
+    let Some(path) = found else {
+        return Ok((Vec::from_slice(alloc, b"same\n")?, 0));
+    };
     let mut line = Vec::from_slice(alloc, b"different ")?;
     path.write(&mut line)?;
     line.push(b'\n')?;
-    Ok(line)
+    Ok((line, 1))
 }

@@ -7,7 +7,6 @@ mod direction;
 mod expectation;
 mod fitting;
 mod keyword;
-mod keyword_classes;
 pub mod laws;
 mod near;
 mod rows;

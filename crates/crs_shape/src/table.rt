@@ -7,8 +7,7 @@ ghost use Rattle.crs_shape.specs.Slots.{shown, slots_of, class_named, is_class};
 
 use crate::bit_set::{BitSet, set};
 use crate::class::Class;
-use crate::keyword::has_keyword;
-use crate::keyword_classes::{classes_by, rivals_of};
+use crate::keyword::{classes_by, has_keyword, rivals_of};
 use crate::rows::{every_class, row, rows};
 use crate::slot::Slot;
 use crs_text::{Keyword, laws};

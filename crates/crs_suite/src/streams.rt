@@ -34,14 +34,14 @@ impl Manner {
             is_interrupted: false,
         };
         for word in words.split(' ') {
-            match word.split_once('=').unwrap_or((word, "")) {
-                ("", "") => (),
-                ("endless", "") => manner.is_endless = true,
-                ("interrupted", "") => manner.is_interrupted = true,
-                ("pieces", count) => manner.piece = count.parse().ok()?,
-                ("fails", count) => manner.fails_at = count.parse().ok()?,
-                ("takes", count) => manner.takes = count.parse().ok()?,
-                ("stops", count) => manner.stops_at = count.parse().ok()?,
+            match (word, word.split_once('=')) {
+                ("", _) => (),
+                ("endless", _) => manner.is_endless = true,
+                ("interrupted", _) => manner.is_interrupted = true,
+                (_, Some(("pieces", count))) => manner.piece = count.parse().ok()?,
+                (_, Some(("fails", count))) => manner.fails_at = count.parse().ok()?,
+                (_, Some(("takes", count))) => manner.takes = count.parse().ok()?,
+                (_, Some(("stops", count))) => manner.stops_at = count.parse().ok()?,
                 _ => return None,
             }
         }

@@ -1,5 +1,5 @@
-//! How items are asked about: a count of them, texts by their names, what a type must have, asked as a bound, and the
-//! refusal of a text.
+//! What the checks of items share: the count of items, texts by their names, questions that a type is asked by a bound,
+//! and whether a text is refused so.
 use crs_suite::about_crs;
 use crs_text::{Fault, Refusal};
 use crs_value::Crs;

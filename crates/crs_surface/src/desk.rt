@@ -86,7 +86,7 @@ fn asks(alloc: Global, line: &[&str], command: &str, words: &[&str]) -> bool {
     )
 }
 
-// The last nine variants are additions.
+// The last two variants are additions.
 fn is_request(asked: &Request, command: &str, words: &[&str]) -> bool {
     match asked {
         Request::Canon(level) => command == "Canon" && [word(level)].as_slice() == words,
@@ -95,15 +95,7 @@ fn is_request(asked: &Request, command: &str, words: &[&str]) -> bool {
             command == "Same" && [word(first), word(second), word(level)].as_slice() == words
         }
         Request::Group(level) => command == "Group" && [word(level)].as_slice() == words,
-        Request::CanonLines(_)
-        | Request::CheckLines
-        | Request::GroupListed(_, _)
-        | Request::Explain(_)
-        | Request::ExplainText(_, _)
-        | Request::ExplainPair(_, _, _)
-        | Request::Files(_, _)
-        | Request::FilesUnder(_, _, _)
-        | Request::TextsUnder(_, _, _) => false,
+        Request::Texts(_, _, _) | Request::Files(_, _, _) => false,
     }
 }
 

@@ -53,7 +53,6 @@ fn check_places(tally: &mut Tally, items: &Items<'_>, other: &Items<'_>) -> Opti
     Some(())
 }
 
-// Quotes inside a text stay doubled.
 fn check_kinds(tally: &mut Tally, items: &Items<'_>, other: &Items<'_>) -> Option<()> {
     let name = items.arg(items.root(), 0)?;
     let system = items.arg(items.root(), 2)?;
@@ -64,6 +63,7 @@ fn check_kinds(tally: &mut Tally, items: &Items<'_>, other: &Items<'_>) -> Optio
         && kind_letter(items.kind(word)) == 'w'
         && kind_letter(items.kind(digit)) == 'd';
     tally.count("crs_text::ItemKind", has_letters);
+    // Quotes inside a text stay doubled.
     let quoted = other.raw(other.arg(other.root(), 0)?);
     let has_raw = items.raw(name) == b"H".as_slice()
         && keyword(items) == b"VERTCRS".as_slice()

@@ -3,7 +3,8 @@
 //! with all their fields and variants. The examples of `docs/CALLING.md` are here too.
 #![tactic(auto)]
 
-// Whether a value is one of the first variants. Its type has these and the others, and no more.
+// Whether a value is one of the variants before `not`. Those and the ones behind it are all variants of the type: one
+// more doesn't compile.
 macro_rules! is_one_of {
     ($value:expr, $kind:ident { $($one:ident),+ } not { $($other:ident),+ }) => {
         match $value {

@@ -14,8 +14,8 @@ use crs_value::{
 };
 use std::alloc::{AllocError, Global};
 
-// Counts the two items of a node: the call that compares nodes of its kind, and what its type implements. A node that may
-// be missing is `in` something.
+// Counts the two items of a node: the call that compares nodes of its kind, and what its type implements. After `is`
+// comes the node, after `in` an option of one.
 macro_rules! count_node {
     ($tally:ident, $alloc:ident; $same:ident of $kind:ident is $node:expr) => {
         let is_same = $same($node, $node, Level::Full);

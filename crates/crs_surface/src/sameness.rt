@@ -79,7 +79,7 @@ fn is_written(alloc: Global, path: &Path, text: &str) -> bool {
     written.is_ok() && out.as_slice() == text.as_bytes()
 }
 
-// The word of each variant of a type, which has no more than these.
+// The word of a value's variant. These are all variants of the type: one more doesn't compile.
 macro_rules! word_of {
     ($value:expr, $kind:ident { $($variant:ident $(($field:ident))? $word:literal),+ }) => {
         match $value {

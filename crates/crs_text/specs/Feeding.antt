@@ -6,9 +6,7 @@ use Rattle.std.specs.List.{list_all}
 use Rattle.crs_decimal.specs.Spelling.{is_run_byte, is_run_start}
 use Rattle.crs_text.specs.Quoted.{BeginsWith, StopsAt, IsInside}
 use Rattle.crs_text.specs.Tokens.{Token, is_white, is_letter, is_word_byte}
-use Rattle.crs_text.specs.Settled.{FormsSettled, SettledFronts, IsRunSettled, IsSettledStop}
-use Rattle.crs_text.specs.Settled.{IsSettledRefusal}
-use Rattle.crs_text.specs.Settled.{IsTakenSoFar}
+use Rattle.crs_text.specs.Settled.{FormsSettled, SettledFronts, IsRunSettled, IsSettledStop, IsSettledRefusal, IsTakenSoFar}
 use Rattle.crs_text.specs.Table.{Flat}
 use Rattle.crs_text.specs.Utf8.{IsValidTo}
 use Rattle.crs_text.specs.Rows.{Shows}

@@ -3,7 +3,7 @@
 use Rattle.std.specs.Prelude.{◌≡◌, ◌≢◌, ℕ, zero, suc, ◌+◌, ◌≤◌, max, Bool, Option, Some, None, List}
 use Rattle.std.specs.Prelude.{[], ◌∷◌, ◌++◌}
 use Rattle.std.specs.Prelude.{slice_index_or}
-use Rattle.crs_decimal.specs.Bounds.{Denotes}
+use Rattle.crs_decimal.specs.Spelling.{Denotes}
 use Rattle.crs_decimal.specs.Value.{Value, IsNormal, exact}
 use Rattle.crs_text.specs.Keywords.{keyword_of}
 use Rattle.crs_text.specs.declared.items.ItemKind.{ItemKind}

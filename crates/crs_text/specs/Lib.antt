@@ -16,7 +16,6 @@ pub mod Rows
 pub mod Runs
 pub mod Scan
 pub mod Settled
-pub mod SettledExamples
 pub mod State
 pub mod Table
 pub mod TextFault

@@ -3,8 +3,7 @@
 use Rattle.std.specs.Prelude.{◌≡◌, ℕ, ◌+◌, ◌||◌, ◌==◌, Bool, IsTrue, IsFalse, List, [], ◌∷◌, ◌++◌}
 use Rattle.std.specs.Prelude.{length}
 use Rattle.std.specs.List.{list_all}
-use Rattle.crs_decimal.specs.Spelling.{is_run_byte, is_run_start, HasForm}
-use Rattle.crs_decimal.specs.Bounds.{IsInBounds}
+use Rattle.crs_decimal.specs.Spelling.{is_run_byte, is_run_start, HasForm, IsInBounds}
 use Rattle.crs_text.specs.Quoted.{StopsAt, BeginsWith, is_quote, IsInside, Through}
 use Rattle.crs_text.specs.Utf8.{IsUtf8Front, IsLongestUtf8}
 use Rattle.crs_text.specs.Tokens.{Token, single, comma, opening, closing, is_letter, Forms, Fronts}

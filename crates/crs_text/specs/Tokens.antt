@@ -4,8 +4,7 @@ use Rattle.std.specs.Prelude.{◌≡◌, ℕ, ◌+◌, ◌&&◌, ◌||◌, ◌==
 use Rattle.std.specs.Prelude.{List, [], ◌∷◌, ◌++◌}
 use Rattle.std.specs.Prelude.{length, IsUtf8}
 use Rattle.std.specs.List.{list_all}
-use Rattle.crs_decimal.specs.Spelling.{is_digit, is_run_byte, is_run_start}
-use Rattle.crs_decimal.specs.Bounds.{IsInBounds}
+use Rattle.crs_decimal.specs.Spelling.{is_digit, is_run_byte, is_run_start, IsInBounds}
 use Rattle.crs_text.specs.Quoted.{IsInside, StopsAt, BeginsWith, is_quote}
 
 -- the kinds of single tokens: numbers, quoted texts and words

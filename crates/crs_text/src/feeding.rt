@@ -1,19 +1,17 @@
 //! How far the front of a text is settled while more of it may come. What is pending at its end is scanned
 //! from where the last piece left it.
 ghost use Rattle.std.specs.Prelude.{◌<◌, length, IfSome, MatchBool, MatchResult};
-ghost use Rattle.crs_text.specs.Utf8.{IsUtf8Front, IsValidTo};
 ghost use Rattle.crs_text.specs.Lexing.{IsLexed};
 ghost use Rattle.crs_text.specs.Feeding.{IsFlawSettled, IsLexedSettled, IsSettledTo, IsUnsettledAt, IsFedTo};
 ghost use Rattle.crs_text.specs.Feeding.{IsFedBefore, IsSettledFault, IsPendingIn, IsPendingBefore};
 ghost use Rattle.crs_text.specs.Feeding.{StaysPending, IsInsideTo, IsOpenTo};
 
 use crate::fault::Fault;
-use crate::lexing::{Lexed, closing_quote, rest_of, token_at};
+use crate::lexing::{Lexed, closing_quote, rest_of, token_at, valid_length};
 use crate::refusal::Reason;
-use crate::runs::{Bytes, RunBytes, WordBytes};
+use crate::runs::{ByteKind, RunBytes, WordBytes};
 use crate::scanning::{after_white, take_lexed};
 use crate::table::Table;
-use crate::utf8::valid_length;
 
 /// What is known of a token that isn't settled.
 #[derive(Clone, Copy)]
@@ -81,18 +79,6 @@ fn settle_all(table: &mut Table, text: &[u8], from: usize) -> Result<usize, Faul
     Ok(at)
 }
 
-// How many of the bytes are well-formed UTF-8, of which so many are known to be; None where no more bytes complete
-// the others.
-fn valid_to(after: &[u8], known: usize) -> Option<usize>
-    requires { IsValidTo after.now known }
-    ensures { IfSome result (λ n. IsValidTo after.now n × IsUtf8Front after.now) }
-{
-    match valid_length(rest_of(after, known)) {
-        Ok(more) => Some(known + more),
-        Err(_) => None,
-    }
-}
-
 // How many of the bytes are inside the text, where so many are known to be; None where it is closed and a byte
 // follows the quote.
 fn open_to(after: &[u8], known: usize) -> Option<usize>
@@ -113,7 +99,8 @@ fn stays_open(left: &[u8], inside: usize, valid: usize) -> Option<Pending>
 {
     let after = rest_of(left, 1);
     let inside = open_to(after, inside)?;
-    let valid = valid_to(after, valid)?;
+    // None where no more bytes complete those that aren't known to be well-formed.
+    let valid = valid + valid_length(rest_of(after, valid)).ok()?;
     Some(Pending::Text { inside, valid })
 }
 

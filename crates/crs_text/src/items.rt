@@ -6,7 +6,7 @@ ghost use Rattle.crs_text.specs.Table.{no_row};
 ghost use Rattle.crs_text.specs.Rows.{rows, row_of};
 ghost use Rattle.crs_text.specs.Tree.{raw_place};
 ghost use Rattle.crs_text.specs.Written.{AreFormed, item_text};
-ghost use Rattle.crs_text.specs.Laid.{AreSquare, IsSquare, bytes_beside, bytes_of_rows};
+ghost use Rattle.crs_text.specs.Laid.{AreSquare, bytes_beside, bytes_of_rows};
 
 use crate::keyword::Keyword;
 use crate::table::{Row, Table};
@@ -208,10 +208,7 @@ impl<'a> Items<'a> {
         if self.kind(id) != ItemKind::Number {
             return None;
         }
-        match Decimal::parse(self.raw(id)) {
-            Ok(value) => Some(value),
-            Err(_) => unreachable!(),
-        }
+        Decimal::parse(self.raw(id)).ok()
     }
 
     // The first argument comes directly after its node.
@@ -265,15 +262,6 @@ fn raw_place(kind: ItemKind, place: usize) -> usize
     }
 }
 
-fn has_square(row: &Row) -> bool
-    ensures { IsTrue result → IsSquare row.now.kind row.now.square }
-{
-    match row.kind {
-        ItemKind::Node => row.square,
-        ItemKind::Number | ItemKind::Text | ItemKind::Word => true,
-    }
-}
-
 fn bytes_beside(kind: ItemKind, count: usize) -> usize
     requires { bytes_beside kind count < 2 ^ 64 }
     ensures { result ≡ bytes_beside kind count }
@@ -293,7 +281,7 @@ fn written_length(rows: &[Row]) -> Option<usize>
 {
     let mut length = 0;
     for row in rows {
-        if !has_square(row) {
+        if row.kind == ItemKind::Node && !row.square {
             return None;
         }
         length += row.length + bytes_beside(row.kind, row.count);

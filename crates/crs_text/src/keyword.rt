@@ -3,8 +3,7 @@ ghost use Rattle.std.specs.Prelude.{◌≡◌, ℕ, ◌≤◌, ◌<◌, IsTrue, 
 ghost use Rattle.std.specs.Char.{to_ascii_lowercase};
 ghost use Rattle.std.specs.Str.{str_eq_ignore_ascii_case};
 ghost use Rattle.crs_text.specs.Keywords.{keyword_of, spelling_of};
-ghost use Rattle.crs_text.specs.KeywordTable.{as_spelled, spelled, of_length, first_among, is_capital};
-ghost use Rattle.crs_text.specs.KeywordTable.{IsSuspect, AreSuspects};
+ghost use Rattle.crs_text.specs.KeywordTable.{as_spelled, spelled, of_length, first_among, is_capital, AreSuspects};
 ghost use Rattle.std.specs.List.{list_all};
 
 use crate::lexing::front_of;
@@ -267,44 +266,57 @@ macro_rules! by_fingerprint {
     };
 }
 
-// For each fingerprint, from 0 on, the keyword that has it, or a word that is none and comes often; `_` is `ID`, also
-// where there is neither.
+// For each fingerprint, from 0 on and three a line, the keyword that has it, or a word that is none and comes often; `_`
+// is `ID`, also where there is neither.
 #[inline(always)]
 fn suspects() -> &'static [Suspect]
     ensures rows { AreSuspects result.now }
     ensures count { length result.now ≡ 128 }
 {
     by_fingerprint! {
-        _ _ _ _ (LengthUnit 10 b"LENGTHUNIT      ") _ _ (BaseGeogCrs 11 b"BASEGEOGCRS     ") _
-        (ProjectedCrs 12 b"PROJECTEDCRS    ") (None 11 b"GEOCENTRICX     ") _ _ _ _ _
-        (None 8 b"VERTICAL        ") _ (BaseGeodCrs 11 b"BASEGEODCRS     ") _
-        (AnchorEpoch 11 b"ANCHOREPOCH     ") (BBox 4 b"BBOX            ")
-        (GeodCrs 7 b"GEODCRS         ") (VerticalCrs 11 b"VERTICALCRS     ")
-        (VelocityGrid 12 b"VELOCITYGRID    ") _ _ _ (CompoundCrs 11 b"COMPOUNDCRS     ")
-        (None 4 b"WEST            ") _ (VerticalExtent 14 b"VERTICALEXTENT  ")
-        (Projection 10 b"PROJECTION      ") (GeogCrs 7 b"GEOGCRS         ") _
-        (Trf 3 b"TRF             ") _ (None 11 b"ELLIPSOIDAL     ") _
-        (Method 6 b"METHOD          ") _ _ _ _ (None 9 b"SPHERICAL       ")
+        _ _ _
+        _ (LengthUnit 10 b"LENGTHUNIT      ") _
+        _ (BaseGeogCrs 11 b"BASEGEOGCRS     ") _
+        (ProjectedCrs 12 b"PROJECTEDCRS    ") (None 11 b"GEOCENTRICX     ") _
+        _ _ _
+        _ (None 8 b"VERTICAL        ") _
+        (BaseGeodCrs 11 b"BASEGEODCRS     ") _ (AnchorEpoch 11 b"ANCHOREPOCH     ")
+        (BBox 4 b"BBOX            ") (GeodCrs 7 b"GEODCRS         ") (VerticalCrs 11 b"VERTICALCRS     ")
+        (VelocityGrid 12 b"VELOCITYGRID    ") _ _
+        _ (CompoundCrs 11 b"COMPOUNDCRS     ") (None 4 b"WEST            ")
+        _ (VerticalExtent 14 b"VERTICALEXTENT  ") (Projection 10 b"PROJECTION      ")
+        (GeogCrs 7 b"GEOGCRS         ") _ (Trf 3 b"TRF             ")
+        _ (None 11 b"ELLIPSOIDAL     ") _
+        (Method 6 b"METHOD          ") _ _
+        _ _ (None 9 b"SPHERICAL       ")
         (Parameter 9 b"PARAMETER       ") (Usage 5 b"USAGE           ") _
         (GeodeticCrs 11 b"GEODETICCRS     ") _ (GeographicCrs 13 b"GEOGRAPHICCRS   ")
-        (FrameEpoch 10 b"FRAMEEPOCH      ") _ _ (Ensemble 8 b"ENSEMBLE        ") _
-        (Member 6 b"MEMBER          ") _ _ _ (Datum 5 b"DATUM           ")
-        (None 2 b"UP              ") _ _ _ (None 9 b"CARTESIAN       ")
-        (ScaleUnit 9 b"SCALEUNIT       ") (VDatum 6 b"VDATUM          ")
-        (Scope 5 b"SCOPE           ") (Spheroid 8 b"SPHEROID        ") _
-        (VerticalDatum 13 b"VERTICALDATUM   ") _ (Conversion 10 b"CONVERSION      ")
-        (PrimeMeridian 13 b"PRIMEMERIDIAN   ") (ProjCrs 7 b"PROJCRS         ")
-        (Axis 4 b"AXIS            ") (Citation 8 b"CITATION        ") (None 4 b"DOWN            ")
-        _ (PrimeM 6 b"PRIMEM          ") (None 5 b"NORTH           ") (Vrf 3 b"VRF             ") _
-        _ _ (Area 4 b"AREA            ") _ _ _ (None 4 b"EAST            ") _ _ _ _ _
+        (FrameEpoch 10 b"FRAMEEPOCH      ") _ _
+        (Ensemble 8 b"ENSEMBLE        ") _ (Member 6 b"MEMBER          ")
+        _ _ _
+        (Datum 5 b"DATUM           ") (None 2 b"UP              ") _
+        _ _ (None 9 b"CARTESIAN       ")
+        (ScaleUnit 9 b"SCALEUNIT       ") (VDatum 6 b"VDATUM          ") (Scope 5 b"SCOPE           ")
+        (Spheroid 8 b"SPHEROID        ") _ (VerticalDatum 13 b"VERTICALDATUM   ")
+        _ (Conversion 10 b"CONVERSION      ") (PrimeMeridian 13 b"PRIMEMERIDIAN   ")
+        (ProjCrs 7 b"PROJCRS         ") (Axis 4 b"AXIS            ") (Citation 8 b"CITATION        ")
+        (None 4 b"DOWN            ") _ (PrimeM 6 b"PRIMEM          ")
+        (None 5 b"NORTH           ") (Vrf 3 b"VRF             ") _
+        _ _ (Area 4 b"AREA            ")
+        _ _ _
+        (None 4 b"EAST            ") _ _
+        _ _ _
         (GeodeticDatum 13 b"GEODETICDATUM   ") _ (Cs 2 b"CS              ")
-        (VertCrs 7 b"VERTCRS         ") _ _ _ _ (Uri 3 b"URI             ") _ _
-        (Dynamic 7 b"DYNAMIC         ") _ (Anchor 6 b"ANCHOR          ") _
-        (AngleUnit 9 b"ANGLEUNIT       ") _ _ (Model 5 b"MODEL           ")
-        (PlainUnit 4 b"UNIT            ") (EnsembleAccuracy 16 b"ENSEMBLEACCURACY")
-        (None 5 b"SOUTH           ") (Ellipsoid 9 b"ELLIPSOID       ")
-        (Remark 6 b"REMARK          ") (Meridian 8 b"MERIDIAN        ") _
-        (Order 5 b"ORDER           ") _ _ _ _ (GeoidModel 10 b"GEOIDMODEL      ")
+        (VertCrs 7 b"VERTCRS         ") _ _
+        _ _ (Uri 3 b"URI             ")
+        _ _ (Dynamic 7 b"DYNAMIC         ")
+        _ (Anchor 6 b"ANCHOR          ") _
+        (AngleUnit 9 b"ANGLEUNIT       ") _ _
+        (Model 5 b"MODEL           ") (PlainUnit 4 b"UNIT            ") (EnsembleAccuracy 16 b"ENSEMBLEACCURACY")
+        (None 5 b"SOUTH           ") (Ellipsoid 9 b"ELLIPSOID       ") (Remark 6 b"REMARK          ")
+        (Meridian 8 b"MERIDIAN        ") _ (Order 5 b"ORDER           ")
+        _ _ _
+        _ (GeoidModel 10 b"GEOIDMODEL      ")
     }
 }
 
@@ -341,19 +353,6 @@ fn same_lanes(block: u8x16, letters: u8x16) -> usize
     first_set((block & u8x16::splat(!SMALL)).simd_ne(letters).to_bitmask())
 }
 
-#[inline(always)]
-fn is_suspect(suspect: &Suspect, left: &[u8], count: usize) -> bool
-    requires suspect { IsSuspect suspect.now }
-    requires within { count ≤ 16 }
-    requires room { 16 ≤ length left.now }
-    ensures { IsTrue result → keyword_of (take count left.now) ≡ suspect.now.keyword }
-{
-    if suspect.length != count {
-        return false;
-    }
-    same_lanes(u8x16::from_slice(left), u8x16::from_slice(suspect.letters)) >= count
-}
-
 // The keyword that the word of so many bytes in front is, or that it is none, where that is seen at one look.
 #[inline(always)]
 fn suspected(left: &[u8], count: usize) -> Option<Option<Keyword>>
@@ -363,7 +362,9 @@ fn suspected(left: &[u8], count: usize) -> Option<Option<Keyword>>
         return None;
     }
     let suspect = &suspects()[fingerprint(left, count)];
-    if is_suspect(suspect, left, count) {
+    if suspect.length == count
+        && same_lanes(u8x16::from_slice(left), u8x16::from_slice(suspect.letters)) >= count
+    {
         Some(suspect.keyword)
     } else {
         None

@@ -1,15 +1,15 @@
 //! The token at the front of what is left of a text, or its flaw. Runs are found as a whole, not byte by byte.
-ghost use Rattle.std.specs.Prelude.{◌≡◌, ◌+◌, ◌≤◌, ◌<◌, length, take, drop, MatchOption, MatchBool, IsTrue, IfSome, ◌∷◌};
-ghost use Rattle.std.specs.List.{prefix_len};
-ghost use Rattle.crs_text.specs.Quoted.{BeginsWith, IsInside, IsShutAt, StopsAt, is_plain, is_quote};
+ghost use Rattle.std.specs.Prelude.{◌≡◌, ◌+◌, ◌≤◌, ◌<◌, ◌∷◌, length, take, drop, MatchOption, MatchBool, MatchResult};
+ghost use Rattle.std.specs.Prelude.{IsTrue, IfSome};
+ghost use Rattle.crs_text.specs.Quoted.{BeginsWith, IsInside, IsShutAt, StopsAt, is_quote};
 ghost use Rattle.crs_decimal.specs.Spelling as spelling;
 ghost use Rattle.crs_text.specs.Lexing.{IsLexed};
-ghost use Rattle.crs_text.specs.Runs.{IsClosing, IsOneDigit, IsSigned, IsFractional};
+ghost use Rattle.crs_text.specs.Utf8.{IsLongestUtf8, IsUtf8Front, IsValidTo};
+ghost use Rattle.crs_text.specs.Runs.{IsOneDigit, IsSigned, IsFractional};
 
 use crate::refusal::Reason;
-use crate::runs::{Bytes, Digits, PlainAscii, RunBytes, WordBytes, ends_run};
-use crate::utf8::valid_length;
-use bstr::ByteSlice;
+use crate::runs::{ByteKind, Digits, PlainAscii, RunBytes, WordBytes, ends_run};
+use bstr::{ByteSlice, validate};
 use crs_decimal::{Decimal, NumberFault};
 
 /// What begins what is left; lengths count the raw bytes of a single token.
@@ -48,14 +48,6 @@ fn flaw(reason: Reason, skip: usize) -> Lexed
     Lexed::Flaw { reason, skip }
 }
 
-// How many bytes come before the first quote, or all of them.
-fn plain_length(bytes: &[u8]) -> usize
-    ensures value { result ≡ prefix_len is_plain bytes.now }
-    ensures within { result ≤ length bytes.now }
-{
-    bytes.find_byte(b'"').unwrap_or(bytes.len())
-}
-
 fn begins_with_quote(bytes: &[u8]) -> bool
     ensures { MatchBool result (bytes.now ≡ 34 ∷ drop 1 bytes.now) (StopsAt is_quote bytes.now) }
 {
@@ -68,7 +60,8 @@ pub(crate) fn closing_quote(after: &[u8]) -> Option<usize>
 {
     let mut at = 0;
     while at < after.len() {
-        let quote = at + plain_length(rest_of(after, at));
+        let rest = rest_of(after, at);
+        let quote = at + rest.find_byte(b'"').unwrap_or(rest.len());
         if quote == after.len() {
             return None;
         }
@@ -80,14 +73,6 @@ pub(crate) fn closing_quote(after: &[u8]) -> Option<usize>
     None
 }
 
-// Whether a quote comes first, and no other after it.
-#[inline(always)]
-fn is_closing(bytes: &[u8]) -> bool
-    ensures { IsTrue result → IsClosing bytes.now }
-{
-    begins_with_quote(bytes) && !begins_with_quote(rest_of(bytes, 1))
-}
-
 /// The quoted text that begins what is left, if it is ASCII with no quote inside, as most are.
 #[inline(always)]
 pub(crate) fn plain_text(left: &[u8]) -> Option<Lexed>
@@ -96,10 +81,26 @@ pub(crate) fn plain_text(left: &[u8]) -> Option<Lexed>
 {
     let after = rest_of(left, 1);
     let length = PlainAscii::length(after);
-    if is_closing(rest_of(after, length)) {
+    let behind = rest_of(after, length);
+    if begins_with_quote(behind) && !begins_with_quote(rest_of(behind, 1)) {
         Some(Lexed::Text { length })
     } else {
         None
+    }
+}
+
+/// How many bytes in front are well-formed UTF-8: `Err` where no bytes to come complete the others. Profile.
+pub(crate) fn valid_length(bytes: &[u8]) -> Result<usize, usize>
+    ensures { MatchResult result
+        (λ n. IsValidTo bytes.now n × IsUtf8Front bytes.now)
+        (λ n. ¬ (IsUtf8Front bytes.now) × IsLongestUtf8 bytes.now n) }
+{
+    match validate(bytes) {
+        Ok(()) => Ok(bytes.len()),
+        Err(e) => match e.error_len() {
+            None => Ok(e.valid_up_to()),
+            Some(_) => Err(e.valid_up_to()),
+        },
     }
 }
 

@@ -22,7 +22,7 @@ fn feeds(bytes: &[u8]) -> usize
     bytes.iter().filter(|b| **b == b'\n').count()
 }
 
-// How many characters the bytes begin.
+// How many characters begin in the bytes: bytes from 0x80 to 0xBF continue one.
 fn characters(bytes: &[u8]) -> usize
     ensures { result ≡ characters bytes.now }
 {

@@ -40,19 +40,19 @@ pub(crate) fn first_set(lanes: u64) -> usize
     }
 }
 
-/// Bytes of one kind, of which runs are passed over.
-pub(crate) trait Bytes {
+/// A kind of bytes, and how long a run of them is.
+pub(crate) trait ByteKind {
     ghost of_kind: { ℕ → Bool };
 
     /// Whether a byte is of the kind.
     fn has(byte: u8) -> bool
         ensures { result ≡ of_kind byte };
 
-    /// How many of sixteen come first.
+    /// How many come first in a block of sixteen.
     fn lanes(block: u8x16) -> usize
         ensures { result ≡ prefix_len of_kind block };
 
-    /// How many of fewer than sixteen come first.
+    /// How many come first, byte by byte: for the end, which fills no block.
     #[inline(never)]
     fn last_length(left: &[u8]) -> usize
         ensures { result ≡ prefix_len of_kind left.now }
@@ -60,7 +60,7 @@ pub(crate) trait Bytes {
         left.iter().take_while(|b| Self::has(**b)).count()
     }
 
-    /// How many come first.
+    /// How many come first, block by block.
     #[inline(always)]
     fn length(left: &[u8]) -> usize
         ensures value { result ≡ prefix_len of_kind left.now }
@@ -81,7 +81,7 @@ pub(crate) trait Bytes {
 /// The bytes of a word.
 pub(crate) struct WordBytes;
 
-impl Bytes for WordBytes {
+impl ByteKind for WordBytes {
     ghost of_kind = { tokens.is_word_byte };
 
     #[inline(always)]
@@ -101,7 +101,7 @@ impl Bytes for WordBytes {
 /// The bytes of a number's run.
 pub(crate) struct RunBytes;
 
-impl Bytes for RunBytes {
+impl ByteKind for RunBytes {
     ghost of_kind = { spelling.is_run_byte };
 
     #[inline(always)]
@@ -123,7 +123,7 @@ impl Bytes for RunBytes {
 /// Digits.
 pub(crate) struct Digits;
 
-impl Bytes for Digits {
+impl ByteKind for Digits {
     ghost of_kind = { spelling.is_digit };
 
     #[inline(always)]
@@ -138,10 +138,10 @@ impl Bytes for Digits {
     }
 }
 
-/// ASCII bytes but for the quote.
+/// ASCII bytes other than the quote.
 pub(crate) struct PlainAscii;
 
-impl Bytes for PlainAscii {
+impl ByteKind for PlainAscii {
     ghost of_kind = { is_plain_ascii };
 
     #[inline(always)]

@@ -1,19 +1,20 @@
-//! One pass over the text: each token is found, and the table takes it or refuses it.
+//! From a text to its items, in one pass: each token is found, and the table takes it or refuses it.
 ghost use Rattle.std.specs.Prelude.{◌≡◌, ◌+◌, ◌≤◌, ◌<◌, length, drop, true, MatchResult, IfSome, IsTrue};
 ghost use Rattle.std.specs.List.{prefix_len};
 ghost use Rattle.crs_text.specs.Tokens.{Forms, opening, is_letter, is_white};
 ghost use Rattle.crs_text.specs.Quoted.{BeginsWith};
-ghost use Rattle.crs_text.specs.TextFault.{IsTextFault};
+ghost use Rattle.crs_text.specs.TextFault.{IsTextFault, SpellsNode};
 ghost use Rattle.crs_text.specs.Scan.{IsReached, IsFurther, IsPassed, IsTaken, IsStoppedBy, IsScanned};
 ghost use Rattle.crs_text.specs.Lexing.{IsLexed};
 
 use crate::fault::Fault;
-use crate::items::ItemKind;
+use crate::items::{ItemKind, Items};
 use crate::keyword::front_keyword;
 use crate::lexing::{Lexed, front_of, plain_number, plain_text, rest_of, token_at};
 use crate::refusal::Reason;
-use crate::runs::{Bytes, Digits, is_letter, is_white, letters_length};
+use crate::runs::{ByteKind, Digits, is_letter, is_white, letters_length, white_length};
 use crate::table::{Opened, Table};
+use std::alloc::Global;
 
 /// What begins at this place, if it is a token that the table takes; `taken` is how many bytes it has.
 ///
@@ -271,4 +272,29 @@ pub(crate) fn scan_from(table: &mut Table, text: &[u8], from: usize) -> Result<(
         advance(table, text, &mut at)?;
     }
     scan_last(table, text, at)
+}
+
+/// Most texts have fewer items than one in so many bytes; for others the table of rows grows.
+const BYTES_A_ROW: usize = 8;
+
+/// The items of a text, which borrow it.
+///
+/// `Refused`: the text is no node, with a number from 1 to 8 and the place of the first fault.
+/// `Memory`: a row of the table was refused. Time and memory are linear in the text.
+/// ISO 19162:2019, "Backus-Naur Form (BNF) syntax"; the limits are the profile's.
+pub fn read_items<'a>(alloc: Global, text: &'a [u8]) -> Result<Items<'a>, Fault>
+    ensures { MatchResult result (SpellsNode text.now) (IsTextFault text.now) }
+{
+    let rows = Vec::with_capacity(alloc, text.len() / BYTES_A_ROW).map_err(Fault::Memory)?;
+    items_in(Table::new(rows), text, white_length(text))
+}
+
+/// The items of a text, of which the table shows those before this place.
+#[inline(always)]
+pub(crate) fn items_in<'a>(mut table: Table, text: &'a [u8], at: usize) -> Result<Items<'a>, Fault>
+    requires { IsReached text.now table at }
+    ensures { MatchResult result (SpellsNode text.now) (IsTextFault text.now) }
+{
+    scan_from(&mut table, text, at)?;
+    Ok(Items::from_table(text, table))
 }

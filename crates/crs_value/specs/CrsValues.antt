@@ -1,9 +1,7 @@
 -- Geodetic, projected and vertical CRSs as they are written.
 use Rattle.std.specs.Prelude.{ℕ, List, Option}
-use Rattle.crs_value.specs.ConversionValues.{ConversionParts}
-use Rattle.crs_value.specs.DynamicValues.{DynamicParts}
+use Rattle.crs_value.specs.Values.{ConversionParts, DynamicParts, UnitParts, MeridianParts, SystemParts, TailParts}
 use Rattle.crs_value.specs.NamedValues.{IdentParts, NamedParts}
-use Rattle.crs_value.specs.Values.{UnitParts, MeridianParts, SystemParts, TailParts}
 use Rattle.crs_value.specs.declared.values.frame.Frame.{Frame}
 
 -- a geodetic or geographic CRS

@@ -1,12 +1,11 @@
 -- A bridge: arguments of one class from one on, as the program
 -- goes through them, and classes of which one is read.
 use Rattle.std.specs.Prelude.{◌≡◌, ℕ, ◌+◌, List, [], ◌∷◌, Option, Some, None}
-use Rattle.crs_decimal.specs.Number.{SameNumber, whole_number}
-use Rattle.crs_decimal.specs.Value.{Value, exact}
+use Rattle.crs_decimal.specs.Value.{SameNumber, whole_number, Value, exact}
 use Rattle.crs_text.specs.Items.{Item, rest_of, here}
 use Rattle.crs_shape.specs.declared.class.Class.{Class}
 use Rattle.crs_shape.specs.Shaped.{Shaped}
-use Rattle.crs_value.specs.BadOrder.{orders_in, ReadsOrder}
+use Rattle.crs_value.specs.Checks.{orders_in, ReadsOrder}
 use Rattle.crs_value.specs.Reading.{Each, OneIs, item_at, those}
 
 -- the arguments of a class from a found one on; none where none is found

@@ -13,8 +13,7 @@ use Rattle.crs_shape.specs.FirstFault.{first_inside, first_in_arguments}
 use Rattle.crs_shape.specs.Keywords.{every_class}
 use Rattle.crs_shape.specs.ShapeFault.{class_in}
 use Rattle.crs_shape.specs.Slots.{SlotParts, takes}
-use Rattle.crs_value.specs.Break.{IsLeast}
-use Rattle.crs_value.specs.Checks.{Breaks, BreaksAmong}
+use Rattle.crs_value.specs.Checks.{IsLeast, Breaks, BreaksAmong}
 use Rattle.crs_value.specs.Reading.{ahead, those}
 
 -- the class at a place among all

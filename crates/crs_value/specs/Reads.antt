@@ -1,21 +1,18 @@
 -- What the nodes say, field by field. Each field is read from the arguments of its class.
-use Rattle.std.specs.Prelude.{◌≡◌, ℕ, [], Option, Some, None, drop}
-use Rattle.crs_decimal.specs.Bounds.{Denotes}
+use Rattle.std.specs.Prelude.{◌≡◌, ℕ, [], Option, Some, None, drop, List, ◌∷◌}
+use Rattle.crs_decimal.specs.Spelling.{Denotes}
 use Rattle.crs_decimal.specs.Value.{Value, IsNormal, exact}
 use Rattle.crs_text.specs.Items.{Item, arguments, raw_of}
 use Rattle.crs_shape.specs.declared.class.Class.{Class}
-use Rattle.crs_shape.specs.declared.class.Class.TheVariants as class
 use Rattle.crs_shape.specs.declared.direction.Direction.{Direction}
 use Rattle.crs_shape.specs.declared.system_type.SystemType.{SystemType}
 use Rattle.crs_shape.specs.declared.unit_kind.UnitKind.{UnitKind}
 use Rattle.crs_shape.specs.Words.{SpellsWord, direction_word, system_word, unit_word}
-use Rattle.crs_value.specs.Reading.{those, ReadsFirst, ReadsOne, ReadsIfAny, ReadsAll}
-use Rattle.crs_value.specs.ReadsNamed.{ReadsTextOf, ReadsIds, ReadsNamed}
-use Rattle.crs_value.specs.Values.{UnitParts, AxisMeridianParts, AxisParts, SystemParts}
-use Rattle.crs_value.specs.Values.{EllipsoidParts, MeridianParts, DatumParts, EnsembleParts}
-use Rattle.crs_value.specs.Values.{BoxParts, ExtentParts, UsageParts, SaysSome, TailParts}
-pub use Rattle.crs_value.specs.ReadsNamed.{ReadsText, single_of, ReadsIdent}
-pub use Rattle.crs_value.specs.ReadsNamed.{ReadsTextOf, ReadsIds, ReadsNamed as ReadsMember}
+use Rattle.crs_value.specs.Reading.{those, ReadsFirst, ReadsOne, ReadsIfAny, ReadsAll, ReadsOneElse}
+use Rattle.crs_value.specs.ReadsNamed.{ReadsNamed}
+use Rattle.crs_value.specs.Values.{UnitParts, AxisMeridianParts, AxisParts, SystemParts, EllipsoidParts, MeridianParts, DatumParts, EnsembleParts, BoxParts, ExtentParts, UsageParts, SaysSome, TailParts, ParameterParts, ConversionParts, DynamicParts}
+use Rattle.crs_shape.specs.declared.class.Class.TheVariants as class
+pub use Rattle.crs_value.specs.ReadsNamed.{ReadsText, single_of, ReadsIdent, ReadsTextOf, ReadsIds, ReadsNamed as ReadsMember, ReadsNamed as ReadsMethod, ReadsNamed as ReadsGeoidModel, ReadsNamed as ReadsDeformationModel}
 
 -- ---- single items
 
@@ -176,3 +173,43 @@ pub record ReadsTail (c : Class) (item : Item) (parts : TailParts) : Type 0 wher
   pub bare_parts : ReadsBare c item parts.bare_parts
   pub identifiers : ReadsIds c item parts.identifiers
   pub remark : ReadsIfAny ReadsTextOf class.Remark c item parts.remark
+
+-- ---- what conversions say
+
+-- the classes of a parameter's unit; in a parameter the keyword `UNIT` names the plain one alone
+abbrev pub parameter_units : List Class
+parameter_units = class.PlainUnit ∷ class.LengthUnit ∷ class.AngleUnit ∷ class.ScaleUnit ∷ []
+
+-- the item is a unit of this class, and this is its value
+abbrev pub ReadsAsUnit : Class → Item → Option UnitParts → Type 0
+ReadsAsUnit d item None = ⊥
+ReadsAsUnit d item (Some unit) = ReadsUnit d item unit
+
+-- the unit is the argument of one of these classes, if there
+-- is one; a node of the right shape has one at most
+abbrev pub ReadsUnitOf : List Class → Class → Item → Option UnitParts → Type 0
+ReadsUnitOf [] c item None = Unit {0}
+ReadsUnitOf [] c item (Some unit) = ⊥
+ReadsUnitOf (d ∷ ds) c item unit = ReadsOneElse ReadsAsUnit d (ReadsUnitOf ds) c item unit
+
+-- a parameter of a conversion: its name, its number, the unit
+-- of that, if one is written, and its identifiers
+pub record ReadsParameter (c : Class) (item : Item) (parts : ParameterParts) : Type 0 where
+  pub name : ReadsTextOf c item parts.name
+  pub value : ReadsNumberOf c item parts.value
+  pub unit : ReadsUnitOf parameter_units c item parts.unit
+  pub identifiers : ReadsIds c item parts.identifiers
+
+-- a conversion: its name, its method, its parameters in order and its identifiers
+pub record ReadsConversion (c : Class) (item : Item) (parts : ConversionParts) : Type 0 where
+  pub name : ReadsTextOf c item parts.name
+  pub method : ReadsOne ReadsNamed class.Method c item parts.method
+  pub parameters : ReadsAll ReadsParameter class.Parameter c item parts.parameters
+  pub identifiers : ReadsIds c item parts.identifiers
+
+-- ---- what dynamic parts say
+
+-- a dynamic part: the epoch of its frame, and its deformation model, if one is written
+pub record ReadsDynamic (c : Class) (item : Item) (parts : DynamicParts) : Type 0 where
+  pub epoch : ReadsOne ReadsNumberOf class.FrameEpoch c item parts.epoch
+  pub model : ReadsIfAny ReadsNamed class.DeformationModel c item parts.model

@@ -1,5 +1,5 @@
 -- A bridge: what one walk sees of axes beside one another, and of a CRS from its node `CS` on.
-use Rattle.std.specs.Prelude.{◌≡◌, ◌≢◌, ℕ, ◌+◌, ◌<◌, ◌≤◌, length, ◌⊎◌, true, false}
+use Rattle.std.specs.Prelude.{◌≡◌, ℕ, ◌+◌, ◌<◌, ◌≤◌, length, ◌⊎◌, true, false}
 use Rattle.std.specs.Prelude.{List, [], ◌∷◌, Option, Some, None, Bool, not}
 use Rattle.std.specs.List.{list_any, list_all}
 use Rattle.crs_text.specs.Items.{Item, Siblings, arguments, rest_of, here, HasId}
@@ -12,19 +12,14 @@ use Rattle.crs_shape.specs.Shaped.{Shaped}
 use Rattle.crs_shape.specs.Slots.{SlotParts, one, optional, some, takes}
 use Rattle.crs_shape.specs.Dimensions.{dimensions_of}
 use Rattle.crs_shape.specs.UnitKinds.{asked_kind}
-use Rattle.crs_value.specs.declared.judging.axes.Axes.{Axes}
-use Rattle.crs_value.specs.declared.judging.axes.Places.{Places}
-use Rattle.crs_value.specs.declared.judging.axes.Seen.{Seen}
+use Rattle.crs_value.specs.declared.judging.quiet.Axes.{Axes}
+use Rattle.crs_value.specs.declared.judging.quiet.Seen.{Seen}
 use Rattle.crs_value.specs.declared.judging.quiet.Layout.{Layout}
-use Rattle.crs_value.specs.BadOrder.{orders_in}
-use Rattle.crs_value.specs.BadUnit.{units_in, Asks, Fits, BadOwnUnit}
-use Rattle.crs_value.specs.Break.{IsLeast}
-use Rattle.crs_value.specs.Checks.{once, BadSystems}
-use Rattle.crs_value.specs.FoundArguments.{HasPlace}
+use Rattle.crs_value.specs.Checks.{orders_in, units_in, Asks, Fits, BadOwnUnit, IsLeast, once, BadSystems, RepeatsAny}
+use Rattle.crs_value.specs.FoundArguments.{AreInOrder, HasPlace}
 use Rattle.crs_value.specs.Judged.{Walked}
 use Rattle.crs_value.specs.Reading.{Each, item_at, ahead, those, Holds, ReadsFirst}
 use Rattle.crs_value.specs.Reads.{HasType, ReadsDirection}
-use Rattle.crs_value.specs.RepeatedPart.{RepeatsAny}
 
 -- the item of this number, or none
 abbrev pub the_one : Item → Option ℕ → List Item
@@ -54,30 +49,11 @@ pub record Has (tree axis : Item) (seen : Seen) : Type 0 where
   pub units : units_in axis ≡ the_one tree seen.unit
   pub unit : IsShaped tree class.AxisUnit seen.unit
 
--- a number is among these
-abbrev pub Marks : Places → ℕ → Type 0
-Marks places k =
-    ((k ≡ 1) × (places.first ≡ true))
-    ⊎ (((k ≡ 2) × (places.second ≡ true)) ⊎ ((k ≡ 3) × (places.third ≡ true)))
-
--- a number wasn't among these, and is among the others as they are
-pub record IsMarked (k : ℕ) (old new : Places) : Type 0 where
-  pub fresh : ¬ (Marks old k)
-  pub there : Marks new k
-  pub keeps : (j : ℕ) → Marks old j → Marks new j
-
--- the orders of some axes with the found one of a further axis, where both are known
-abbrev pub ArePlaced : Item → Option ℕ → Option Places → Option Places → Type 0
-ArePlaced tree order old None = Unit {0}
-ArePlaced tree order None (Some new) = ⊥
-ArePlaced tree order (Some old) (Some new) =
-    (k : ℕ) × (((axis : Item) → orders_in axis ≡ the_one tree order → HasPlace k axis)
-    × IsMarked k old new)
-
 -- what was seen of some axes, and with one more that has these parts
 pub record IsNoted (tree : Item) (of : SystemType) (seen : Seen) (old new : Axes) : Type 0 where
   pub counted : new.count ≡ old.count + 1
-  pub placed : ArePlaced tree seen.order old.places new.places
+  pub placed : new.ordered ≡ true → (old.ordered ≡ true) × ((axis : Item) →
+      orders_in axis ≡ the_one tree seen.order → HasPlace new.count axis)
   pub none : new.orderless ≡ true → (old.orderless ≡ true) × (seen.order ≡ None)
   pub fit : new.own ≡ true → (old.own ≡ true) × ((cs axis : Item) →
       Asks cs axis (asked_kind of seen.direction) → units_in axis ≡ the_one tree seen.unit →
@@ -88,28 +64,10 @@ pub record IsNoted (tree : Item) (of : SystemType) (seen : Seen) (old new : Axes
   pub turned : new.angles ≡ true →
       (old.angles ≡ true) × (asked_kind of seen.direction ≡ kinds.Angle)
 
--- an axis has an order among these
-abbrev pub IsAmong : Places → Item → Type 0
-IsAmong places axis = (k : ℕ) × (HasPlace k axis × Marks places k)
-
--- two axes have different orders
-abbrev pub Differ : Item → Item → Type 0
-Differ a b = (j : ℕ) × ((k : ℕ) × (HasPlace j a × (HasPlace k b × (j ≢ k))))
-
--- any two of these axes have different orders
-abbrev pub AllDiffer : List Item → Type 0
-AllDiffer [] = Unit {0}
-AllDiffer (axis ∷ axes) = Each (Differ axis) axes × AllDiffer axes
-
--- each of these axes has an order, and these are among those that were seen and differ
-abbrev pub AreAmong : Option Places → List Item → Type 0
-AreAmong None axes = Unit {0}
-AreAmong (Some places) axes = Each (IsAmong places) axes × AllDiffer axes
-
 -- what was seen of these axes
 pub record IsSeen (of : SystemType) (axes : Axes) (before : List Item) : Type 0 where
   pub count : axes.count ≡ length before
-  pub places : AreAmong axes.places before
+  pub placed : axes.ordered ≡ true → AreInOrder 1 before
   pub none : axes.orderless ≡ true → Each (λ a. orders_in a ≡ []) before
   pub fit : axes.own ≡ true → (cs : Item) → HasType cs of →
       Each (λ a. IsLeast (BadOwnUnit cs a) None) before
@@ -121,14 +79,9 @@ pub record IsSeen (of : SystemType) (axes : Axes) (before : List Item) : Type 0 
 
 -- ---- from the node `CS` on
 
--- orders were seen, and they are among those from 1 to this number
-abbrev pub AreWithin : ℕ → Option Places → Type 0
-AreWithin n None = ⊥
-AreWithin n (Some places) = (k : ℕ) → Marks places k → (1 ≤ k) × (k ≤ n)
-
--- no axis has an order, or the orders are among those from 1 to their number
+-- no axis has an order, or the orders are those from 1 on, one after another
 abbrev pub AreOrdered : Axes → Type 0
-AreOrdered axes = (axes.orderless ≡ true) ⊎ AreWithin axes.count axes.places
+AreOrdered axes = (axes.ordered ≡ true) ⊎ (axes.orderless ≡ true)
 
 -- the units fit: each axis has its own, or none has one, and the shared one fits what all ask for
 abbrev pub UnitsFit : Item → Axes → Option ℕ → Type 0

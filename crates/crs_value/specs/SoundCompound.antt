@@ -1,14 +1,12 @@
 -- What is asked of a compound CRS by itself.
 use Rattle.std.specs.Prelude.{◌≡◌}
-use Rattle.crs_decimal.specs.Number.{SameNumber, whole_number}
-use Rattle.crs_decimal.specs.Value.{exact}
+use Rattle.crs_decimal.specs.Value.{SameNumber, whole_number, exact}
 use Rattle.crs_shape.specs.declared.system_type.SystemType.TheVariants as types
 use Rattle.crs_value.specs.declared.values.compound.Horizontal.{Horizontal}
 use Rattle.crs_value.specs.declared.values.compound.Horizontal.TheVariants as horizontal
 use Rattle.crs_value.specs.CompoundValues.{CompoundParts}
-use Rattle.crs_value.specs.Sound.{IsText}
+use Rattle.crs_value.specs.Sound.{IsText, IsTail}
 use Rattle.crs_value.specs.SoundSingle.{IsGeodetic, IsProjected, IsVertical}
-use Rattle.crs_value.specs.SoundUsages.{IsTail}
 use Rattle.crs_value.specs.Values.{SystemParts}
 
 -- a coordinate system of dimension 2

@@ -1,10 +1,9 @@
 -- What is asked of conversions by themselves.
 use Rattle.std.specs.Prelude.{IfSome}
 use Rattle.crs_decimal.specs.Value.{IsNormal}
-use Rattle.crs_value.specs.ConversionValues.{ParameterParts, ConversionParts}
+use Rattle.crs_value.specs.Values.{ParameterParts, ConversionParts}
 use Rattle.crs_value.specs.Sound.{Each, IsText, IsIdent, IsNamed, IsUnit}
-pub use Rattle.crs_value.specs.Sound.{IsNamed as IsMethod}
-pub use Rattle.crs_value.specs.Sound.{IsNamed as IsGeoidModel}
+pub use Rattle.crs_value.specs.Sound.{IsNamed as IsMethod, IsNamed as IsGeoidModel}
 
 -- what is asked of a parameter of a conversion: its unit, if it has one, may be of each kind
 pub record IsParameter (parameter : ParameterParts) : Type 0 where

@@ -1,7 +1,7 @@
 -- What is asked of dynamic parts by themselves.
 use Rattle.std.specs.Prelude.{IfSome}
 use Rattle.crs_decimal.specs.Value.{IsNormal}
-use Rattle.crs_value.specs.DynamicValues.{DynamicParts}
+use Rattle.crs_value.specs.Values.{DynamicParts}
 use Rattle.crs_value.specs.Sound.{IsNamed}
 pub use Rattle.crs_value.specs.Sound.{IsNamed as IsDeformationModel}
 

@@ -2,7 +2,7 @@
 use Rattle.std.specs.Prelude.{◌≡◌, ◌≢◌, false, [], IfSome}
 use Rattle.crs_decimal.specs.Value.{IsNormal}
 use Rattle.crs_shape.specs.declared.unit_kind.UnitKind.TheVariants as kinds
-use Rattle.crs_value.specs.BadValue.{IsAboveZero}
+use Rattle.crs_value.specs.Checks.{IsAboveZero}
 use Rattle.crs_value.specs.Sound.{Each, IsText, IsIdent, IsNamed, IsUnitOf}
 use Rattle.crs_value.specs.Values.{EllipsoidParts, MeridianParts, DatumParts, EnsembleParts}
 pub use Rattle.crs_value.specs.Sound.{IsNamed as IsMember}

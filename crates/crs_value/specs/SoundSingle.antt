@@ -6,13 +6,11 @@ use Rattle.crs_shape.specs.Dimensions.{dimensions_of}
 use Rattle.crs_value.specs.declared.values.frame.Frame.{Frame}
 use Rattle.crs_value.specs.declared.values.frame.Frame.TheVariants as frame
 use Rattle.crs_value.specs.CrsValues.{GeodeticParts, BaseParts, ProjectedParts, VerticalParts}
-use Rattle.crs_value.specs.DynamicValues.{DynamicParts}
-use Rattle.crs_value.specs.Sound.{Each, IsText, IsIdent, IsNamed, IsUnitOf}
+use Rattle.crs_value.specs.Values.{DynamicParts}
+use Rattle.crs_value.specs.Sound.{Each, IsText, IsIdent, IsNamed, IsUnitOf, IsSystem, IsAllowed, IsTail}
 use Rattle.crs_value.specs.SoundConversion.{IsConversion}
 use Rattle.crs_value.specs.SoundDynamic.{IsDynamic}
 use Rattle.crs_value.specs.SoundFrames.{IsMeridian, IsDatum, IsEnsemble}
-use Rattle.crs_value.specs.SoundSystem.{IsSystem, IsAllowed}
-use Rattle.crs_value.specs.SoundUsages.{IsTail}
 
 -- what is asked of a geodetic frame or ensemble: it has an ellipsoid
 abbrev pub IsGeodeticFrame : Frame → Type 0

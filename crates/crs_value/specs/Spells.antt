@@ -7,8 +7,7 @@ use Rattle.crs_text.specs.declared.fault.Fault.TheVariants as faults
 use Rattle.crs_shape.specs.declared.class.Class.{Class}
 use Rattle.crs_shape.specs.ShapeFault.{IsFree, AtRoot, class_of_root}
 use Rattle.crs_value.specs.declared.values.crs.Crs.{Crs}
-use Rattle.crs_value.specs.Break.{IsLeast}
-use Rattle.crs_value.specs.Checks.{Breaks}
+use Rattle.crs_value.specs.Checks.{IsLeast, Breaks}
 use Rattle.crs_value.specs.ReadsCrs.{ReadsCrs}
 
 -- the item has no fault of shape, breaks no check, and says this value

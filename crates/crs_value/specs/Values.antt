@@ -7,7 +7,7 @@ use Rattle.crs_shape.specs.declared.direction.Direction.{Direction}
 use Rattle.crs_shape.specs.declared.system_type.SystemType.{SystemType}
 use Rattle.crs_shape.specs.declared.unit_kind.UnitKind.{UnitKind}
 use Rattle.crs_value.specs.NamedValues.{NamedParts}
-pub use Rattle.crs_value.specs.NamedValues.{IdentParts, NamedParts as MemberParts}
+pub use Rattle.crs_value.specs.NamedValues.{IdentParts, NamedParts as MemberParts, NamedParts as MethodParts, NamedParts as GeoidModelParts, NamedParts as DeformationModelParts}
 
 -- a unit: its kind by its keyword, its name, and how many metres, radians or ones it has
 pub record UnitParts : Type 0 where
@@ -101,3 +101,27 @@ pub record TailParts : Type 0 where
   pub bare_parts : Option UsageParts
   pub identifiers : List IdentParts
   pub remark : Option (List ℕ)
+
+-- ---- conversions as they are written
+
+-- a parameter of a conversion: its number, and the unit of that, if one is written
+pub record ParameterParts : Type 0 where
+  pub name : List ℕ
+  pub value : Value
+  pub unit : Option UnitParts
+  pub identifiers : List IdentParts
+
+-- a conversion: how projected coordinates come from those of the base CRS
+pub record ConversionParts : Type 0 where
+  pub name : List ℕ
+  pub method : NamedParts
+  pub parameters : List ParameterParts
+  pub identifiers : List IdentParts
+
+-- ---- what a dynamic frame says, as it is written
+
+-- the epoch at which the coordinates of the frame's points hold, and the
+-- model by which they move, if one is written
+pub record DynamicParts : Type 0 where
+  pub epoch : Value
+  pub model : Option NamedParts

@@ -1,20 +1,14 @@
 //! Checks of items of the right shape: which is broken first.
-pub(crate) mod component;
+pub(crate) mod axes;
 pub(crate) mod crs;
-pub(crate) mod dynamic;
-pub(crate) mod order;
 pub(crate) mod own;
-pub(crate) mod repeats;
-pub(crate) mod single;
-pub(crate) mod system;
-pub(crate) mod unit;
 
 ghost use Rattle.std.specs.Prelude.{◌≡◌, IsTrue};
 ghost use Rattle.crs_text.specs.Items.{Item, HasId};
 ghost use Rattle.crs_text.specs.Refusal.{RefusedAt, is_refusal};
 ghost use Rattle.crs_shape.specs.declared.class.Class.{Class};
 ghost use Rattle.crs_shape.specs.Shaped.{Shaped};
-ghost use Rattle.crs_value.specs.Break.{at, AnyOf, IsLeast};
+ghost use Rattle.crs_value.specs.Checks.{at, AnyOf, IsLeast};
 ghost use Rattle.crs_value.specs.Cursor.{args, item};
 ghost use Rattle.crs_value.specs.FoundArguments.{from_found, AllShaped};
 ghost use Rattle.crs_value.specs.Least.{lesser};
@@ -54,6 +48,19 @@ pub(crate) trait Check {
         requires fits { Fits self.now items.now class }
         requires shaped { Shaped class (item_at items.now id) }
         ensures { IsLeast (Broken self.now items.now (item_at items.now id)) result };
+}
+
+// Whatever stands there, with this number.
+pub(crate) struct Refused<const NUMBER: u8>;
+
+impl<const NUMBER: u8> Check for Refused<NUMBER> {
+    ghost Fits = { λ s tree class. IsTrue (is_refusal NUMBER) };
+
+    ghost Broken = { λ s tree item f. f ≡ at NUMBER item };
+
+    fn check(&self, items: &Items<'_>, id: ItemId, _class: Class) -> Option<Refusal> {
+        Some(refusal_at(items, id, NUMBER))
+    }
 }
 
 // The first break among the items of one class from this one on.

@@ -1,7 +1,7 @@
 //! The values of nodes, each with its reading.
 
-// Ends a drop by hand: the value goes, part by part. A derived drop is expanded wherever a value is dropped, which slows
-// the proofs.
+// The body of a hand-written drop, which drops a value part by part: a derived drop is expanded wherever a value is
+// dropped, which slows the proofs.
 macro_rules! let_go {
     ($whole:ident: $kind:ident { $($part:ident),* }) => {
         let $kind { $($part: _),* } = $whole;
@@ -20,3 +20,8 @@ pub(crate) mod list;
 pub(crate) mod single;
 pub(crate) mod system;
 pub(crate) mod usage;
+
+use std::alloc::AllocError;
+
+// What is made with memory, which may be refused.
+pub(crate) type Made<T> = Result<T, AllocError>;

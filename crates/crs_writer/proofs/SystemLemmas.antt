@@ -48,12 +48,13 @@ then-system level system rest old s1 s2 e f =
     ∙ ap (λ (x : List ℕ). old ++ (44 ∷ x))
     (append_assoc head axes (others_text rest) ∙ ap (λ (x : List ℕ). head ++ x) (sym (each-text item_axis s.axes rest)))
 
--- an axis in its place, in words of its own
-pub placed : (level : Level) (system : SystemParts) (position : ℕ) (axis : AxisParts) (old new : List ℕ) →
-    new ≡ old ++ named_node (codes ",AXIS[\"") axis.name (More (word_item (direction_word axis.direction))
+-- an axis in its place behind a comma, in words of its own
+pub placed : (level : Level) (system : SystemParts) (position : ℕ) (axis : AxisParts) (old s1 new : List ℕ) → s1 ≡ old ++ 44 ∷ [] →
+    new ≡ s1 ++ named_node (codes "AXIS[\"") axis.name (More (word_item (direction_word axis.direction))
     (opt item_axis_meridian (norm_axis_meridians level axis.meridian) (opt (number_node (codes "ORDER")) (Some (whole_value position))
     (opt item_unit (norm_units level (asked_kind system.system_type axis.direction) (own_or axis.unit system.unit))
     (each item_ident (set_idents level axis.identifiers) End))))) →
     new ≡ old ++ 44 ∷ item_text (item_axis (norm_axis level system position axis))
 unfolding norm_axis
-placed level system position axis old new e = e
+placed level system position axis old s1 new e f =
+    two old (44 ∷ []) (item_text (item_axis (norm_axis level system position axis))) s1 new e f

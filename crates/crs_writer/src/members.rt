@@ -10,7 +10,7 @@ ghost use Rattle.crs_leaves.specs.Direct.{Writes};
 ghost use Rattle.crs_writer.specs.Parts.{SaysFirst};
 ghost use Rattle.crs_writer.specs.Spans.{AreInOrder, texts_at};
 
-use crate::parts::{Appended, Spell};
+use crate::parts::{Appended, Part, Spell};
 use crate::set::{FEW, MEMBER_ROOM};
 use crate::spans::{Texts, put_last};
 use crs_leaves::append;
@@ -109,7 +109,7 @@ impl<'b, T: Spell> MembersPart<T> for &'b [T] {
     }
 }
 
-/// A value that is read from a node and written by itself, as a member of a set or as a CRS.
+/// A value that is read from a node.
 pub(crate) trait ReadAs<'a>: Spell {
     ghost Reads: { Class → Item → Self → Type 0 };
 
@@ -117,6 +117,17 @@ pub(crate) trait ReadAs<'a>: Spell {
     fn write_of(node: &Node<'_, 'a>, out: &mut Vec<u8>, level: Level) -> Appended
         ensures { OnOk result (Writes (Reads node.now.class (item node.now)) (Self.spelling level)
             out.old.items out.new.items) };
+}
+
+// In another node.
+impl<'c, 'i, 'a, T: ReadAs<'a>> Part<T> for &'c Node<'i, 'a> {
+    ghost Says = { λ n v. T.Reads n.now.class (item n.now) v };
+
+    #[inline(always)]
+    fn put(&self, out: &mut Vec<u8>, level: Level) -> Appended {
+        append(out, b",")?;
+        T::write_of(*self, out, level)
+    }
 }
 
 impl<'i, 'a, T: ReadAs<'a>> MemberPart<T> for Node<'i, 'a> {

@@ -13,7 +13,6 @@ use crs_desk::{Request, RequestFault, RunFault, request};
 use fault::Fault;
 use order::WORDS;
 use runs::answer;
-use std::alloc::{AllocError, Global};
 use std::process::ExitCode;
 use std::{env, io};
 use telling::tell_bad_words;
@@ -29,8 +28,8 @@ fn main(rt: HostRuntime) -> ExitCode {
 }
 
 fn run(rt: &HostRuntime) -> Result<u8, Fault> {
-    let words = command_words(rt)?;
-    let words = texts_of(rt.alloc(), &words)?;
+    let owned: Vec<String> = env::args(rt)?.collect(rt.alloc())?;
+    let words: Vec<&str> = owned.iter().map(|word| word.as_str()).collect(rt.alloc())?;
     settled(rt, &words, request(rt.alloc(), &words))
 }
 
@@ -53,14 +52,6 @@ impl Asked for Result<Request, RequestFault> {
             Err(RequestFault::Memory(_)) => Err(Fault::Run(RunFault::Memory)),
         }
     }
-}
-
-fn command_words(rt: &HostRuntime) -> io::Result<Vec<String>> {
-    Ok(env::args(rt)?.collect(rt.alloc())?)
-}
-
-fn texts_of(alloc: Global, words: &[String]) -> Result<Vec<&str>, AllocError> {
-    words.iter().map(|word| word.as_str()).collect(alloc)
 }
 
 // Each fault is a line, and some have a second one that says more. A failure of standard error itself can't be told.

@@ -20,13 +20,9 @@ pub fn order_of(alloc: Global, options: &ExplainOptions) -> Result<Vec<StepWord>
 
 fn add_words(alloc: Global, words: &str, order: &mut Vec<StepWord>) -> Result<(), Fault> {
     for word in words.split(',') {
-        add_word(alloc, path_word(word)?, order)?;
+        let word = StepWord::new(alloc, path_word(word)?.as_bytes())?;
+        order.push(word).map_err(AllocError::from)?;
     }
-    Ok(())
-}
-
-fn add_word(alloc: Global, word: &str, order: &mut Vec<StepWord>) -> Result<(), AllocError> {
-    order.push(StepWord::new(alloc, word.as_bytes())?)?;
     Ok(())
 }
 

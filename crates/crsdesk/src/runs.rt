@@ -1,16 +1,16 @@
-//! The runs of the commands, over standard input and output, over texts, and over files, also under rules, of which the
-//! files are read first.
+//! The runs of the commands: over standard input and output, over texts and over files, with rules or without. Files of
+//! rules are read before all others.
 use crate::fault::Fault;
 use crate::input::{Input, Opener, tell_fault};
 use crate::order::order_of;
 use crate::output::Output;
 use crate::telling::{tell_of, tell_refused};
 use crs_desk::{
-    ExplainOptions, FileTask, Filling, GroupFlags, Level, LineWord, Listing, Manner, PLAIN,
-    Request, Rules, RulesFault, RulesReader, RunFault, Sink, Source, Stream, Summary, Task,
-    read_text, run_canon, run_canon_lines, run_check, run_check_lines, run_explain,
-    run_explain_pair, run_explain_pair_under, run_explain_text, run_files, run_group_listing,
-    run_same, run_same_under,
+    CanonText, CheckText, ExplainOptions, ExplainText, ExplainedForms, FileTask, Filling, ForText,
+    GroupFlags, Level, LineWord, Listing, Manner, OfLine, PLAIN, PairAnswer, Request, Rules,
+    RulesFault, RulesReader, RunFault, SameForms, Sink, Source, Stream, Summary, Task, Told, Under,
+    read_text, run_canon, run_check, run_files, run_group_listing, run_lines, run_same, run_text,
+    write_answer,
 };
 use std::path::Path;
 
@@ -46,37 +46,21 @@ macro_rules! reader {
 /// Answers what a line asks for. The level is judged before anything is read.
 pub fn answer(rt: &HostRuntime, wanted: &Request) -> Result<u8, Fault> {
     match wanted {
-        Request::Canon(level) => over_standard!(rt, text => run_canon(level_of(level)?)),
+        Request::Canon(level) => {
+            let level = level_of(level)?;
+            over_standard!(rt, text => run_canon(level))
+        }
         Request::Check => over_standard!(rt, text => run_check()),
         Request::Same(first, second, level) => {
             let level = level_of(level)?;
-            same_texts(rt, level, None, text_of(rt, first), text_of(rt, second))
+            to_standard!(rt, run_same(level, text_of(rt, first), text_of(rt, second)))
         }
         Request::Group(level) => group(rt, level_of(level)?, PLAIN),
-        Request::GroupListed(level, flags) => group(rt, level_of(level)?, listing_of(flags)),
-        Request::CanonLines(level) => {
-            over_standard!(rt, lines => run_canon_lines(level_of(level)?))
+        Request::Texts(task, texts, rules) => {
+            under(rt, task, Words::Texts(texts.as_slice()), rules.as_slice())
         }
-        Request::CheckLines => over_standard!(rt, lines => run_check_lines()),
-        Request::Explain(options) => {
-            judge(rt, options)?;
-            over_standard!(rt, text => run_explain(manner_of(options)))
-        }
-        Request::ExplainText(text, options) => {
-            judge(rt, options)?;
-            explain_text(rt, manner_of(options), text)
-        }
-        Request::ExplainPair(first, second, options) => {
-            let level = judge(rt, options)?;
-            let (first, second) = (text_of(rt, first), text_of(rt, second));
-            explain_texts(rt, options, level, None, first, second)
-        }
-        Request::Files(task, names) => under(rt, task, true, names.as_slice(), &[]),
-        Request::FilesUnder(task, names, rules) => {
-            under(rt, task, true, names.as_slice(), rules.as_slice())
-        }
-        Request::TextsUnder(task, texts, rules) => {
-            under(rt, task, false, texts.as_slice(), rules.as_slice())
+        Request::Files(task, names, rules) => {
+            under(rt, task, Words::Files(names.as_slice()), rules.as_slice())
         }
     }
 }
@@ -84,21 +68,15 @@ pub fn answer(rt: &HostRuntime, wanted: &Request) -> Result<u8, Fault> {
 // The level of a task, of which the words are judged.
 fn judged_level(rt: &HostRuntime, task: &Task) -> Result<Level, Fault> {
     match task {
-        Task::Canon(level)
-        | Task::CanonLines(level)
-        | Task::Group(level)
-        | Task::GroupListed(level, _)
-        | Task::Same(level) => level_of(level),
-        Task::Explain(options) | Task::ExplainPair(options) => judge(rt, options),
-        Task::Check | Task::CheckLines => Ok(Level::Full),
+        Task::Canon(level, _) | Task::Group(level, _) | Task::Same(level) => level_of(level),
+        Task::Check(_) => Ok(Level::Full),
+        Task::Explain(options) => {
+            let level = level_of(&options.level)?;
+            // Words that have no bearing on one text are judged, too.
+            order_of(rt.alloc(), options)?;
+            Ok(level)
+        }
     }
-}
-
-// Judges the words that have no bearing on one text, and answers the level among them.
-fn judge(rt: &HostRuntime, options: &ExplainOptions) -> Result<Level, Fault> {
-    let level = level_of(&options.level)?;
-    order_of(rt.alloc(), options)?;
-    Ok(level)
 }
 
 fn listing_of(flags: &GroupFlags) -> Listing {
@@ -127,141 +105,145 @@ fn manner_of(options: &ExplainOptions) -> Manner {
 
 // The catalogue of the lines of standard input, with these groups. Status 1 where a line was refused.
 fn group(rt: &HostRuntime, level: Level, listing: Listing) -> Result<u8, Fault> {
-    over_standard!(rt, text => run_group_listing(level, listing).map(status_of))
+    let status = |summary: Summary| u8::from(summary.refused > 0);
+    over_standard!(rt, text => run_group_listing(level, listing).map(status))
 }
 
-fn status_of(summary: Summary) -> u8 {
-    u8::from(summary.refused > 0)
-}
-
-// A task at its level. Rules are lent to what it asks: a function that owns them is slow to prove.
+// The words that a task is asked of.
 #[derive(Clone, Copy)]
-struct TaskAt<'a> {
-    rt: &'a HostRuntime,
-    task: &'a Task,
-    level: Level,
+enum Words<'a> {
+    // Texts, or standard input where there are none.
+    Texts(&'a [LineWord]),
+    // Names of files.
+    Files(&'a [LineWord]),
 }
 
-impl TaskAt<'_> {
-    // What the task asks of files, or else of texts.
-    fn answer(
-        self,
-        are_files: bool,
-        words: &[LineWord],
-        rules: Option<&Rules>,
-    ) -> Result<u8, Fault> {
-        if are_files {
-            return self.files(words, rules);
-        }
-        self.texts(words, rules)
-    }
+// A task at its level, under rules where there are some. They are lent: a function that owns them is slow to prove.
+#[derive(Clone, Copy)]
+struct TaskAt<'r, 't, 'u> {
+    rt: &'r HostRuntime,
+    task: &'t Task,
+    level: Level,
+    rules: Option<&'u Rules>,
+}
 
-    // What the task asks of files, under rules where there are some.
-    fn files(self, names: &[LineWord], rules: Option<&Rules>) -> Result<u8, Fault> {
-        let (rt, level) = (self.rt, self.level);
-        let each = match (self.task, rules) {
-            (Task::Same(_), _) | (Task::ExplainPair(_), _) => return self.two_files(names, rules),
-            (Task::Explain(options), _) => FileTask::Explain(manner_of(options)),
-            (Task::Check, _) => FileTask::Check,
-            (Task::CheckLines, _) => FileTask::CheckLines,
-            (Task::Canon(_), None) => FileTask::Canon(level),
-            (Task::Canon(_), Some(rules)) => FileTask::Form(level, rules),
-            (Task::CanonLines(_), None) => FileTask::CanonLines(level),
-            (Task::CanonLines(_), Some(rules)) => FileTask::FormLines(level, rules),
-            (Task::Group(_), None) => FileTask::Group(level, PLAIN),
-            (Task::Group(_), Some(rules)) => FileTask::FormGroup(level, PLAIN, rules),
-            (Task::GroupListed(_, flags), None) => FileTask::Group(level, listing_of(flags)),
-            (Task::GroupListed(_, flags), Some(rules)) => {
-                FileTask::FormGroup(level, listing_of(flags), rules)
+impl TaskAt<'_, '_, '_> {
+    // What the task asks of words: of two files what it asks of their texts, and the faults of both are told.
+    fn answer(self, words: Words<'_>) -> Result<u8, Fault> {
+        let rt = self.rt;
+        match (words, self.task) {
+            (Words::Texts([]), _) => self.standard(),
+            (Words::Texts([text]), Task::Explain(options)) => {
+                let how = manner_of(options);
+                let command = ExplainText { how };
+                let text = text_of(rt, text);
+                to_standard!(rt, write_answer(&ForText { command, text }))
             }
-        };
-        to_standard!(rt, run_files(each, names, &Opener { rt: *rt }))
-    }
-
-    // What the task asks of the texts of two files: a request for two names two. The faults of both are told.
-    fn two_files(self, names: &[LineWord], rules: Option<&Rules>) -> Result<u8, Fault> {
-        let [first, second, ..] = names else {
-            return Err(Fault::Told);
-        };
-        let first = file_text(self.rt, first.as_str());
-        let second = file_text(self.rt, second.as_str());
-        self.two_texts(&first?, &second?, rules)
-    }
-
-    // What the task asks of texts.
-    fn texts(self, texts: &[LineWord], rules: Option<&Rules>) -> Result<u8, Fault> {
-        match (self.task, texts) {
-            (Task::Explain(options), [text]) => explain_text(self.rt, manner_of(options), text),
-            (_, [first, second, ..]) => {
-                let (first, second) = (text_of(self.rt, first), text_of(self.rt, second));
-                self.two_texts(first, second, rules)
+            (Words::Texts([first, second, ..]), _) => {
+                self.two_texts(text_of(rt, first), text_of(rt, second))
             }
+            (Words::Files([first, second, ..]), Task::Same(_) | Task::Explain(_)) => {
+                let first = file_text(rt, first.as_str());
+                let second = file_text(rt, second.as_str());
+                self.two_texts(&first?, &second?)
+            }
+            (Words::Files(names), _) => self.files(names),
+            // No line asks for this.
             _ => Err(Fault::Told),
         }
     }
 
-    fn two_texts(self, a: &[u8], b: &[u8], rules: Option<&Rules>) -> Result<u8, Fault> {
+    // What the task asks of standard input, without rules.
+    fn standard(self) -> Result<u8, Fault> {
         let (rt, level) = (self.rt, self.level);
         match self.task {
-            Task::ExplainPair(options) => explain_texts(rt, options, level, rules, a, b),
-            _ => same_texts(rt, level, rules, a, b),
+            Task::Canon(_, false) => over_standard!(rt, text => run_canon(level)),
+            Task::Canon(_, true) => {
+                let command = CanonText { level };
+                over_standard!(rt, lines => run_lines(&OfLine { command }))
+            }
+            Task::Check(false) => over_standard!(rt, text => run_check()),
+            Task::Check(true) => {
+                let command = CheckText;
+                over_standard!(rt, lines => run_lines(&OfLine { command }))
+            }
+            Task::Group(_, flags) => group(rt, level, listing_of(flags)),
+            Task::Explain(options) => {
+                let how = manner_of(options);
+                over_standard!(rt, text => run_text(ExplainText { how }))
+            }
+            // Nor for this: `same` names two.
+            Task::Same(_) => Err(Fault::Told),
+        }
+    }
+
+    // What the task asks of each file by itself.
+    fn files(self, names: &[LineWord]) -> Result<u8, Fault> {
+        let (rt, level) = (self.rt, self.level);
+        let each = match (self.task, self.rules) {
+            (Task::Canon(_, false), None) => FileTask::Canon(level),
+            (Task::Canon(_, false), Some(rules)) => FileTask::Form(level, rules),
+            (Task::Canon(_, true), None) => FileTask::CanonLines(level),
+            (Task::Canon(_, true), Some(rules)) => FileTask::FormLines(level, rules),
+            (Task::Check(false), _) => FileTask::Check,
+            (Task::Check(true), _) => FileTask::CheckLines,
+            (Task::Group(_, flags), None) => FileTask::Group(level, listing_of(flags)),
+            (Task::Group(_, flags), Some(rules)) => {
+                FileTask::FormGroup(level, listing_of(flags), rules)
+            }
+            (Task::Explain(options), _) => FileTask::Explain(manner_of(options)),
+            // Nor for this: two files are compared with one another.
+            (Task::Same(_), _) => return Err(Fault::Told),
+        };
+        to_standard!(rt, run_files(each, names, &Opener { rt: *rt }))
+    }
+
+    // What the task asks of two texts: whether they spell the same CRS, or all parts in which they differ.
+    fn two_texts(self, a: &[u8], b: &[u8]) -> Result<u8, Fault> {
+        let (rt, level) = (self.rt, self.level);
+        if let Task::Explain(options) = self.task {
+            let words = order_of(rt.alloc(), options)?;
+            let how = manner_of(options);
+            return self.explain(Told { how, words: &words }, a, b);
+        }
+        match self.rules {
+            Some(rules) => {
+                let under = Under { level, rules };
+                to_standard!(rt, write_answer(&SameForms { under, a, b }))
+            }
+            None => to_standard!(rt, run_same(level, a, b)),
+        }
+    }
+
+    fn explain(self, told: Told<'_>, a: &[u8], b: &[u8]) -> Result<u8, Fault> {
+        let (rt, level) = (self.rt, self.level);
+        match self.rules {
+            Some(rules) => {
+                let under = Under { level, rules };
+                to_standard!(rt, write_answer(&ExplainedForms { told, under, a, b }))
+            }
+            None => to_standard!(rt, write_answer(&PairAnswer { told, level, a, b })),
         }
     }
 }
 
-// What is asked of files, or else of texts, under the rules of files where there are some. The level is judged before
-// anything is read.
-fn under(
-    rt: &HostRuntime,
-    task: &Task,
-    are_files: bool,
-    words: &[LineWord],
-    names: &[LineWord],
-) -> Result<u8, Fault> {
+// What a task asks of words, under the rules of these files where there are some. The level is judged before anything is
+// read.
+fn under(rt: &HostRuntime, task: &Task, words: Words<'_>, rules: &[LineWord]) -> Result<u8, Fault> {
     let level = judged_level(rt, task)?;
-    let asked = TaskAt { rt, task, level };
-    if names.is_empty() {
-        return asked.answer(are_files, words, None);
-    }
-    let rules = rules_of(rt, names)?;
-    asked.answer(are_files, words, Some(&rules))
-}
-
-// Whether two texts spell the same CRS, or the same under rules.
-fn same_texts(
-    rt: &HostRuntime,
-    level: Level,
-    rules: Option<&Rules>,
-    a: &[u8],
-    b: &[u8],
-) -> Result<u8, Fault> {
-    match rules {
-        Some(rules) => to_standard!(rt, run_same_under(level, rules, a, b)),
-        None => to_standard!(rt, run_same(level, a, b)),
-    }
-}
-
-// What a text spells, or why it is refused, explained.
-fn explain_text(rt: &HostRuntime, how: Manner, word: &LineWord) -> Result<u8, Fault> {
-    let text = text_of(rt, word);
-    to_standard!(rt, run_explain_text(how, text))
-}
-
-// All parts in which two texts differ, or differ under rules.
-fn explain_texts(
-    rt: &HostRuntime,
-    options: &ExplainOptions,
-    level: Level,
-    rules: Option<&Rules>,
-    a: &[u8],
-    b: &[u8],
-) -> Result<u8, Fault> {
-    let how = manner_of(options);
-    let order = order_of(rt.alloc(), options)?;
-    match rules {
-        Some(rules) => to_standard!(rt, run_explain_pair_under(how, &order, level, rules, a, b)),
-        None => to_standard!(rt, run_explain_pair(how, &order, level, a, b)),
-    }
+    let read = if rules.is_empty() {
+        None
+    } else {
+        Some(rules_of(rt, rules)?)
+    };
+    let rules = read.as_ref();
+    let asked = TaskAt {
+        rt,
+        task,
+        level,
+        rules,
+    };
+    asked.answer(words)
 }
 
 // The text of a file. Its fault is told.
@@ -318,15 +300,10 @@ fn text_of<'w>(rt: &HostRuntime, word: &'w LineWord) -> &'w [u8] {
 // The rules of these files together. The fault of the first that has one is told.
 fn rules_of(rt: &HostRuntime, names: &[LineWord]) -> Result<Rules, Fault> {
     let mut reader = RulesReader::new(rt.alloc());
-    read_all(rt, names, &mut reader)?;
-    Ok(reader.into_rules())
-}
-
-fn read_all(rt: &HostRuntime, names: &[LineWord], reader: &mut RulesReader) -> Result<(), Fault> {
     for name in names {
-        read_rules(rt, name.as_str(), reader)?;
+        read_rules(rt, name.as_str(), &mut reader)?;
     }
-    Ok(())
+    Ok(reader.into_rules())
 }
 
 fn read_rules(rt: &HostRuntime, name: &str, reader: &mut RulesReader) -> Result<(), Fault> {

@@ -45,17 +45,10 @@ fn meaning_of(number: u64) -> &'static str {
         42 => "no node or word that may stand here",
         43 => "a node of another kind than the first of its set",
         44 => "a node that stood in a set before",
-        _ => match u8::try_from(number) {
-            Ok(number) => name_of(number),
-            Err(_) => "",
-        },
-    }
-}
-
-fn name_of(number: u8) -> &'static str {
-    match Refusal::new(number, 0) {
-        Some(refusal) => refusal.name(),
-        None => "",
+        _ => u8::try_from(number)
+            .ok()
+            .and_then(|number| Refusal::new(number, 0))
+            .map_or("", |refusal| refusal.name()),
     }
 }
 

@@ -1,13 +1,9 @@
 //! Identifiers, units, axes, usages and their extents, conversions and geoid models.
 ghost use Rattle.crs_shape.specs.declared.unit_kind.UnitKind.TheVariants as kinds;
-ghost use Rattle.crs_value.specs.Sound.{IsAxis, IsAxisMeridian, IsIdent, IsUnit};
+ghost use Rattle.crs_value.specs.Sound.{IsAxis, IsAxisMeridian, IsIdent, IsUnit, IsBox, IsExtent, IsUsage};
 ghost use Rattle.crs_value.specs.SoundConversion.{IsConversion, IsGeoidModel, IsMethod, IsParameter};
-ghost use Rattle.crs_value.specs.SoundUsages.{IsBox, IsExtent, IsUsage};
-ghost use Rattle.crs_matching.specs.SameConversions.{SameGeoidModel, SameParameter};
+ghost use Rattle.crs_matching.specs.SameParts.{SameGeoidModel, SameParameter, SameAxisAlone, SameAxisMeridian, SameUnit, SameBox, SameExtent, SameUsage};
 ghost use Rattle.crs_matching.specs.SameIdents.{SameIdent};
-ghost use Rattle.crs_matching.specs.SameSystems.{SameAxisAlone, SameAxisMeridian};
-ghost use Rattle.crs_matching.specs.SameUnits.{SameUnit};
-ghost use Rattle.crs_matching.specs.SameUsages.{SameBox, SameExtent, SameUsage};
 ghost use Rattle.crs_same.specs.Parts.{AreSame};
 ghost use Rattle.crs_same.specs.PartsOfCrs.{parts_of_conversion, parts_of_method};
 ghost use Rattle.crs_normal.specs.AxisAlone.{IsSpelledAxis};

@@ -12,7 +12,7 @@ use Rattle.crs_value.specs.declared.values.level.Level.{Level}
 use Rattle.crs_value.specs.Values.{IdentParts}
 use Rattle.crs_normal.specs.LowerLaws.{LowerLaws}
 use Rattle.crs_normal.specs.Prelude.{item_ellipsoid, norm_ellipsoid, number_item}
-use Rattle.crs_normal.specs.SpelledUnits.{item_unit, metre, norm_length, norm_unit, norm_units}
+use Rattle.crs_normal.specs.SpelledItems.{item_unit, metre, norm_length, norm_unit, norm_units}
 use Rattle.crs_normal.proofs.members.IdentLemmas.{none-form}
 use Rattle.crs_normal.proofs.made.IdentLemmas.{ids-of, ids-orderly}
 use Rattle.crs_normal.proofs.made.NodeLemmas.{IsAcceptedNormal, Made, as-argument}

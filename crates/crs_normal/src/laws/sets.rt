@@ -2,18 +2,17 @@
 ghost use Rattle.std.specs.Prelude.{◌≡◌, ◌↔◌, ℕ, Bool, List, map};
 ghost use Rattle.std.specs.List.{list_all};
 ghost use Rattle.crs_text.specs.Written.{item_text};
-ghost use Rattle.crs_value.specs.ConversionValues.{GeoidModelParts, ParameterParts};
+ghost use Rattle.crs_value.specs.Values.{GeoidModelParts, ParameterParts, IdentParts, MemberParts, UsageParts};
 ghost use Rattle.crs_value.specs.declared.values.level.Level.{Level};
 ghost use Rattle.crs_value.specs.Sound.{Each};
 ghost use Rattle.crs_value.specs.SoundConversion.{IsParameter};
-ghost use Rattle.crs_value.specs.Values.{IdentParts, MemberParts, UsageParts};
 ghost use Rattle.crs_normal.specs.Ascending.{Ascends, IsIn};
 ghost use Rattle.crs_normal.specs.Decides.{SetsDecide};
 ghost use Rattle.crs_normal.specs.Ordered.{StaysInOrder, in_order};
 ghost use Rattle.crs_normal.specs.SpelledConversions.{item_geoid_model, item_parameter};
 ghost use Rattle.crs_normal.specs.SpelledConversions.{norm_parameter, set_parameters};
 ghost use Rattle.crs_normal.specs.SpelledFrames.{item_member};
-ghost use Rattle.crs_normal.specs.SpelledUnits.{item_ident};
+ghost use Rattle.crs_normal.specs.SpelledItems.{item_ident};
 ghost use Rattle.crs_normal.specs.SpelledUsages.{item_usage};
 
 use crate::laws::lower::lower_laws;

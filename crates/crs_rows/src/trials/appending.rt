@@ -98,10 +98,14 @@ pub fn try_path<'a>(
 
 /// `Canonical::write` of a part of the CRS that a text spells, or `Set::write` of its identifiers.
 pub fn try_part(rt: &(impl Print + AllocGlobal), part: &str, text: &[u8]) -> io::Result<()> {
-    about_crs(
-        rt.alloc(),
-        text,
-        |crs| run_append(rt, &PartOf { crs, part }),
-    )
-    .map_err(unmade)?
+    about_crs(rt.alloc(), text, |crs| run_part(rt, PartOf { crs, part })).map_err(unmade)?
+}
+
+// A CRS that has no such part is no input of the call.
+fn run_part(rt: &(impl Print + AllocGlobal), part: PartOf<'_, '_>) -> io::Result<()> {
+    let mut own = Vec::new(rt.alloc());
+    match append_part(part.crs, part.part, Level::Full, &mut own) {
+        Some(_) => run_append(rt, &part),
+        None => Err(unusable()),
+    }
 }

@@ -191,9 +191,6 @@ pub flaw_within : (r : Reason) (left : List ℕ) (skip : ℕ) → IsFlaw r left 
 flaw_within NotUtf8 left skip f = let l : length left ≡ suc (length f.0) = ap length f.2 in let w : f.5 ≤ length f.0 = f.6.within in omega (arith, f.7)
 flaw_within r left skip f = grind arith
 
-pub place_within : (text : List ℕ) (at : ℕ) (r : Reason) (skip : ℕ) → at ≤ length text → IsFlaw r (drop at text) skip → at + skip ≤ length text
-place_within text at r skip le f = omega (arith, flaw_within r (drop at text) skip f, length-drop at text)
-
 pub taken_some : (text : List ℕ) (at n : ℕ) (before behind : Flat) → IsTaken text at before behind n → 0 < n
 taken_some text at n before behind t =
     omega (arith, forms_shorter (length text) t.token (drop at text) (drop (at + n) text) t.forms, length-drop at text, length-drop (at + n) text)

@@ -4,8 +4,7 @@ use Rattle.crs_decimal.specs.Prelude.{Denotes, Value, IsNormal, exact}
 use Rattle.crs_text.specs.Prelude.{Item, arguments, rest_of, raw_of, here, RefusedAt}
 use Rattle.crs_shape.specs.declared.class.Class.{Class}
 use Rattle.crs_shape.specs.Prelude.{Shaped}
-use Rattle.crs_value.specs.BadValue.{IsAboveZero, NotAbove, IsNegative}
-use Rattle.crs_value.specs.Break.{AnyOf, IsLeast}
+use Rattle.crs_value.specs.Checks.{IsAboveZero, NotAbove, IsNegative, AnyOf, IsLeast}
 use Rattle.crs_value.specs.FoundArguments.{from_found, AllShaped}
 use Rattle.crs_value.specs.Least.{lesser}
 use Rattle.crs_value.specs.Reading.{item_at, those, Holds, IsFound, TakesOne}

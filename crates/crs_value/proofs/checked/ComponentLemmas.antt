@@ -4,8 +4,7 @@ use Rattle.crs_decimal.specs.Prelude.{SameNumber, whole_number, Value, exact}
 use Rattle.crs_text.specs.Prelude.{Item, arguments, RefusedAt}
 use Rattle.crs_shape.specs.declared.class.Class.{Class}
 use Rattle.crs_shape.specs.declared.class.Class.TheVariants as class
-use Rattle.crs_value.specs.BadComponent.{IsNotPlane, IsNotHorizontal, BadComponent}
-use Rattle.crs_value.specs.Break.{at, FirstIs, IsLeast}
+use Rattle.crs_value.specs.Checks.{IsNotPlane, IsNotHorizontal, BadComponent, at, FirstIs, IsLeast}
 use Rattle.crs_value.specs.Reading.{item_at, those, IsFound}
 use Rattle.crs_value.specs.Reads.{HasDimension}
 use Rattle.crs_value.proofs.checked.CheckLemmas.{DenotesOne}

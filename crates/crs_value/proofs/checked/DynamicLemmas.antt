@@ -3,8 +3,7 @@ use Rattle.std.proofs.Common.{Option, None, Some}
 use Rattle.crs_text.specs.Prelude.{Item, arguments, RefusedAt}
 use Rattle.crs_shape.specs.declared.class.Class.{Class}
 use Rattle.crs_shape.specs.declared.class.Class.TheVariants as class
-use Rattle.crs_value.specs.BadDynamic.{BadDynamic, HasEnsemble, IsUnsteady}
-use Rattle.crs_value.specs.Break.{AnyOf, IsLeast}
+use Rattle.crs_value.specs.Checks.{BadDynamic, HasEnsemble, IsUnsteady, AnyOf, IsLeast}
 use Rattle.crs_value.specs.Reading.{those}
 
 -- beside an ensemble each dynamic part breaks it

@@ -4,11 +4,7 @@ use Rattle.crs_text.specs.Prelude.{Item, arguments, RefusedAt}
 use Rattle.crs_shape.specs.declared.class.Class.{Class}
 use Rattle.crs_shape.specs.declared.class.Class.TheVariants as class
 use Rattle.crs_shape.specs.Prelude.{dimensions_of}
-use Rattle.crs_value.specs.BadDynamic.{BadDynamic}
-use Rattle.crs_value.specs.RepeatedPart.{RepeatsAny}
-use Rattle.crs_value.specs.UnknownWord.{UnknownType, UnknownDirection}
-use Rattle.crs_value.specs.Break.{AnyOf, IsLeast}
-use Rattle.crs_value.specs.Checks.{anchors, OfCrs, OfCompound, OfUnit, HasSystem, Own, BreaksAmong}
+use Rattle.crs_value.specs.Checks.{BadDynamic, RepeatsAny, UnknownType, UnknownDirection, AnyOf, IsLeast, anchors, OfCrs, OfCompound, OfUnit, HasSystem, Own, BreaksAmong}
 use Rattle.crs_value.proofs.checked.LeastLemmas.{least-beside}
 use Rattle.crs_value.specs.Reading.{those}
 

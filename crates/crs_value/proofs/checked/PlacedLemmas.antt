@@ -5,8 +5,7 @@ use Rattle.crs_text.specs.Prelude.{Item, rest_of, here, RefusedAt}
 use Rattle.crs_shape.specs.declared.class.Class.{Class}
 use Rattle.crs_shape.specs.declared.class.Class.TheVariants as class
 use Rattle.crs_shape.specs.Prelude.{Shaped}
-use Rattle.crs_value.specs.BadOrder.{orders_in, LacksOrder, ReadsOrder, HasThis, OneHas, IsBadOrder, BadOrders, BadOrder}
-use Rattle.crs_value.specs.Break.{AnyOf, IsLeast}
+use Rattle.crs_value.specs.Checks.{orders_in, LacksOrder, ReadsOrder, HasThis, OneHas, IsBadOrder, BadOrders, BadOrder, AnyOf, IsLeast}
 use Rattle.crs_value.specs.FoundArguments.{from_found, AllShaped, HasPlace, AreInOrder}
 use Rattle.crs_value.specs.Reading.{item_at, those, Holds, IsFound, ReadsFirst}
 use Rattle.crs_value.proofs.found.ArgumentLemmas.{SlotsBound, arguments-few, nothing, found-is, found-holds, all-shaped}
@@ -20,15 +19,6 @@ Symmetric = (a b : Number) → SameNumber a b → SameNumber b a
 abbrev pub Transitive : Type 0
 Transitive = (a b c : Number) → SameNumber a b → SameNumber b c → SameNumber a c
 
--- an axis has one order at most
-pub place-has : SlotsBound → (tree axis : Item) (order n : ℕ) (value : Value) → Shaped class.Axis axis → IsFound tree class.Axis class.Order (orders_in axis) (Some order) →
-    ReadsOrder (item_at tree order) value → SameNumber (exact value) (whole_number n) → HasPlace n axis
-place-has law tree axis order n value shaped found reads same =
-    let few : length (orders_in axis) ≤ 1 = arguments-few law class.Axis class.Order axis refl shaped in
-    let many = ap length found.0 in
-    let none = nothing (those class.Axis class.Order (rest_of (here tree order))) (omega (arith, few, many)) in
-    record { order = item_at tree order; only = found.0 ∙ ap (λ xs. item_at tree order ∷ xs) none; value = value; reads = reads; same = same }
-
 -- ---- axes before, whose orders are below a number
 
 abbrev Below : ℕ → List Item → Type 0
@@ -39,7 +29,7 @@ below-on : (n : ℕ) (axes : List Item) (axis : Item) → Below n axes → HasPl
 below-on n [] axis h p = ((n, (omega arith, p)), tt)
 below-on n (x ∷ axes) axis h p = ((h.0.0, (omega (arith, h.0.1.0), h.0.1.1)), below-on n axes axis h.1 p)
 
-pub place-one : DenotesOne → Symmetric → Transitive → (k n : ℕ) (axis : Item) (v : Value) → HasPlace k axis → HasThis v axis → SameNumber (exact v) (whole_number n) → k ≡ n
+place-one : DenotesOne → Symmetric → Transitive → (k n : ℕ) (axis : Item) (v : Value) → HasPlace k axis → HasThis v axis → SameNumber (exact v) (whole_number n) → k ≡ n
 place-one law symmetric transitive k n axis v p h same =
     let P : List Item → Type 0 = λ xs. ReadsFirst ReadsOrder xs v in
     let e : p.value ≡ v = order-one law p.order p.value v p.reads (subst P p.only h) in
@@ -74,24 +64,3 @@ lack-none n (axis ∷ axes) placed f (inr h) = lack-none (n + 1) axes placed.1 f
 pub placed-none : DenotesOne → Symmetric → Transitive → (axes : List Item) → AreInOrder 1 axes → IsLeast (BadOrder axes) None
 placed-none law symmetric transitive axes placed =
     order-all axes None (lack-none 1 axes placed) (bad-none law symmetric transitive (length axes) 1 [] axes (omega arith) (omega arith) tt placed)
-
--- ---- the axes one after another
-
-pub record Placing (tree : Item) (parent : Class) (whole : List Item) (place : ℕ) (at : Option ℕ) : Type 0 where
-  pub holds : Holds tree at
-  pub shaped : AllShaped class.Axis (from_found tree parent class.Axis at)
-  pub keeps : AreInOrder (place + 1) (from_found tree parent class.Axis at) → AreInOrder 1 whole
-
-pub placing-first : (tree : Item) (parent : Class) (at : Option ℕ) → Holds tree at → AllShaped class.Axis (from_found tree parent class.Axis at) →
-    Placing tree parent (from_found tree parent class.Axis at) 0 at
-placing-first tree parent at holds shaped = record { holds = holds; shaped = shaped; keeps = λ h. h }
-
-pub placing-on : (tree : Item) (parent : Class) (whole : List Item) (place id : ℕ) (at : Option ℕ) → Placing tree parent whole place (Some id) → HasPlace (place + 1) (item_at tree id) →
-    IsFound tree parent class.Axis (those parent class.Axis (rest_of (here tree id))) at → Placing tree parent whole (place + 1) at
-placing-on tree parent whole place id at so has found =
-    let e = found-is tree parent class.Axis (those parent class.Axis (rest_of (here tree id))) at found in
-    record {
-      holds = found-holds tree parent class.Axis _ at found;
-      shaped = all-shaped class.Axis _ _ e so.shaped.1;
-      keeps = λ h. so.keeps (has, subst (AreInOrder (place + 1 + 1)) (sym e) h);
-    }

@@ -6,9 +6,7 @@ use Rattle.crs_shape.specs.declared.class.Class.{Class}
 use Rattle.crs_shape.specs.declared.class.Class.TheVariants as class
 use Rattle.crs_shape.specs.declared.system_type.SystemType.{SystemType}
 use Rattle.crs_shape.specs.Prelude.{IsOneOf}
-use Rattle.crs_value.specs.AxisCount.{AxisCount}
-use Rattle.crs_value.specs.BadSystem.{BadSystem}
-use Rattle.crs_value.specs.Break.{IsLeast}
+use Rattle.crs_value.specs.Checks.{AxisCount, BadSystem, IsLeast}
 use Rattle.crs_value.specs.Reading.{is_a, those, ReadsFirst}
 use Rattle.crs_value.specs.Reads.{HasType, HasDimension, ReadsNumber, ReadsType}
 use Rattle.crs_value.proofs.checked.CheckLemmas.{DenotesOne, number-one}

@@ -7,8 +7,7 @@ use Rattle.crs_shape.specs.declared.class.Class.TheVariants as class
 use Rattle.crs_shape.specs.declared.unit_kind.UnitKind.{UnitKind}
 use Rattle.crs_shape.specs.declared.unit_kind.UnitKind.TheVariants as kinds
 use Rattle.crs_shape.specs.Prelude.{asked_kind, SpellsWord, unit_word, Shaped}
-use Rattle.crs_value.specs.BadUnit.{Asks, Fits, units_in, Misfits, BadOwnUnit, HasOwnUnit, BadShared, BadUnit, AllAsk}
-use Rattle.crs_value.specs.Break.{at, AnyOf, IsLeast}
+use Rattle.crs_value.specs.Checks.{Asks, Fits, units_in, Misfits, BadOwnUnit, HasOwnUnit, BadShared, BadUnit, AllAsk, at, AnyOf, IsLeast}
 use Rattle.crs_value.specs.FoundArguments.{from_found, AllShaped}
 use Rattle.crs_value.specs.Least.{lesser}
 use Rattle.crs_value.specs.Reading.{item_at, those, Holds, IsFound, IsReading}

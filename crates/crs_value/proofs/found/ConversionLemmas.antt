@@ -4,8 +4,7 @@ use Rattle.crs_text.specs.Prelude.{Item, arguments}
 use Rattle.crs_shape.specs.declared.class.Class.{Class}
 use Rattle.crs_shape.specs.declared.class.Class.TheVariants as class
 use Rattle.crs_value.specs.Reading.{those, ReadsElse}
-use Rattle.crs_value.specs.Reads.{ReadsUnit}
-use Rattle.crs_value.specs.ReadsConversion.{ReadsAsUnit, ReadsUnitOf, parameter_units}
+use Rattle.crs_value.specs.Reads.{ReadsUnit, ReadsAsUnit, ReadsUnitOf, parameter_units}
 use Rattle.crs_value.specs.Values.{UnitParts}
 
 -- what the rest of the classes says is what all of them say

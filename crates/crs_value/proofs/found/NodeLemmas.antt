@@ -1,6 +1,7 @@
 -- Loops over the arguments of one class: what has been read so far.
 use Rattle.std.proofs.Common.{◌≡◌, ℕ, zero, suc, ◌+◌, ◌<◌, ◌≤◌, length, drop, Option, Some, None, List, [], ◌∷◌, ◌++◌, refl, sym, subst, add-one, arith}
 use Rattle.std.proofs.lemmas.List.{append-nil}
+use Rattle.std.specs.Option.{IsSome}
 use Rattle.crs_text.specs.Prelude.{Item, arguments, rest_of, here}
 use Rattle.crs_shape.specs.declared.class.Class.{Class}
 use Rattle.crs_shape.specs.Prelude.{least, slots_of, Shaped}
@@ -34,6 +35,10 @@ going-end {V = V} R tree parent c whole list going =
     let Q : List V → Type 0 = λ vs. ReadsEach R whole vs in subst Q (append-nil list) (going.reads [] tt)
 
 -- ---- the value in an option
+
+pub some-there : {V : Type 0} (o : Option V) → (o ≡ None → ⊥) → IsSome o
+some-there None none = absurd (none refl)
+some-there (Some value) none = refl
 
 pub reads-first : {V : Type 0} (R : Item → V → Type 0) (item : Item) (items more : List Item) (value : V) → items ≡ item ∷ more → R item value → ReadsFirst R items value
 reads-first {V = V} R item items more value e h = let P : List Item → Type 0 = λ xs. ReadsFirst R xs value in subst P (sym e) h

@@ -5,8 +5,7 @@ use Rattle.crs_text.specs.Prelude.{Item, leaf, node, RefusedAt, AreFormed}
 use Rattle.crs_shape.specs.declared.class.Class.{Class}
 use Rattle.crs_shape.specs.Prelude.{is_keyword, first_named, root_classes, root_named, Shaped, IsFree, Inside, AtRoot, class_of_root}
 use Rattle.crs_value.specs.declared.values.crs.Crs.{Crs}
-use Rattle.crs_value.specs.Break.{IsLeast}
-use Rattle.crs_value.specs.Checks.{Breaks, IsSound}
+use Rattle.crs_value.specs.Checks.{IsLeast, Breaks, IsSound}
 use Rattle.crs_value.specs.FoundArguments.{IsAmong}
 use Rattle.crs_value.specs.ReadsCrs.{ReadsCrs}
 use Rattle.crs_value.specs.Spells.{SpellsCrs, BreaksFirst, RefusesCrs}

@@ -4,8 +4,7 @@ use Rattle.crs_text.specs.Prelude.{Item, RefusedAt, SpellsNode, RefusesText, Are
 use Rattle.crs_shape.specs.declared.class.Class.{Class}
 use Rattle.crs_shape.specs.Prelude.{IsFree, AtRoot, IsPlaceIn, IsShapeNumber, class_of_root, misplaced}
 use Rattle.crs_value.specs.declared.values.crs.Crs.{Crs}
-use Rattle.crs_value.specs.Break.{IsLeast}
-use Rattle.crs_value.specs.Checks.{Breaks}
+use Rattle.crs_value.specs.Checks.{IsLeast, Breaks}
 use Rattle.crs_value.specs.ReadsCrs.{ReadsCrs}
 use Rattle.crs_value.specs.Spells.{SpellsCrs}
 use Rattle.crs_value.specs.SpellsText.{Spells, IsRefusalNumber, Refuses}

@@ -14,8 +14,7 @@ use Rattle.crs_shape.specs.contracts.unit_kind.UnitKind.{the_type}
 use Rattle.crs_shape.specs.declared.unit_kind.UnitKind.{UnitKind}
 use Rattle.crs_shape.specs.declared.unit_kind.UnitKind.TheVariants as kinds
 use Rattle.crs_shape.specs.Prelude.{IsOneOf, SpellsWord, direction_word, every_direction, every_type, system_word}
-use Rattle.crs_value.specs.BadValue.{IsAboveZero}
-use Rattle.crs_value.specs.BadOrder.{IsPosition}
+use Rattle.crs_value.specs.Checks.{IsAboveZero, IsPosition}
 use Rattle.crs_value.specs.Reading.{OneIs}
 use Rattle.crs_value.specs.Sound.{Each, Suits}
 use Rattle.crs_value.proofs.one.WordLemmas.{IsSpelled, direction-spelled, spelled, type-spelled}

@@ -8,9 +8,7 @@ use Rattle.crs_value.specs.declared.values.compound.Horizontal.{Horizontal}
 use Rattle.crs_value.specs.declared.values.compound.Horizontal.TheVariants as horizontal
 use Rattle.crs_value.specs.declared.values.crs.Crs.{Crs}
 use Rattle.crs_value.specs.declared.values.crs.Crs.TheVariants as crs
-use Rattle.crs_value.specs.BadComponent.{IsNotEllipsoidal, IsNotPlane, IsNotHorizontal, BadComponent, BadComponents}
-use Rattle.crs_value.specs.Break.{at, AnyOf, FirstIs}
-use Rattle.crs_value.specs.Checks.{horizontal_classes, Own, IsSound}
+use Rattle.crs_value.specs.Checks.{IsNotEllipsoidal, IsNotPlane, IsNotHorizontal, BadComponent, BadComponents, at, AnyOf, FirstIs, horizontal_classes, Own, IsSound}
 use Rattle.crs_value.specs.Reading.{Each, those, ReadsFirst}
 use Rattle.crs_value.specs.Reads.{ReadsHead}
 use Rattle.crs_value.specs.ReadsCrs.{IsGeodeticClass, ReadsVertical, ReadsProjected, ReadsAsHorizontal, ReadsCompound, ReadsCrs}

@@ -3,8 +3,7 @@ use Rattle.std.proofs.Common.{Some, None, List, [], ◌∷◌, IfSome}
 use Rattle.crs_shape.specs.declared.class.Class.{Class}
 use Rattle.crs_shape.specs.declared.class.Class.TheVariants as class
 use Rattle.crs_value.specs.Reading.{Each}
-use Rattle.crs_value.specs.Reads.{IsUnitClass}
-use Rattle.crs_value.specs.ReadsConversion.{ReadsAsUnit, ReadsUnitOf, ReadsParameter, ReadsConversion}
+use Rattle.crs_value.specs.Reads.{IsUnitClass, ReadsAsUnit, ReadsUnitOf, ReadsParameter, ReadsConversion}
 use Rattle.crs_value.specs.ReadsNamed.{ReadsNamed}
 use Rattle.crs_value.specs.Sound.{IsNamed, IsUnit}
 use Rattle.crs_value.specs.SoundConversion.{IsParameter, IsConversion}

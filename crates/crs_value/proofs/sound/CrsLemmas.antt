@@ -12,8 +12,7 @@ use Rattle.crs_value.specs.declared.values.frame.Frame.{Frame}
 use Rattle.crs_value.specs.declared.values.frame.Frame.TheVariants as frames
 use Rattle.crs_value.specs.Checks.{HasSystem, IsSound, Own}
 use Rattle.crs_value.specs.Reading.{is_same, those, Requires, ReadsOptional, ReadsOne}
-use Rattle.crs_value.specs.Reads.{ReadsUnit, ReadsEllipsoid, ReadsMeridian, ReadsDatum, ReadsEnsemble, ReadsSystem}
-use Rattle.crs_value.specs.ReadsConversion.{ReadsConversion}
+use Rattle.crs_value.specs.Reads.{ReadsUnit, ReadsEllipsoid, ReadsMeridian, ReadsDatum, ReadsEnsemble, ReadsSystem, ReadsConversion}
 use Rattle.crs_value.specs.ReadsNamed.{ReadsNamed}
 use Rattle.crs_value.specs.ReadsCrs.{ReadsAsDatum, ReadsAsEnsemble, ReadsFrame, ReadsGeodeticFrame, IsGeodeticClass, ReadsGeodetic, ReadsBase, ReadsProjected, ReadsVertical}
 use Rattle.crs_value.specs.Sound.{IsUnitOf, IsNamed}

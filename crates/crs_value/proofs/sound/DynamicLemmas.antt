@@ -6,14 +6,11 @@ use Rattle.crs_shape.specs.declared.class.Class.{Class}
 use Rattle.crs_shape.specs.declared.class.Class.TheVariants as class
 use Rattle.crs_value.specs.declared.values.frame.Frame.{Frame}
 use Rattle.crs_value.specs.declared.values.frame.Frame.TheVariants as frames
-use Rattle.crs_value.specs.BadDynamic.{BadDynamic, HasEnsemble, IsUnsteady}
-use Rattle.crs_value.specs.Break.{at, AnyOf}
-use Rattle.crs_value.specs.Checks.{IsSound}
-use Rattle.crs_value.specs.DynamicValues.{DynamicParts}
+use Rattle.crs_value.specs.Checks.{BadDynamic, HasEnsemble, IsUnsteady, at, AnyOf, IsSound}
+use Rattle.crs_value.specs.Values.{DynamicParts}
 use Rattle.crs_value.specs.Reading.{those, ReadsElse, ReadsFirst, ReadsOptional}
-use Rattle.crs_value.specs.Reads.{ReadsNumberOf}
+use Rattle.crs_value.specs.Reads.{ReadsNumberOf, ReadsDynamic}
 use Rattle.crs_value.specs.ReadsCrs.{ReadsAsDatum, ReadsAsEnsemble, ReadsFrame}
-use Rattle.crs_value.specs.ReadsDynamic.{ReadsDynamic}
 use Rattle.crs_value.specs.ReadsNamed.{ReadsNamed}
 use Rattle.crs_value.specs.Sound.{IsNamed}
 use Rattle.crs_value.specs.SoundDynamic.{IsDynamic}

@@ -6,9 +6,7 @@ use Rattle.crs_text.specs.Prelude.{Item, arguments, RefusedAt}
 use Rattle.crs_shape.specs.declared.class.Class.{Class}
 use Rattle.crs_shape.specs.declared.class.Class.TheVariants as class
 use Rattle.crs_shape.specs.declared.unit_kind.UnitKind.TheVariants as kinds
-use Rattle.crs_value.specs.BadValue.{IsAboveZero, NotAbove, IsNegative}
-use Rattle.crs_value.specs.Break.{at, AnyOf}
-use Rattle.crs_value.specs.Checks.{Own}
+use Rattle.crs_value.specs.Checks.{IsAboveZero, NotAbove, IsNegative, at, AnyOf, Own}
 use Rattle.crs_value.specs.Reading.{those, Requires, ReadsFirst, ReadsEach}
 use Rattle.crs_value.specs.Reads.{ReadsNumber, ReadsNumberOf, ReadsUnit, ReadsEllipsoid, ReadsMeridian, ReadsDatum, ReadsEnsemble}
 use Rattle.crs_value.specs.ReadsNamed.{ReadsNamed}

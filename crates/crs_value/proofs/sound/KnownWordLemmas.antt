@@ -12,8 +12,7 @@ use Rattle.crs_shape.specs.declared.direction.Direction.{Direction}
 use Rattle.crs_shape.specs.declared.system_type.SystemType.{SystemType}
 use Rattle.crs_shape.specs.declared.unit_kind.UnitKind.{UnitKind}
 use Rattle.crs_shape.specs.declared.unit_kind.UnitKind.TheVariants as kinds
-use Rattle.crs_value.specs.Break.{at}
-use Rattle.crs_value.specs.Checks.{Own, IsSound}
+use Rattle.crs_value.specs.Checks.{at, Own, IsSound}
 use Rattle.crs_value.specs.Reading.{those}
 use Rattle.crs_value.specs.Reads.{ReadsType, ReadsDirection, ReadsKind, IsUnitClass}
 use Rattle.crs_value.proofs.found.ArgumentLemmas.{same_class}

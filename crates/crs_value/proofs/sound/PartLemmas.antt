@@ -12,9 +12,7 @@ use Rattle.crs_shape.specs.declared.class.Class.TheVariants as class
 use Rattle.crs_shape.specs.Prelude.{keywords_of, Shaped, SpellsWord, unit_word}
 use Rattle.crs_shape.specs.declared.unit_kind.UnitKind.{UnitKind}
 use Rattle.crs_shape.specs.declared.unit_kind.UnitKind.TheVariants as kinds
-use Rattle.crs_value.specs.BadValue.{IsAboveZero, NotAbove}
-use Rattle.crs_value.specs.Break.{at, AnyOf}
-use Rattle.crs_value.specs.Checks.{OfUnit, Own, IsSound}
+use Rattle.crs_value.specs.Checks.{IsAboveZero, NotAbove, at, AnyOf, OfUnit, Own, IsSound}
 use Rattle.crs_value.specs.Reading.{those, ReadsFirst, ReadsOptional, ReadsElse, ReadsEach}
 use Rattle.crs_value.specs.Reads.{ReadsNumber, ReadsKind, ReadsNumberOf, IsUnitClass, ReadsUnit}
 use Rattle.crs_value.specs.ReadsNamed.{ReadsText, ReadsTextOf, single_of, ReadsIdent, ReadsIds, ReadsNamed}

@@ -8,14 +8,10 @@ use Rattle.crs_shape.specs.declared.system_type.SystemType.{SystemType}
 use Rattle.crs_shape.specs.declared.unit_kind.UnitKind.{UnitKind}
 use Rattle.crs_shape.specs.declared.unit_kind.UnitKind.TheVariants as kinds
 use Rattle.crs_shape.specs.Prelude.{IsOneOf, dimensions_of, asked_kind}
-use Rattle.crs_value.specs.BadOrder.{IsPosition, orders_in, SomeHasOrder, AllHaveOrder, LacksOrder, OneHas, ReadsOrder, IsBadOrder, BadOrders, BadOrder}
-use Rattle.crs_value.specs.BadUnit.{Asks, Fits, units_in, Misfits, BadOwnUnit, IsSuperfluous, HasOwnUnit, AllAsk, SharedFits, BadUnit}
-use Rattle.crs_value.specs.Break.{at, AnyOf}
-use Rattle.crs_value.specs.Checks.{OfHead, BadSystems, HasSystem, IsSound}
+use Rattle.crs_value.specs.Checks.{IsPosition, orders_in, SomeHasOrder, AllHaveOrder, LacksOrder, OneHas, ReadsOrder, IsBadOrder, BadOrders, BadOrder, Asks, Fits, units_in, Misfits, BadOwnUnit, IsSuperfluous, HasOwnUnit, AllAsk, SharedFits, BadUnit, at, AnyOf, OfHead, BadSystems, HasSystem, IsSound}
 use Rattle.crs_value.specs.Reading.{OneIs, those, Requires, ReadsFirst, ReadsOptional, ReadsEach}
 use Rattle.crs_value.specs.Reads.{HasType, ReadsKind, ReadsNumberOf, ReadsUnit, ReadsAxis, ReadsHead, ReadsSystem}
-use Rattle.crs_value.specs.Sound.{Each, IsIdent, Suits, IsAxisUnit, IsAxis}
-use Rattle.crs_value.specs.SoundSystem.{AreOrders, AreDistinct, HasOrders, SuitsAxis, SuitsAll, HasUnits, IsSystem}
+use Rattle.crs_value.specs.Sound.{Each, IsIdent, Suits, IsAxisUnit, IsAxis, AreOrders, AreDistinct, HasOrders, SuitsAxis, SuitsAll, HasUnits, IsSystem}
 use Rattle.crs_value.specs.Values.{UnitParts, AxisParts, SystemParts}
 use Rattle.crs_value.proofs.checked.OwnLemmas.{own-of-crs}
 use Rattle.crs_value.proofs.found.NodeLemmas.{read-some}

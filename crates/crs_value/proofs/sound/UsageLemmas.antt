@@ -7,9 +7,8 @@ use Rattle.crs_shape.specs.Prelude.{one_if, how_many, most, is_bounded, Allowed,
 use Rattle.crs_shape.specs.declared.unit_kind.UnitKind.TheVariants as kinds
 use Rattle.crs_value.specs.Reading.{is_same, those}
 use Rattle.crs_value.specs.Reads.{ReadsTextOf, ReadsUnit, LacksUsage, ReadsBare, ReadsBox, ReadsExtent, ReadsUsage, ReadsTail}
-use Rattle.crs_value.specs.Sound.{IsUnitOf}
+use Rattle.crs_value.specs.Sound.{IsUnitOf, IsBox, IsExtent, IsUsage, IsTail}
 use Rattle.crs_value.specs.Checks.{IsSound}
-use Rattle.crs_value.specs.SoundUsages.{IsBox, IsExtent, IsUsage, IsTail}
 use Rattle.crs_value.specs.Values.{UsageParts, SaysSome}
 use Rattle.crs_value.proofs.found.ArgumentLemmas.{SlotsBound, arguments-few, nothing, those-first}
 use Rattle.crs_value.proofs.sound.KnownWordLemmas.{not-leaf}

@@ -4,9 +4,8 @@ use Rattle.crs_text.specs.Prelude.{Item, arguments, rest_of, here, IsAt}
 use Rattle.crs_shape.specs.declared.class.Class.{Class}
 use Rattle.crs_shape.specs.declared.class.Class.TheVariants as class
 use Rattle.crs_shape.specs.Prelude.{is_bounded, most, Shaped, class_in, slots_of, is_class}
-use Rattle.crs_value.specs.declared.judging.axes.Seen.{Seen}
-use Rattle.crs_value.specs.BadOrder.{orders_in}
-use Rattle.crs_value.specs.BadUnit.{units_in}
+use Rattle.crs_value.specs.declared.judging.quiet.Seen.{Seen}
+use Rattle.crs_value.specs.Checks.{orders_in, units_in}
 use Rattle.crs_value.specs.Reading.{item_at, is_a, is_same, those, IsFound}
 use Rattle.crs_value.specs.Reads.{ReadsDirection}
 use Rattle.crs_value.specs.Seen.{the_one, Has, IsBehindName, IsShaped}

@@ -10,15 +10,13 @@ use Rattle.crs_shape.specs.declared.class.Class.TheVariants as class
 use Rattle.crs_shape.specs.declared.system_type.SystemType.{SystemType}
 use Rattle.crs_shape.specs.Prelude.{dimensions_of, first_in_arguments, Shaped, SlotParts, takes, one, some, optional}
 use Rattle.crs_value.specs.declared.judging.quiet.Layout.{Layout}
-use Rattle.crs_value.specs.declared.judging.axes.Axes.{Axes}
-use Rattle.crs_value.specs.declared.judging.axes.Seen.{Seen}
-use Rattle.crs_value.specs.Break.{IsLeast}
-use Rattle.crs_value.specs.Checks.{once, BreaksAmong, OfHead}
+use Rattle.crs_value.specs.declared.judging.quiet.Axes.{Axes}
+use Rattle.crs_value.specs.declared.judging.quiet.Seen.{Seen}
+use Rattle.crs_value.specs.Checks.{IsLeast, once, BreaksAmong, OfHead, RepeatsAny}
 use Rattle.crs_value.specs.FoundArguments.{AllShaped}
 use Rattle.crs_value.specs.Judged.{AllLeave, Gives, Leaves, Walked}
 use Rattle.crs_value.specs.Reading.{Each, item_at, is_a, ahead, those, Holds}
 use Rattle.crs_value.specs.Reads.{HasType}
-use Rattle.crs_value.specs.RepeatedPart.{RepeatsAny}
 use Rattle.crs_value.specs.Seen.{are_free, is_head, is_tail, the_one, AreOrdered, Has, IsLaid, IsNoted, IsQuiet, IsSeen, UnitsFit}
 use Rattle.crs_value.proofs.found.ArgumentLemmas.{ahead_at, all-shaped, arguments-shaped, each-both, holds_at, those-first}
 use Rattle.crs_value.proofs.checked.CheckLemmas.{DenotesOne}

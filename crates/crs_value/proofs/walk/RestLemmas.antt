@@ -9,27 +9,19 @@ use Rattle.crs_shape.specs.declared.system_type.SystemType.{SystemType}
 use Rattle.crs_shape.specs.declared.unit_kind.UnitKind.{UnitKind}
 use Rattle.crs_shape.specs.declared.unit_kind.UnitKind.TheVariants as kinds
 use Rattle.crs_shape.specs.Prelude.{IsOneOf, class_in}
-use Rattle.crs_value.specs.declared.judging.axes.Axes.{Axes}
-use Rattle.crs_value.specs.declared.judging.axes.Places.{Places}
-use Rattle.crs_value.specs.BadDynamic.{BadDynamic}
-use Rattle.crs_value.specs.BadOrder.{orders_in, ReadsOrder, OneHas, LacksOrder, SomeHasOrder, IsBadOrder, BadOrders, BadOrder}
-use Rattle.crs_value.specs.BadUnit.{Asks, AllAsk, IsSuperfluous, HasOwnUnit, BadOwnUnit, BadUnit}
-use Rattle.crs_value.specs.Break.{AnyOf, IsLeast}
-use Rattle.crs_value.specs.Checks.{BreaksAmong, HasSystem, OfHead, BadSystems, Own}
-use Rattle.crs_value.specs.FoundArguments.{HasPlace}
+use Rattle.crs_value.specs.declared.judging.quiet.Axes.{Axes}
+use Rattle.crs_value.specs.Checks.{BadDynamic, orders_in, ReadsOrder, OneHas, LacksOrder, SomeHasOrder, IsBadOrder, BadOrders, BadOrder, Asks, AllAsk, IsSuperfluous, HasOwnUnit, BadOwnUnit, BadUnit, AnyOf, IsLeast, BreaksAmong, HasSystem, OfHead, BadSystems, Own, IsRepeated, RepeatsAny}
 use Rattle.crs_value.specs.Least.{lesser}
 use Rattle.crs_value.specs.Reading.{Each, OneIs, item_at, is_a, ahead, those, ReadsFirst}
 use Rattle.crs_value.specs.Reads.{HasType}
-use Rattle.crs_value.specs.RepeatedPart.{IsRepeated, RepeatsAny}
-use Rattle.crs_value.specs.Seen.{the_one, Marks, IsAmong, Differ, AllDiffer, AreAmong, AreWithin, AreOrdered, IsSeen, UnitsFit, IsQuiet, rank, Climbs}
+use Rattle.crs_value.specs.Seen.{the_one, AreOrdered, IsSeen, UnitsFit, IsQuiet, rank, Climbs}
 use Rattle.crs_value.specs.WholeNumbers.{IsWholeOf}
 use Rattle.crs_value.proofs.checked.OwnLemmas.{crs-of-own, own-of-crs}
 use Rattle.crs_value.proofs.found.FirstArgumentsLemmas.{one-more}
 use Rattle.crs_value.proofs.found.ArgumentLemmas.{class-is, each-as, each-on}
 use Rattle.crs_value.proofs.checked.CheckLemmas.{DenotesOne}
 use Rattle.crs_value.proofs.checked.LeastLemmas.{either-is, least-beside}
-use Rattle.crs_value.proofs.checked.OrderLemmas.{wrong-none}
-use Rattle.crs_value.proofs.checked.PlacedLemmas.{Symmetric, Transitive, place-one}
+use Rattle.crs_value.proofs.checked.PlacedLemmas.{Symmetric, Transitive, placed-none}
 use Rattle.crs_value.proofs.checked.SystemLemmas.{system-none, count-none}
 
 -- ---- the node `CS`
@@ -54,38 +46,6 @@ none-has [] h n before f k = k
 none-has (axis ∷ axes) h n before f (inl k) = let P : List Item → Type 0 = λ xs. AnyOf (IsBadOrder n before) xs f in subst P h.0 k
 none-has (axis ∷ axes) h n before f (inr k) = none-has axes h.1 n (before ++ axis ∷ []) f k
 
--- the number in an axis's order is one
-place-is : DenotesOne → Symmetric → Transitive → (j k : ℕ) (axis : Item) → HasPlace j axis → (p : HasPlace k axis) → j ≡ k
-place-is law symmetric transitive j k axis q p =
-    let P : List Item → Type 0 = λ xs. ReadsFirst ReadsOrder xs p.value in
-    place-one law symmetric transitive j k axis p.value q (subst P (sym p.only) p.reads) p.same
-
--- none of the axes before has the order of one that differs from each
-none-same : DenotesOne → Symmetric → Transitive → (k : ℕ) (axis : Item) → (p : HasPlace k axis) → (before : List Item) → Each (λ b. Differ b axis) before →
-    OneHas p.value before → ⊥
-none-same law symmetric transitive k axis p [] h has = has
-none-same law symmetric transitive k axis p (b ∷ before) h (inl has) =
-    let d = h.0 in
-    let same : d.0 ≡ k = place-one law symmetric transitive d.0 k b p.value d.1.1.0 has p.same in
-    let other : d.1.0 ≡ k = place-is law symmetric transitive d.1.0 k axis d.1.1.1.0 p in
-    d.1.1.1.1 (same ∙ sym other)
-none-same law symmetric transitive k axis p (b ∷ before) h (inr has) = none-same law symmetric transitive k axis p before h.1 has
-
-among-none : DenotesOne → Symmetric → Transitive → (n : ℕ) (places : Places) → ((k : ℕ) → Marks places k → (1 ≤ k) × (k ≤ n)) → (axes before : List Item) →
-    Each (IsAmong places) axes → AllDiffer axes → Each (λ b. Each (Differ b) axes) before → (f : RefusedAt) → BadOrders n before axes f → ⊥
-among-none law symmetric transitive n places within [] before among differ others f h = h
-among-none law symmetric transitive n places within (axis ∷ axes) before among differ others f (inl h) =
-    let P : List Item → Type 0 = λ xs. AnyOf (IsBadOrder n before) xs f in
-    let p = among.0.1.0 in
-    let w = within among.0.0 among.0.1.1 in
-    ⊎_elim
-    (wrong-none law n before p.order p.value p.reads (among.0.0, (w.0, w.1, p.same))
-    (none-same law symmetric transitive among.0.0 axis p before (each-as (λ b h. h.0) before others)) f)
-    (λ k. k) (subst P p.only h)
-among-none law symmetric transitive n places within (axis ∷ axes) before among differ others f (inr h) =
-    among-none law symmetric transitive n places within axes (before ++ axis ∷ []) among.1 differ.1
-    (each-on (λ b. Each (Differ b) axes) before axis (each-as (λ b h. h.1) before others) differ.0) f h
-
 some-has : (axes : List Item) → Each (λ a. orders_in a ≡ []) axes → SomeHasOrder axes → ⊥
 some-has [] h k = k
 some-has (axis ∷ axes) h (inl k) = k h.0
@@ -98,16 +58,9 @@ any-none B (item ∷ items) h f (inl k) = h.0 f k
 any-none B (item ∷ items) h f (inr k) = any-none B items h.1 f k
 
 pub ordered-none : DenotesOne → Symmetric → Transitive → (of : SystemType) (seen : Axes) (axes : List Item) → IsSeen of seen axes → AreOrdered seen → IsLeast (BadOrder axes) None
-ordered-none law symmetric transitive of seen axes s (inl e) f (inl h) = some-has axes (s.none e) h.0
-ordered-none law symmetric transitive of seen axes s (inl e) f (inr h) = none-has axes (s.none e) (length axes) [] f h.1
-ordered-none law symmetric transitive of seen axes s (inr w) f h = by seen.places w s.places h
-  where
-    by : (o : Option Places) → AreWithin seen.count o → AreAmong o axes → BadOrder axes f → ⊥
-    by None w among h = w
-    by (Some places) w among (inl h) = any-none LacksOrder axes (each-as (λ a m g k. let e : [] ≡ m.1.0.order ∷ [] = sym k.1 ∙ m.1.0.only in cc) axes among.0) f h.1
-    by (Some places) w among (inr h) =
-        among-none law symmetric transitive (length axes) places
-        (λ k m. let b = w k m in (b.0, let e = s.count in let q = b.1 in omega (arith, e, q))) axes [] among.0 among.1 tt f h.1
+ordered-none law symmetric transitive of seen axes s (inl e) f h = placed-none law symmetric transitive axes (s.placed e) f h
+ordered-none law symmetric transitive of seen axes s (inr e) f (inl h) = some-has axes (s.none e) h.0
+ordered-none law symmetric transitive of seen axes s (inr e) f (inr h) = none-has axes (s.none e) (length axes) [] f h.1
 
 -- ---- units
 

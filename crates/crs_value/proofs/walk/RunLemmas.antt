@@ -1,34 +1,22 @@
 -- Axes one after another, with what is seen of them.
-use Rattle.std.proofs.Common.{◌≡◌, ℕ, length, true, false, Option, Some, None, List, [], ◌∷◌, ◌++◌, refl, sym, ◌∙◌, ap, subst, length-append, arith}
+use Rattle.std.proofs.Common.{◌≡◌, ℕ, ◌+◌, length, true, false, Option, Some, None, List, [], ◌∷◌, ◌++◌, refl, sym, ◌∙◌, ap, subst, length-append, arith}
 use Rattle.crs_text.specs.Prelude.{Item}
 use Rattle.crs_shape.specs.declared.system_type.SystemType.{SystemType}
 use Rattle.crs_shape.specs.declared.unit_kind.UnitKind.TheVariants as kinds
-use Rattle.crs_value.specs.declared.judging.axes.Axes.{Axes}
-use Rattle.crs_value.specs.declared.judging.axes.Places.{Places}
-use Rattle.crs_value.specs.declared.judging.axes.Seen.{Seen}
-use Rattle.crs_value.specs.BadOrder.{orders_in}
-use Rattle.crs_value.specs.BadUnit.{units_in, Asks, BadOwnUnit}
-use Rattle.crs_value.specs.Break.{IsLeast}
+use Rattle.crs_value.specs.declared.judging.quiet.Axes.{Axes}
+use Rattle.crs_value.specs.declared.judging.quiet.Seen.{Seen}
+use Rattle.crs_value.specs.Checks.{orders_in, units_in, Asks, BadOwnUnit, IsLeast}
+use Rattle.crs_value.specs.FoundArguments.{AreInOrder, HasPlace}
 use Rattle.crs_value.specs.Reading.{Each}
-use Rattle.crs_value.specs.Seen.{the_one, Has, Marks, ArePlaced, IsNoted, IsAmong, Differ, AllDiffer, AreAmong, IsSeen}
-use Rattle.crs_value.proofs.found.ArgumentLemmas.{each-as, each-on}
+use Rattle.crs_value.specs.Seen.{the_one, Has, IsNoted, IsSeen}
+use Rattle.crs_value.proofs.found.ArgumentLemmas.{each-on}
 
 -- ---- orders
 
-differ-on : (xs : List Item) (x : Item) → AllDiffer xs → Each (λ a. Differ a x) xs → AllDiffer (xs ++ x ∷ [])
-differ-on [] x h d = (tt, tt)
-differ-on (y ∷ ys) x h d = (each-on (Differ y) ys x h.0 d.0, differ-on ys x h.1 d.1)
-
-places-on : (tree : Item) (order : Option ℕ) (old new : Option Places) (xs : List Item) (x : Item) → ArePlaced tree order old new → orders_in x ≡ the_one tree order →
-    AreAmong old xs → AreAmong new (xs ++ x ∷ [])
-places-on tree order None None xs x h e a = tt
-places-on tree order (Some old) None xs x h e a = tt
-places-on tree order None (Some new) xs x h e a = absurd h
-places-on tree order (Some old) (Some new) xs x h e a =
-    let p = h.1.0 x e in (
-      each-on (IsAmong new) xs x (each-as (λ y k. (k.0, (k.1.0, h.1.1.keeps k.0 k.1.1))) xs a.0) (h.0, (p, h.1.1.there)),
-      differ-on xs x a.1 (each-as (λ y k. (k.0, (h.0, (k.1.0, (p, λ e. h.1.1.fresh (subst (Marks old) e k.1.1)))))) xs a.0),
-    )
+in-order-on : (n : ℕ) (xs : List Item) (x : Item) → AreInOrder n xs → HasPlace (n + length xs) x → AreInOrder n (xs ++ x ∷ [])
+in-order-on n [] x h p = let e : n + 0 ≡ n = omega arith in (subst (λ k. HasPlace k x) e p, tt)
+in-order-on n (y ∷ ys) x h p =
+    let e : n + length (y ∷ ys) ≡ n + 1 + length ys = omega arith in (h.0, in-order-on (n + 1) ys x h.1 (subst (λ k. HasPlace k x) e p))
 
 -- ---- what is seen
 
@@ -36,7 +24,7 @@ pub seen-on : (tree : Item) (of : SystemType) (seen : Seen) (old new : Axes) (be
     IsSeen of new (before ++ x ∷ [])
 seen-on tree of seen old new before x noted has s = record {
   count = counted;
-  places = places-on tree seen.order old.places new.places before x noted.placed has.orders s.places;
+  placed = λ e. in-order-on 1 before x (s.placed (noted.placed e).0) (subst (λ k. HasPlace k x) next ((noted.placed e).1 x has.orders));
   none = λ e. each-on (λ a. orders_in a ≡ []) before x (s.none (noted.none e).0) (has.orders ∙ ap (the_one tree) (noted.none e).1);
   fit = λ e cs t. each-on (λ a. IsLeast (BadOwnUnit cs a) None) before x (s.fit (noted.fit e).0 cs t)
       ((noted.fit e).1 cs x (of, (seen.direction, (t, has.direction, refl))) has.units);
@@ -50,13 +38,16 @@ seen-on tree of seen old new before x noted has s = record {
     counted : new.count ≡ length (before ++ x ∷ [])
     counted = let e = length-append before (x ∷ []) in let k = noted.counted in let n = s.count in omega (arith, e, k, n)
 
+    next : new.count ≡ 1 + length before
+    next = let k = noted.counted in let n = s.count in omega (arith, k, n)
+
 pub nothing-seen : (of : SystemType) → IsSeen of (record {
   count = 0;
-  places = Some (record { first = false; second = false; third = false });
+  ordered = true;
   orderless = true;
   own = true;
   alone = true;
   lengths = true;
   angles = true;
 }) []
-nothing-seen of = record { count = refl; places = (tt, tt); none = λ e. tt; fit = λ e cs t. tt; free = λ e. tt; long = λ e cs t. tt; turned = λ e cs t. tt }
+nothing-seen of = record { count = refl; placed = λ e. tt; none = λ e. tt; fit = λ e cs t. tt; free = λ e. tt; long = λ e cs t. tt; turned = λ e cs t. tt }

@@ -1,6 +1,6 @@
 -- Whole numbers that are read: of one digit at sight, and others as decimals.
 use Rattle.std.proofs.lemmas.Bool.Decides.{nat_tests}
-use Rattle.std.proofs.Common.{◌≡◌, ◌⊎◌, ⊎_elim, ap, ℕ, ◌+◌, ◌-◌, ◌*◌, ◌<◌, ◌≤◌, Option, Some, None, List, [], ◌∷◌, length, refl, sym, subst, arith, IfSome, MatchOption}
+use Rattle.std.proofs.Common.{◌≡◌, ◌==◌, true, ◌⊎◌, ⊎_elim, ap, ℕ, ◌+◌, ◌-◌, ◌*◌, ◌<◌, ◌≤◌, Option, Some, None, List, [], ◌∷◌, length, refl, sym, subst, arith, IfSome}
 use Rattle.crs_decimal.specs.Prelude.{IsBounded, IsInBounds, Denotes, number_of, Number, SameNumber, whole_number, Sign, unsigned, plus, Parts, IsForm, SpellsNumber, AreDigits, Value, IsNormal, exact}
 use Rattle.crs_text.specs.Prelude.{Item, arguments, raw_of}
 use Rattle.crs_shape.specs.declared.class.Class.{Class}
@@ -68,13 +68,10 @@ digit-read alone one some symmetric raw b (Some n) same (low, (high, is)) =
     subst Q (sym is)
     (⊎_elim (λ e. subst P (sym e) (digit-whole alone one some symmetric b digits)) (λ e. subst P (sym e) (plus-whole alone one some symmetric b digits)) same)
 
-pub decimal-read : (raw : List ℕ) (v : Value) (Not : Type 0) (found : Option ℕ) → IsNormal v × Denotes raw (exact v) →
-    MatchOption found Not (λ n. SameNumber (exact v) (whole_number n)) → IfSome found (IsWhole raw)
-decimal-read raw v Not None reads h = tt
-decimal-read raw v Not (Some n) reads h = (v, (reads, h))
+pub same-whole : (m n : ℕ) → (m == n) ≡ true → m ≡ n
+same-whole m n e = grind (arith, nat_tests)
 
 -- the first number of a node
-pub first-whole : (tree : Item) (c : Class) (item : Item) (id : ℕ) (found : Option ℕ) → IsFound tree c class.Number (those c class.Number (arguments item)) (Some id) →
-    IfSome found (IsWhole (raw_of (item_at tree id))) → IfSome found (IsWholeOf c item)
-first-whole tree c item id None at h = h
-first-whole tree c item id (Some n) at (v, (reads, same)) = let P : List Item → Type 0 = λ xs. ReadsFirst ReadsNumber xs v in (v, (subst P (sym at.0) reads, same))
+pub first-whole : (tree : Item) (c : Class) (item : Item) (id n : ℕ) → IsFound tree c class.Number (those c class.Number (arguments item)) (Some id) → IsWhole (raw_of (item_at tree id)) n →
+    IsWholeOf c item n
+first-whole tree c item id n at (v, (reads, same)) = let P : List Item → Type 0 = λ xs. ReadsFirst ReadsNumber xs v in (v, (subst P (sym at.0) reads, same))

@@ -1,27 +1,26 @@
 //! A node as one of a class, whose arguments are walked over and then its own checks are made.
-ghost use Rattle.std.specs.Prelude.{◌≡◌, ◌<◌, ◌⊎◌, IsTrue, Some, true, length, [], ◌∷◌, ◌++◌};
-ghost use Rattle.crs_text.specs.Items.{HasId, arguments, close_of};
-ghost use Rattle.crs_shape.specs.Keywords.{every_class};
+ghost use Rattle.std.specs.Prelude.{◌≡◌, ◌<◌, IsTrue, Some, true, length, [], ◌∷◌, ◌++◌};
+ghost use Rattle.crs_text.specs.Items.{HasId, close_of};
+ghost use Rattle.crs_shape.specs.declared.class.Class.TheVariants as kinds;
+ghost use Rattle.crs_shape.specs.Keywords.{every_class, root_classes};
 ghost use Rattle.crs_shape.specs.ShapeFault.{is_of};
-ghost use Rattle.crs_shape.specs.Shaped.{Shaped};
 ghost use Rattle.crs_shape.specs.Slots.{any_of, slots_of};
-ghost use Rattle.crs_value.specs.Break.{IsLeast};
-ghost use Rattle.crs_value.specs.Checks.{BreaksAmong, HasSystem, Own};
+ghost use Rattle.crs_value.specs.Checks.{HasSystem};
+ghost use Rattle.crs_value.specs.FoundArguments.{IsAmong};
 ghost use Rattle.crs_value.specs.Judged.{class_at, Answers, Judged};
 ghost use Rattle.crs_value.specs.Least.{lesser};
 ghost use Rattle.crs_value.specs.Reading.{item_at, Holds};
-ghost use Rattle.crs_value.specs.Seen.{is_head, is_tail, rest_slots, IsHeld, IsLaid, Laid};
+ghost use Rattle.crs_value.specs.Seen.{is_head, is_tail, rest_slots, Laid};
 
-use crate::checks::crs::whole_crs;
-use crate::checks::dynamic::bad_dynamic;
+use crate::checks::crs::{bad_dynamic, whole_crs};
 use crate::checks::lesser;
 use crate::checks::own::own_of_part;
-use crate::judging::parts::Identifier;
-use crate::judging::quiet::{Layout, NOWHERE, is_quiet};
+use crate::judging::quiet::{Layout, is_quiet};
 use crate::judging::slots::{
-    Any, End, Found, One, OneOrMore, Optional, Parent, Part, Slot, Slots, Then, chain, ends, taken,
+    Any, Either, End, Found, One, OneOrMore, Optional, Parent, Part, Slot, Slots, Then, chain,
+    ends, judge_crs, taken,
 };
-use crate::reading::arguments::found;
+use crate::reading::arguments::first_from;
 use crate::reading::cursor::Cursor;
 use crs_shape::{Class, classes, laws, row, stands_as};
 use crs_text::{ItemId, Items, Refusal};
@@ -71,27 +70,6 @@ fn node_judged<S: Slots>(
     true
 }
 
-// The same of any item, so that what isn't a node needs no call.
-#[inline(always)]
-pub(crate) fn judged<S: Slots>(
-    class: Class,
-    items: &Items<'_>,
-    id: ItemId,
-    found: &mut Found,
-) -> bool
-    requires has { HasId items.now id }
-    requires of { IsTrue (is_of class (item_at items.now id)) }
-    requires slots { slots_of class ≡ S.slots }
-    requires fits { S.fits }
-    requires part { ¬ (HasSystem class) }
-    ensures { Judged class (item_at items.now id) found.old result found.new }
-{
-    match items.close(id) {
-        None => true,
-        Some(close) => node_judged::<S>(items, id, class, close, found),
-    }
-}
-
 // Where the parts of a CRS begin, by its slots before its coordinate system and what its last slot takes; None where a
 // fault of shape was found. What its arguments break joins what was found.
 #[inline(always)]
@@ -108,7 +86,10 @@ fn laid<H: Slots, T: Part>(
         T.classes)) at found.old result found.new }
 {
     let system = H::pass(parent, at, found)?;
-    let layout = Layout { system, ..NOWHERE };
+    let layout = Layout {
+        system,
+        ..Layout::default()
+    };
     let axes = One::<taken!(CoordinateSystem)>::pass(parent, layout.system, found)?;
     let layout = Layout { axes, ..layout };
     let unit = OneOrMore::<taken!(Axis)>::pass(parent, layout.axes, found)?;
@@ -122,37 +103,9 @@ fn laid<H: Slots, T: Part>(
     Some(layout)
 }
 
-// The least of what a CRS of the right shape breaks, within it and by itself. Mostly its own checks are seen at once to
-// hold.
-#[inline(always)]
-fn whole(
-    items: &Items<'_>,
-    id: ItemId,
-    class: Class,
-    layout: Layout,
-    inside: Option<Refusal>,
-) -> Option<Refusal>
-    requires has { HasId items.now id }
-    requires shaped { Shaped class (item_at items.now id) }
-    requires system { HasSystem class }
-    requires held { IsHeld items.now layout }
-    requires laid { IsLaid items.now class (arguments (item_at items.now id)) layout }
-    requires inside { IsLeast (BreaksAmong class (arguments (item_at items.now id))) inside }
-    ensures { IsLeast (λ f. BreaksAmong class (arguments (item_at items.now id)) f
-        ⊎ Own class (item_at items.now id) f) result }
-{
-    // A dynamic part is before the coordinate system.
-    let first = items.arg(id, 0);
-    let dynamic = found(items, first, layout.system, class, Class::Dynamic);
-    if is_quiet(items, id, class, layout) {
-        return lesser(inside, bad_dynamic(&Cursor { items, id, class }, dynamic));
-    }
-    whole_crs(&Cursor { items, id, class }, inside)
-}
-
 // Whether an item that may be a CRS of this class, which has a coordinate system, has no fault of shape as one; what it
 // breaks joins what was found.
-pub(crate) fn crs_judged<H: Slots, T: Part>(
+fn crs_judged<H: Slots, T: Part>(
     class: Class,
     items: &Items<'_>,
     id: ItemId,
@@ -181,13 +134,23 @@ pub(crate) fn crs_judged<H: Slots, T: Part>(
         *found = inside;
         return false;
     };
-    join(found, whole(items, id, class, layout, inside));
+    // A dynamic part is before the coordinate system.
+    let first = items.arg(id, 0);
+    let dynamic = first_from(items, first, layout.system, class, Class::Dynamic);
+    // Mostly its own checks are seen at once to hold.
+    if is_quiet(items, id, class, layout) {
+        let own = bad_dynamic(&Cursor { items, id, class }, dynamic);
+        join(found, lesser(inside, own));
+        return true;
+    }
+    join(found, whole_crs(&Cursor { items, id, class }, inside));
     true
 }
 
-// An argument as one of a class without a coordinate system, which has these slots; None where it is of another.
+// An argument as one of a class without a coordinate system, which has these slots; None where it is of another. What
+// isn't a node needs no call.
 #[inline(always)]
-pub(crate) fn part<S: Slots>(
+fn part<S: Slots>(
     class: Class,
     items: &Items<'_>,
     id: ItemId,
@@ -204,31 +167,10 @@ pub(crate) fn part<S: Slots>(
     if !stands_as(items, id, parent, class) {
         return None;
     }
-    Some(judged::<S>(class, items, id, found))
-}
-
-// An argument as a CRS of a class with a coordinate system; None where it is of another.
-#[inline(always)]
-pub(crate) fn crs<H: Slots, T: Part>(
-    class: Class,
-    items: &Items<'_>,
-    id: ItemId,
-    parent: Class,
-    found: &mut Found,
-) -> Option<bool>
-    requires has { HasId items.now id }
-    requires slots { slots_of class ≡ H.slots ++ rest_slots (any_of T.classes) }
-    requires fits { H.fits × T.fits }
-    requires head { is_head H.slots ≡ true }
-    requires tail { is_tail (any_of T.classes) ≡ true }
-    requires system { HasSystem class }
-    ensures { Answers parent (class ∷ []) (item_at items.now id) found.old result found.new }
-{
-    laws::walk_finds_the_fault();
-    if !stands_as(items, id, parent, class) {
-        return None;
+    match items.close(id) {
+        None => Some(true),
+        Some(close) => Some(node_judged::<S>(items, id, class, close, found)),
     }
-    Some(crs_judged::<H, T>(class, items, id, found))
 }
 
 // The class at this place among all.
@@ -252,5 +194,113 @@ impl<const PLACE: u8, S: Slots> Part for Node<PLACE, S> {
     #[inline(always)]
     fn judge(items: &Items<'_>, id: ItemId, parent: Class, found: &mut Found) -> Option<bool> {
         part::<S>(class_at(PLACE), items, id, parent, found)
+    }
+}
+
+// An identifier.
+pub(crate) struct Identifier;
+
+impl Part for Identifier {
+    ghost classes = { kinds.Identifier ∷ [] };
+
+    fn judge(items: &Items<'_>, id: ItemId, parent: Class, found: &mut Found) -> Option<bool> {
+        part::<row!(Identifier, chain, ())>(Class::Identifier, items, id, parent, found)
+    }
+}
+
+// A parameter.
+pub(crate) struct Parameter;
+
+impl Part for Parameter {
+    ghost classes = { kinds.Parameter ∷ [] };
+
+    fn judge(items: &Items<'_>, id: ItemId, parent: Class, found: &mut Found) -> Option<bool> {
+        part::<row!(Parameter, chain, ())>(Class::Parameter, items, id, parent, found)
+    }
+}
+
+// An extent in height.
+pub(crate) struct VerticalExtent;
+
+impl Part for VerticalExtent {
+    ghost classes = { kinds.VerticalExtent ∷ [] };
+
+    fn judge(items: &Items<'_>, id: ItemId, parent: Class, found: &mut Found) -> Option<bool> {
+        part::<row!(VerticalExtent, chain, ())>(Class::VerticalExtent, items, id, parent, found)
+    }
+}
+
+// A geodetic reference frame.
+pub(crate) struct GeodeticFrame;
+
+impl Part for GeodeticFrame {
+    ghost classes = { kinds.GeodeticFrame ∷ [] };
+
+    fn judge(items: &Items<'_>, id: ItemId, parent: Class, found: &mut Found) -> Option<bool> {
+        part::<row!(GeodeticFrame, chain, ())>(Class::GeodeticFrame, items, id, parent, found)
+    }
+}
+
+// A geodetic ensemble.
+pub(crate) struct GeodeticEnsemble;
+
+impl Part for GeodeticEnsemble {
+    ghost classes = { kinds.GeodeticEnsemble ∷ [] };
+
+    fn judge(items: &Items<'_>, id: ItemId, parent: Class, found: &mut Found) -> Option<bool> {
+        part::<row!(GeodeticEnsemble, chain, ())>(Class::GeodeticEnsemble, items, id, parent, found)
+    }
+}
+
+// A CRS with a coordinate system, of the class at this place.
+pub(crate) struct Single<const PLACE: u8>;
+
+impl<const PLACE: u8> Part for Single<PLACE> {
+    ghost classes = { class_at PLACE ∷ [] };
+
+    ghost fits = { (PLACE < length every_class) × HasSystem (class_at PLACE) };
+
+    fn judge(items: &Items<'_>, id: ItemId, parent: Class, found: &mut Found) -> Option<bool> {
+        laws::walk_finds_the_fault();
+        let class = class_at(PLACE);
+        if !stands_as(items, id, parent, class) {
+            return None;
+        }
+        Some(single_judged(items, id, class, found))
+    }
+}
+
+// Whether an item that may be a CRS of this class, which has a coordinate system, has no fault of shape as one; what it
+// breaks joins what was found.
+fn single_judged(items: &Items<'_>, id: ItemId, class: Class, found: &mut Found) -> bool
+    requires has { HasId items.now id }
+    requires of { IsTrue (is_of class (item_at items.now id)) }
+    requires system { HasSystem class }
+    ensures { Judged class (item_at items.now id) found.old result found.new }
+{
+    match class {
+        Class::GeodeticCrs => judge_crs!(GeodeticCrs, items, id, found),
+        Class::GeographicCrs => judge_crs!(GeographicCrs, items, id, found),
+        Class::ProjectedCrs => judge_crs!(ProjectedCrs, items, id, found),
+        Class::VerticalCrs => judge_crs!(VerticalCrs, items, id, found),
+        _ => unreachable!(),
+    }
+}
+
+// Whether a whole text has no fault of shape as a CRS of this class; what it breaks joins what was found.
+pub(crate) fn root_judged(items: &Items<'_>, id: ItemId, class: Class, found: &mut Found) -> bool
+    requires has { HasId items.now id }
+    requires of { IsTrue (is_of class (item_at items.now id)) }
+    requires root { IsAmong root_classes class }
+    ensures { Judged class (item_at items.now id) found.old result found.new }
+{
+    match class {
+        Class::CompoundCrs => match items.close(id) {
+            None => true,
+            Some(close) => node_judged::<row!(CompoundCrs, chain, ())>(
+                items, id, class, close, found,
+            ),
+        },
+        _ => single_judged(items, id, class, found),
     }
 }

@@ -1,22 +1,26 @@
 //! Whether the checks of a CRS by itself are seen at once to hold, as they mostly do, where the walk for its shape has
 //! told where its parts begin.
-ghost use Rattle.std.specs.Prelude.{◌≡◌, IfSome, IsTrue, [], ◌∷◌};
-ghost use Rattle.crs_text.specs.Items.{HasId, arguments, here};
+ghost use Rattle.std.specs.Prelude.{◌≡◌, ◌≤◌, ◌+◌, ◌^◌, ◌<◌, IfSome, IsTrue, None, true, length, List, [], ◌∷◌};
+ghost use Rattle.crs_text.specs.Items.{Item, HasId, arguments, here};
+ghost use Rattle.crs_shape.specs.declared.class.Class.{Class};
+ghost use Rattle.crs_shape.specs.Dimensions.{dimensions_of};
 ghost use Rattle.crs_shape.specs.Shaped.{Shaped};
-ghost use Rattle.crs_value.specs.FoundArguments.{AllShaped};
-ghost use Rattle.crs_value.specs.Reading.{item_at, ahead, those, Holds};
-ghost use Rattle.crs_value.specs.Seen.{the_one, IsHeld, IsLaid, IsQuiet, IsSeen};
+ghost use Rattle.crs_value.specs.Checks.{orders_in, units_in, once, Asks, BadOwnUnit, Fits, IsLeast, OfHead, RepeatsAny};
+ghost use Rattle.crs_value.specs.FoundArguments.{AllShaped, HasPlace};
+ghost use Rattle.crs_value.specs.Reading.{item_at, is_a, ahead, those, Holds};
+ghost use Rattle.crs_value.specs.Reads.{HasType};
+ghost use Rattle.crs_value.specs.Seen.{rank, the_one, AreOrdered, Climbs, Has, IsBehindName, IsHeld, IsLaid, IsNoted, IsQuiet, IsSeen, IsShaped, UnitsFit};
 
-use crate::checks::system::type_of;
-use crate::judging::axes::{Axes, MOST, NONE, noted, seen_of};
-use crate::judging::rest::{head_fits, is_ascending, is_ordered, units_fit};
-use crate::reading::arguments::same_place;
+use crate::checks::axes::{fits, same_kind};
+use crate::checks::crs::type_of;
+use crate::reading::arguments::{later, same_place};
+use crate::reading::node::has_whole;
 use crs_decimal::laws;
-use crs_shape::{Class, SystemType, stands_as};
+use crs_shape::{Class, Direction, SystemType, UnitKind, stands_as};
 use crs_text::{ItemId, Items};
 
 // Where the coordinate system of a CRS is, where its axes begin, then their shared unit, and then the rest.
-#[derive(Clone, Copy)]
+#[derive(Clone, Copy, Default)]
 pub(crate) struct Layout {
     pub(crate) system: Option<ItemId>,
     pub(crate) axes: Option<ItemId>,
@@ -24,13 +28,116 @@ pub(crate) struct Layout {
     pub(crate) tail: Option<ItemId>,
 }
 
-// No part was found yet.
-pub(crate) const NOWHERE: Layout = Layout {
-    system: None,
-    axes: None,
-    unit: None,
-    tail: None,
+// What an axis has that is checked beside the others: its direction, and its order and unit where they are written.
+#[derive(Clone, Copy)]
+struct Seen {
+    direction: Direction,
+    order: Option<ItemId>,
+    unit: Option<ItemId>,
+}
+
+// How many axes there are; whether each has an order, which is its place among them; whether none has an order; whether
+// each has a unit that fits; whether none has a unit; and whether each asks for a length, or for an angle.
+#[derive(Clone, Copy)]
+struct Axes {
+    count: usize,
+    ordered: bool,
+    orderless: bool,
+    own: bool,
+    alone: bool,
+    lengths: bool,
+    angles: bool,
+}
+
+// No axis was seen yet.
+const NONE: Axes = Axes {
+    count: 0,
+    ordered: true,
+    orderless: true,
+    own: true,
+    alone: true,
+    lengths: true,
+    angles: true,
 };
+
+// No CRS has more axes.
+const MOST: usize = 3;
+
+// What an axis has; None where its word is no direction.
+fn seen_of(items: &Items<'_>, axis: ItemId) -> Option<Seen>
+    requires has { HasId items.now axis }
+    requires shaped { Shaped Class.Axis (item_at items.now axis) }
+    ensures { IfSome result (λ seen. Has items.now (item_at items.now axis) seen) }
+{
+    crs_shape::laws::slots_count();
+    let word = word_behind_name(items, axis)?;
+    let direction = Direction::read(items.raw(word))?;
+    Some(Seen {
+        direction,
+        order: later(items, word, Class::Axis, Class::Order),
+        unit: later(items, word, Class::Axis, Class::AxisUnit),
+    })
+}
+
+// The word that an axis has behind its name, as its slots ask for.
+fn word_behind_name(items: &Items<'_>, axis: ItemId) -> Option<ItemId>
+    requires { HasId items.now axis }
+    ensures { IfSome result (IsBehindName items.now (item_at items.now axis)) }
+{
+    let name = items.arg(axis, 0)?;
+    if !stands_as(items, name, Class::Axis, Class::Text) {
+        return None;
+    }
+    let word = items.next(name)?;
+    if !stands_as(items, word, Class::Axis, Class::Word) {
+        return None;
+    }
+    Some(word)
+}
+
+// Whether the order of an axis is this place.
+fn has_place(items: &Items<'_>, order: Option<ItemId>, place: usize) -> bool
+    requires { IsShaped items.now Class.Order order }
+    ensures { IsTrue result → (axis : Item) → orders_in axis ≡ the_one items.now order → HasPlace place axis }
+{
+    match order {
+        None => false,
+        Some(order) => has_whole(items, order, Class::Order, place as u64),
+    }
+}
+
+// Whether the unit of an axis fits where this kind is asked.
+fn fits_own(items: &Items<'_>, unit: Option<ItemId>, kind: UnitKind) -> bool
+    requires { IsShaped items.now Class.AxisUnit unit }
+    ensures { IsTrue result → (cs : Item) → (axis : Item) → Asks cs axis kind → units_in axis ≡ the_one items.now unit →
+        IsLeast (BadOwnUnit cs axis) None }
+{
+    match unit {
+        None => false,
+        Some(unit) => fits(items, unit, kind),
+    }
+}
+
+// One axis more.
+fn noted(items: &Items<'_>, system_type: SystemType, seen: Seen, axes: Axes) -> Axes
+    requires order { IsShaped items.now Class.Order seen.order }
+    requires unit { IsShaped items.now Class.AxisUnit seen.unit }
+    requires bound { axes.count + 1 < 2 ^ 64 }
+    ensures { IsNoted items.now system_type seen axes result }
+{
+    let kind = system_type.asked_kind(seen.direction);
+    let count = axes.count + 1;
+    // By `&`, no test asks what the walk found before: mostly all hold.
+    Axes {
+        count,
+        ordered: axes.ordered & has_place(items, seen.order, count),
+        orderless: axes.orderless & seen.order.is_none(),
+        own: axes.own & fits_own(items, seen.unit, kind),
+        alone: axes.alone & seen.unit.is_none(),
+        lengths: axes.lengths & same_kind(kind, UnitKind::Length),
+        angles: axes.angles & same_kind(kind, UnitKind::Angle),
+    }
+}
 
 // Whether an argument is seen to be the only one of its class from there on.
 fn is_only(items: &Items<'_>, id: ItemId, parent: Class, class: Class, next: Option<ItemId>) -> bool
@@ -100,6 +207,105 @@ fn shared_unit(
     } else {
         None
     }
+}
+
+// Whether a CRS of this class may have a coordinate system of this type and its dimension, which is the number of axes.
+fn head_fits(
+    items: &Items<'_>,
+    cs: ItemId,
+    class: Class,
+    system_type: SystemType,
+    count: usize,
+) -> bool
+    requires has { HasId items.now cs }
+    requires shaped { Shaped Class.CoordinateSystem (item_at items.now cs) }
+    requires type_read { HasType (item_at items.now cs) system_type }
+    ensures { IsTrue result → (axes : List Item) → length axes ≡ count →
+        IsLeast (OfHead (dimensions_of class) axes (item_at items.now cs)) None }
+{
+    laws::denotes_one();
+    let dimension = count as u64;
+    if !system_type.has_dimension(class, dimension) {
+        return false;
+    }
+    has_whole(items, cs, Class::CoordinateSystem, dimension)
+}
+
+// Whether the orders of the axes fit one another.
+fn is_ordered(axes: Axes) -> bool
+    ensures { IsTrue result → AreOrdered axes }
+{
+    axes.ordered || axes.orderless
+}
+
+// Whether a unit fits where all axes ask for this kind, if they do.
+fn fits_all(items: &Items<'_>, unit: ItemId, all: bool, kind: UnitKind) -> bool
+    requires { HasId items.now unit }
+    ensures { IsTrue result → (all ≡ true) × Fits (item_at items.now unit) kind }
+{
+    all && fits(items, unit, kind)
+}
+
+// Whether the units of the axes fit, with the one that they share.
+fn units_fit(items: &Items<'_>, axes: Axes, shared: Option<ItemId>) -> bool
+    requires { Holds items.now shared }
+    ensures { IsTrue result → UnitsFit items.now axes shared }
+{
+    let Some(unit) = shared else { return axes.own };
+    if !axes.alone {
+        return false;
+    }
+    fits_all(items, unit, axes.lengths, UnitKind::Length)
+        || fits_all(items, unit, axes.angles, UnitKind::Angle)
+}
+
+// The highest rank with one argument more, of this rank; None where it doesn't follow the others by rank.
+#[inline(always)]
+fn climbed(last: u8, next: u8) -> Option<u8>
+    ensures { IfSome result (λ highest. Climbs last next highest) }
+{
+    if next == 0 {
+        return Some(last);
+    }
+    if next <= last { None } else { Some(next) }
+}
+
+// The rank of an argument among those that may stand but once at a CRS's end, in their usual order; 0 of others.
+#[inline(always)]
+fn rank_of(items: &Items<'_>, id: ItemId, parent: Class) -> u8
+    requires { HasId items.now id }
+    ensures { (d : Class) → 1 ≤ rank d → is_a parent d (item_at items.now id) ≡ true → result ≡ rank d }
+{
+    if stands_as(items, id, parent, Class::Scope) {
+        1
+    } else if stands_as(items, id, parent, Class::Area) {
+        2
+    } else if stands_as(items, id, parent, Class::BoundingBox) {
+        3
+    } else if stands_as(items, id, parent, Class::VerticalExtent) {
+        4
+    } else if stands_as(items, id, parent, Class::Remark) {
+        5
+    } else {
+        0
+    }
+}
+
+// Whether the arguments that may stand but once ascend by rank, so that none is repeated.
+pub(crate) fn is_ascending(items: &Items<'_>, from: Option<ItemId>, parent: Class) -> bool
+    requires { Holds items.now from }
+    ensures { IsTrue result → IsLeast (RepeatsAny parent (ahead items.now from) once) None }
+{
+    let mut last = 0;
+    let mut at = from;
+    while let Some(id) = at {
+        match climbed(last, rank_of(items, id, parent)) {
+            None => return false,
+            Some(next) => last = next,
+        }
+        at = items.next(id);
+    }
+    true
 }
 
 // Whether a CRS of this class is seen to break none of its own checks, that of dynamic parts aside. Where it isn't

@@ -16,11 +16,11 @@ macro_rules! taken {
     (Number) => { Node<0, row!(Number, chain, ())> };
     (Text) => { Node<1, row!(Text, chain, ())> };
     (Word) => { Node<2, row!(Word, chain, ())> };
-    (GeodeticCrs) => { GeodeticCrs };
-    (GeographicCrs) => { GeographicCrs };
-    (ProjectedCrs) => { ProjectedCrs };
-    (VerticalCrs) => { VerticalCrs };
-    (BaseCrs) => { BaseCrs };
+    (GeodeticCrs) => { Single<3> };
+    (GeographicCrs) => { Single<4> };
+    (ProjectedCrs) => { Single<5> };
+    (VerticalCrs) => { Single<6> };
+    (BaseCrs) => { Node<8, row!(BaseCrs, chain, ())> };
     (Dynamic) => { Node<9, row!(Dynamic, chain, ())> };
     (FrameEpoch) => { Node<10, row!(FrameEpoch, chain, ())> };
     (DeformationModel) => { Node<11, row!(DeformationModel, chain, ())> };
@@ -69,13 +69,13 @@ macro_rules! chain {
     (some($($part:ident),+) $($slots:tt)*) => { Then<OneOrMore<taken!($($part),+)>, chain!($($slots)*)> };
 }
 
-// an item as a CRS with a coordinate system, by a function; its slots before that are told apart
+// an item as a CRS with a coordinate system; its slots before that are told apart
 macro_rules! judge_crs {
-    ($how:ident, $class:ident, $($given:ident),+) => { row!($class, judge_crs, ($how, $class, $($given),+)) };
+    ($class:ident, $($given:ident),+) => { row!($class, judge_crs, ($class, $($given),+)) };
     ($with:tt [$($keyword:ident),*] $($slots:tt)*) => { judge_crs!(@ $with [] $($slots)*) };
-    (@ ($how:ident, $class:ident, $($given:ident),+) [$($head:tt)*]
+    (@ ($class:ident, $($given:ident),+) [$($head:tt)*]
         one(CoordinateSystem) some(Axis) optional(AxisUnit) any($($part:ident),+)) => {
-        $how::<chain!($($head)*), taken!($($part),+)>(Class::$class, $($given),+)
+        crs_judged::<chain!($($head)*), taken!($($part),+)>(Class::$class, $($given),+)
     };
     (@ $with:tt [$($head:tt)*] $count:ident $parts:tt $($slots:tt)*) => {
         judge_crs!(@ $with [$($head)* $count $parts] $($slots)*)

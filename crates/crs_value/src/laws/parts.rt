@@ -2,21 +2,16 @@
 //! is asked of its kind.
 ghost use Rattle.crs_shape.specs.declared.class.Class.{Class};
 ghost use Rattle.crs_shape.specs.declared.class.Class.TheVariants as class;
-ghost use Rattle.crs_value.specs.Reads.{IsUnitClass, ReadsAxis, ReadsAxisMeridian, ReadsBox, ReadsDatum};
-ghost use Rattle.crs_value.specs.Reads.{ReadsEllipsoid, ReadsEnsemble, ReadsExtent, ReadsIdent, ReadsMember};
-ghost use Rattle.crs_value.specs.Reads.{ReadsMeridian, ReadsUnit, ReadsUsage};
-ghost use Rattle.crs_value.specs.ReadsConversion.{ReadsConversion, ReadsGeoidModel, ReadsMethod, ReadsParameter};
+ghost use Rattle.crs_value.specs.Reads.{IsUnitClass, ReadsAxis, ReadsAxisMeridian, ReadsBox, ReadsDatum, ReadsEllipsoid, ReadsEnsemble, ReadsExtent, ReadsIdent, ReadsMember, ReadsMeridian, ReadsUnit, ReadsUsage, ReadsConversion, ReadsGeoidModel, ReadsMethod, ReadsParameter, ReadsDeformationModel, ReadsDynamic};
 ghost use Rattle.crs_value.specs.ReadsCrs.{IsGeodeticClass, ReadsBase, ReadsCompound, ReadsGeodetic, ReadsProjected};
-ghost use Rattle.crs_value.specs.ReadsDynamic.{ReadsDeformationModel, ReadsDynamic};
 ghost use Rattle.crs_value.specs.SoundDynamic.{IsDeformationModel, IsDynamic};
 ghost use Rattle.crs_value.specs.ReadsCrs.{ReadsVertical};
-ghost use Rattle.crs_value.specs.Sound.{IsAxis, IsAxisMeridian, IsIdent, IsUnit};
+ghost use Rattle.crs_value.specs.Sound.{IsAxis, IsAxisMeridian, IsIdent, IsUnit, IsBox, IsExtent, IsUsage};
 ghost use Rattle.crs_value.specs.SoundCompound.{IsCompound};
 ghost use Rattle.crs_value.specs.SoundConversion.{IsConversion, IsGeoidModel, IsMethod, IsParameter};
 ghost use Rattle.crs_value.specs.SoundFrames.{IsEllipsoid, IsMember, IsMeridian};
 ghost use Rattle.crs_value.specs.SoundSingle.{IsBase, IsGeodetic, IsGeodeticFrame, IsProjected, IsVertical};
 ghost use Rattle.crs_value.specs.SoundSingle.{IsVerticalFrame};
-ghost use Rattle.crs_value.specs.SoundUsages.{IsBox, IsExtent, IsUsage};
 ghost use Rattle.crs_value.specs.declared.values.frame.Frame.TheVariants as frame;
 ghost use Rattle.crs_value.specs.ReadOnce.{IsReadAs, IsReadOnce};
 

@@ -13,9 +13,9 @@ pub(crate) fn same_place(a: &Option<ItemId>, b: &Option<ItemId>) -> bool
     *a == *b
 }
 
-// The first argument of this class from this one on; from another one on there is none.
+// The first argument of this class at `from` or after it; at `until` and after it there is none.
 #[inline(always)]
-pub(crate) fn found(
+pub(crate) fn first_from(
     items: &Items<'_>,
     from: Option<ItemId>,
     until: Option<ItemId>,
@@ -47,7 +47,7 @@ pub(crate) fn first(items: &Items<'_>, id: ItemId, parent: Class, class: Class) 
     ensures { IsFound items.now parent class (those parent class (arguments
         (item_at items.now id))) result }
 {
-    found(items, items.arg(id, 0), None, parent, class)
+    first_from(items, items.arg(id, 0), None, parent, class)
 }
 
 // The next argument of this class after this one.
@@ -56,5 +56,5 @@ pub(crate) fn later(items: &Items<'_>, id: ItemId, parent: Class, class: Class) 
     requires { HasId items.now id }
     ensures { IsFound items.now parent class (those parent class (rest_of (here items.now id))) result }
 {
-    found(items, items.next(id), None, parent, class)
+    first_from(items, items.next(id), None, parent, class)
 }

@@ -4,11 +4,11 @@ ghost use Rattle.crs_text.specs.Items.{HasId};
 use crate::reading::arguments::{first, later};
 use crate::reading::node::{Node, decimal_of, number, required};
 use crate::values::key::Keyed;
-use crate::values::list::List;
+use crate::{List, Made};
 use crs_decimal::Decimal;
 use crs_shape::{Class, laws};
 use crs_text::{ItemId, Items};
-use std::alloc::{AllocError, Global};
+use std::alloc::Global;
 
 // An item as one of a class.
 #[derive(Clone, Copy)]
@@ -32,7 +32,7 @@ impl<'i, 'a> Cursor<'i, 'a> {
     // The methods by which identifiers are read are inlined: a cursor that is lent to a call goes through memory.
 
     // The value of an argument of this class that the slots require.
-    pub(crate) fn one<T: Node<'a>>(&self, alloc: Global, class: Class) -> Result<T, AllocError>
+    pub(crate) fn one<T: Node<'a>>(&self, alloc: Global, class: Class) -> Made<T>
         requires sound { IsSound self.now.class (item self.now) }
         requires suits { T.Suits class }
         requires enough { Requires self.now.class class 0 }
@@ -44,11 +44,7 @@ impl<'i, 'a> Cursor<'i, 'a> {
     }
 
     // The value of an argument of this class that may be missing.
-    pub(crate) fn optional<T: Node<'a>>(
-        &self,
-        alloc: Global,
-        class: Class,
-    ) -> Result<Option<T>, AllocError>
+    pub(crate) fn optional<T: Node<'a>>(&self, alloc: Global, class: Class) -> Made<Option<T>>
         requires sound { IsSound self.now.class (item self.now) }
         requires suits { T.Suits class }
         ensures { IfOk result (λ value. ReadsIfAny T.Reads class self.now.class (item self.now) value) }
@@ -62,7 +58,7 @@ impl<'i, 'a> Cursor<'i, 'a> {
         alloc: Global,
         class: Class,
         found: Option<ItemId>,
-    ) -> Result<Option<T>, AllocError>
+    ) -> Made<Option<T>>
         requires sound { IsSound self.now.class (item self.now) }
         requires suits { T.Suits class }
         requires found { IsFound self.now.items.now self.now.class class (args class self.now) found }
@@ -77,11 +73,7 @@ impl<'i, 'a> Cursor<'i, 'a> {
 
     // The values of all arguments of this class.
     #[inline(always)]
-    pub(crate) fn many<T: Node<'a> + Keyed>(
-        &self,
-        alloc: Global,
-        class: Class,
-    ) -> Result<List<T>, AllocError>
+    pub(crate) fn many<T: Node<'a> + Keyed>(&self, alloc: Global, class: Class) -> Made<List<T>>
         requires sound { IsSound self.now.class (item self.now) }
         requires suits { T.Suits class }
         ensures { IfOk result (λ values. ReadsAll T.Reads class self.now.class (item self.now) values) }
@@ -95,21 +87,20 @@ impl<'i, 'a> Cursor<'i, 'a> {
         alloc: Global,
         class: Class,
         found: Option<ItemId>,
-    ) -> Result<List<T>, AllocError>
+    ) -> Made<List<T>>
         requires sound { IsSound self.now.class (item self.now) }
         requires suits { T.Suits class }
         requires found { IsFound self.now.items.now self.now.class class (args class self.now) found }
         ensures { IfOk result (λ values. ReadsAll T.Reads class self.now.class (item self.now) values) }
     {
         let items = self.items;
-        let mut list = List::new(alloc);
+        let mut members = Vec::new(alloc);
         let mut at = found;
         while let Some(id) = at {
-            list.push(T::read(alloc, &Cursor { items, id, class })?)?;
+            members.push(T::read(alloc, &Cursor { items, id, class })?)?;
             at = later(items, id, self.class, class);
         }
-        list.note_places(alloc)?;
-        Ok(list)
+        List::of(alloc, members)
     }
 
     // The text.

@@ -1,6 +1,6 @@
 //! Readers: values from the arguments of a node that has its shape and breaks no check.
-ghost use Rattle.std.specs.Prelude.{◌≡◌, ◌⊎◌, IfOk, IfSome, Some, [], ◌∷◌};
-ghost use Rattle.crs_text.specs.Items.{Item, arguments, raw_of, HasId};
+ghost use Rattle.std.specs.Prelude.{◌≡◌, ◌⊎◌, IfOk, IfSome, IsTrue, Some, [], ◌∷◌};
+ghost use Rattle.crs_text.specs.Items.{Item, arguments, HasId};
 ghost use Rattle.crs_shape.specs.declared.class.Class.{Class};
 ghost use Rattle.crs_shape.specs.declared.class.Class.TheVariants as classes;
 ghost use Rattle.crs_shape.specs.Shaped.{Shaped};
@@ -10,32 +10,35 @@ ghost use Rattle.crs_value.specs.Reading.{item_at, Requires, those, IsFound};
 ghost use Rattle.crs_value.specs.Reads.{ReadsNumber, ReadsNumberOf};
 ghost use Rattle.crs_value.specs.WholeNumbers.{IsWhole, IsWholeOf};
 
+use crate::Made;
 use crate::reading::arguments::first;
 use crate::reading::cursor::Cursor;
 use crs_decimal::{Decimal, laws as numbers};
 use crs_shape::{Class, laws};
 use crs_text::{ItemId, Items};
-use std::alloc::{AllocError, Global};
+use std::alloc::Global;
 
 // A value that is read from a node of some classes.
 pub(crate) trait Node<'a>: Sized + Drop {
+    // The classes of these nodes: those with a text, such as a name, unless it is said otherwise.
     ghost Suits: { Class → Type 0 } = { λ c. Requires c classes.Text 0 };
 
     ghost Reads: { Class → Item → Self → Type 0 };
 
-    fn read(alloc: Global, node: &Cursor<'_, 'a>) -> Result<Self, AllocError>
+    fn read(alloc: Global, node: &Cursor<'_, 'a>) -> Made<Self>
         requires suits { Suits node.now.class }
         requires sound { IsSound node.now.class (item node.now) }
         ensures { IfOk result (λ value. Reads node.now.class (item node.now) value) };
 }
 
-// A number, as the only one of its node.
+// The number of a node that has one, as `ORDER[1]`.
 impl<'a> Node<'a> for Decimal {
     ghost Suits = { λ c. Requires c classes.Number 0 };
 
     ghost Reads = { λ c item value. ReadsNumberOf c item value };
 
-    fn read(_alloc: Global, node: &Cursor<'_, 'a>) -> Result<Self, AllocError> {
+    #[inline(always)]
+    fn read(_alloc: Global, node: &Cursor<'_, 'a>) -> Made<Self> {
         Ok(node.number())
     }
 }
@@ -108,24 +111,16 @@ fn small_whole(bytes: &[u8]) -> Option<u64>
     Some(u64::from(byte - b'0'))
 }
 
-// A number by itself as a whole one below 2^64, if it is one. Mostly it is one digit, which needn't be read as a decimal.
-fn whole_at(items: &Items<'_>, id: ItemId) -> Option<u64>
-    requires has { HasId items.now id }
-    requires shaped { Shaped Class.Number (item_at items.now id) }
-    ensures { IfSome result (IsWhole (raw_of (item_at items.now id))) }
-{
-    match small_whole(items.raw(id)) {
-        Some(value) => Some(value),
-        None => decimal_of(items, id).whole(),
-    }
-}
-
-// The number of a node, as `whole_at` of it.
-pub(crate) fn whole_of(items: &Items<'_>, id: ItemId, class: Class) -> Option<u64>
+// Whether the number of a node is this whole one. Mostly it is one digit, which needn't be read as a decimal.
+pub(crate) fn has_whole(items: &Items<'_>, id: ItemId, class: Class, n: u64) -> bool
     requires has { HasId items.now id }
     requires shaped { Shaped class (item_at items.now id) }
     requires enough { Requires class Class.Number 0 }
-    ensures { IfSome result (IsWholeOf class (item_at items.now id)) }
+    ensures { IsTrue result → IsWholeOf class (item_at items.now id) n }
 {
-    whole_at(items, required(items, id, class, Class::Number))
+    let found = required(items, id, class, Class::Number);
+    match small_whole(items.raw(found)) {
+        Some(whole) => whole == n,
+        None => decimal_of(items, found).is_whole(n),
+    }
 }

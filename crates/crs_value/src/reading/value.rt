@@ -6,7 +6,7 @@ ghost use Rattle.crs_value.specs.ReadsCrs.{kind_of};
 ghost use Rattle.crs_value.specs.Spells.{SpellsCrs, IsFaultOf, RefusesCrs};
 ghost use Rattle.crs_value.specs.SpellsText.{Spells, IsFaultOfText};
 
-use crate::judging::parts::root_judged;
+use crate::judging::node::root_judged;
 use crate::reading::cursor::Cursor;
 use crate::values::crs::{Crs, Kind, kind_of_root, read_crs};
 use crs_shape::{Class, class_at_root, misplaced};

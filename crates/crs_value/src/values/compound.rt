@@ -10,9 +10,9 @@ use crate::reading::cursor::Cursor;
 use crate::reading::firsts::firsts_of;
 use crate::reading::node::Node;
 use crate::values::usage::read_tail;
-use crate::{Geodetic, Projected, Tail, Vertical};
+use crate::{Geodetic, Made, Projected, Tail, Vertical};
 use crs_shape::{Class, laws};
-use std::alloc::{AllocError, Global};
+use std::alloc::Global;
 use std::marker::Model;
 
 /// The horizontal part of a compound CRS. ISO 19162:2019, "Compound CRS".
@@ -65,7 +65,7 @@ impl Drop for Compound<'_> {
 }
 
 // The horizontal part of a compound CRS.
-fn read_horizontal<'a>(alloc: Global, node: &Cursor<'_, 'a>) -> Result<Horizontal<'a>, AllocError>
+fn read_horizontal<'a>(alloc: Global, node: &Cursor<'_, 'a>) -> Made<Horizontal<'a>>
     requires sound { IsSound Class.CompoundCrs (item node.now) }
     ensures { IfOk result (λ value. ReadsHorizontal Class.CompoundCrs (item node.now) value) }
 {
@@ -80,9 +80,7 @@ fn read_horizontal<'a>(alloc: Global, node: &Cursor<'_, 'a>) -> Result<Horizonta
         return Geodetic::read(alloc, &Cursor { items, id, class }).map(Horizontal::Geodetic);
     }
     let class = Class::ProjectedCrs;
-    let Some(id) = first(items, node.id, Class::CompoundCrs, class) else {
-        unreachable!()
-    };
+    let id = first(items, node.id, Class::CompoundCrs, class).unwrap();
     Projected::read(alloc, &Cursor { items, id, class }).map(Horizontal::Projected)
 }
 
@@ -91,7 +89,7 @@ impl<'a> Node<'a> for Compound<'a> {
 
     ghost Reads = { λ c item parts. ReadsCompound c item parts };
 
-    fn read(alloc: Global, node: &Cursor<'_, 'a>) -> Result<Self, AllocError> {
+    fn read(alloc: Global, node: &Cursor<'_, 'a>) -> Made<Self> {
         laws::slots_count();
         let firsts = firsts_of(node.items, node.id, node.class);
         Ok(Compound {

@@ -1,23 +1,20 @@
-//! Conversions: their method and parameters.
+//! Conversions, with their parameters.
 ghost use Rattle.std.specs.Prelude.{IfOk, ◌≡◌};
 ghost use Rattle.crs_shape.specs.declared.class.Class.TheVariants as classes;
 ghost use Rattle.crs_value.specs.Cursor.{item};
 ghost use Rattle.crs_value.specs.Checks.{IsSound};
-ghost use Rattle.crs_value.specs.ReadsConversion.{ReadsUnitOf, parameter_units, ReadsConversion, ReadsParameter};
-ghost use Rattle.crs_value.specs.ConversionValues.{ConversionParts, ParameterParts};
+ghost use Rattle.crs_value.specs.Reads.{ReadsUnitOf, parameter_units, ReadsConversion, ReadsParameter};
+ghost use Rattle.crs_value.specs.Values.{ConversionParts, ParameterParts};
 ghost use Rattle.crs_value.specs.SoundConversion.{IsConversion, IsParameter};
-ghost use Rattle.crs_value.specs.NamedValues.{NamedParts};
-ghost use Rattle.crs_value.specs.Sound.{IsNamed};
-ghost use Rattle.crs_value.specs.ReadsNamed.{ReadsNamed};
 
 use crate::reading::arguments::first;
 use crate::reading::cursor::Cursor;
 use crate::reading::node::Node;
 use crate::values::key::{Key, Keyed};
-use crate::{Ident, Level, List, Unit};
+use crate::{Ident, Level, List, Made, Method, Unit};
 use crs_decimal::Decimal;
 use crs_shape::Class;
-use std::alloc::{AllocError, Global};
+use std::alloc::Global;
 use std::marker::Model;
 
 /// A conversion, `CONVERSION[name, method, parameter.., id..]`: how projected coordinates come from
@@ -45,24 +42,6 @@ impl Drop for Conversion<'_> {
     fn drop(self) {
         let_go!(self: Conversion { name, method, parameters, identifiers });
     }
-}
-
-/// The method of a conversion, `METHOD[name, id..]`.
-/// ISO 19162:2019, "Map projection method".
-#[derive(Drop)]
-pub struct Method<'a> {
-    /// The name.
-    pub name: &'a [u8],
-    /// The identifiers, as written.
-    pub identifiers: List<Ident<'a>>,
-}
-
-impl<'a> Model for Method<'a> {
-    ghost Value = { NamedParts };
-
-    ghost view = { λ m. record { name = m.name.now; identifiers = m.identifiers } };
-
-    ghost invariant = { λ m. IsNamed (view m) };
 }
 
 /// A parameter of a conversion, `PARAMETER[name, value, (unit), id..]`.
@@ -95,7 +74,7 @@ const PARAMETER_UNITS: [Class; 4] = [
 ];
 
 // The unit of a parameter, of whichever class.
-fn parameter_unit<'a>(alloc: Global, node: &Cursor<'_, 'a>) -> Result<Option<Unit<'a>>, AllocError>
+fn parameter_unit<'a>(alloc: Global, node: &Cursor<'_, 'a>) -> Made<Option<Unit<'a>>>
     requires sound { IsSound Class.Parameter (item node.now) }
     ensures { IfOk result (λ unit. ReadsUnitOf parameter_units Class.Parameter (item node.now) unit) }
 {
@@ -113,22 +92,11 @@ impl<'a> Node<'a> for Conversion<'a> {
 
     ghost Reads = { λ c item parts. ReadsConversion c item parts };
 
-    fn read(alloc: Global, node: &Cursor<'_, 'a>) -> Result<Self, AllocError> {
+    fn read(alloc: Global, node: &Cursor<'_, 'a>) -> Made<Self> {
         Ok(Conversion {
             name: node.text(),
             method: node.one(alloc, Class::Method)?,
             parameters: node.many(alloc, Class::Parameter)?,
-            identifiers: node.many(alloc, Class::Identifier)?,
-        })
-    }
-}
-
-impl<'a> Node<'a> for Method<'a> {
-    ghost Reads = { λ c item parts. ReadsNamed c item parts };
-
-    fn read(alloc: Global, node: &Cursor<'_, 'a>) -> Result<Self, AllocError> {
-        Ok(Method {
-            name: node.text(),
             identifiers: node.many(alloc, Class::Identifier)?,
         })
     }
@@ -139,7 +107,7 @@ impl<'a> Node<'a> for Parameter<'a> {
 
     ghost Reads = { λ c item parts. ReadsParameter c item parts };
 
-    fn read(alloc: Global, node: &Cursor<'_, 'a>) -> Result<Self, AllocError> {
+    fn read(alloc: Global, node: &Cursor<'_, 'a>) -> Made<Self> {
         Ok(Parameter {
             name: node.text(),
             value: node.number(),

@@ -73,8 +73,8 @@ pub(crate) fn kind_by(system_type: SystemType) -> Kind
     }
 }
 
-// A CRS of one kind, which a constructor makes of its value; a fault is out of memory. A function clears the memory of
-// all its locals when it is entered. So each kind is read by a function of its own, which isn't inlined, and its value
+// The CRS that `make` makes of a value of one kind; the only fault is out of memory. A function clears the memory of
+// all its locals when it is entered. So each kind is read by an instance of its own, which isn't inlined, and the value
 // goes at once to the place of the answer.
 #[inline(never)]
 fn read_kind<'a, T: Node<'a>, F: FnOnce(T) -> Crs<'a>>(

@@ -1,22 +1,20 @@
 //! Reference frames and datum ensembles.
 ghost use Rattle.std.specs.Prelude.{◌≡◌, [], ◌∷◌, IfOk};
 ghost use Rattle.crs_value.specs.Reading.{Requires, RequiresOneOf};
-ghost use Rattle.crs_value.specs.EnsembleFrames.{datum_of, frame_of};
+ghost use Rattle.crs_value.specs.EnsembleFrames.{datum_of};
 ghost use Rattle.crs_value.specs.Checks.{IsSound};
 ghost use Rattle.crs_value.specs.Cursor.{item};
 ghost use Rattle.crs_value.specs.Reads.{ReadsDatum, ReadsEnsemble};
 ghost use Rattle.crs_value.specs.ReadsCrs.{ReadsFrame};
-ghost use Rattle.crs_value.specs.ReadsNamed.{ReadsNamed};
 ghost use Rattle.crs_shape.specs.declared.class.Class.TheVariants as classes;
 
 use crate::reading::arguments::first;
 use crate::reading::cursor::Cursor;
 use crate::reading::node::Node;
-use crate::values::key::{Keyed, key_of_named};
-use crate::{Ellipsoid, Ident, Level, List};
+use crate::{Ellipsoid, Ident, List, Made, Member};
 use crs_decimal::Decimal;
 use crs_shape::{Class, laws};
-use std::alloc::{AllocError, Global};
+use std::alloc::Global;
 use std::marker::Model;
 use std::mem;
 
@@ -35,31 +33,21 @@ impl Drop for Frame<'_> {
 }
 
 impl<'a> Frame<'a> {
-    // The reference frame, or that of the ensemble.
-    fn into_datum(self) -> Datum<'a>
-        ensures { result ≡ datum_of self.entry }
-    {
-        match self {
-            Frame::Datum(datum) => datum,
-            Frame::Ensemble(ensemble) => ensemble.into_frame(),
-        }
-    }
-
     /// Turns an ensemble into the reference frame of its name, its ellipsoid and its identifiers. A reference frame
     /// stays as it is. Profile.
     pub fn make_datum(&mut self, alloc: Global)
         ensures { self.new ≡ Frame.Datum (datum_of self.old) }
     {
-        // It says nothing, and takes no memory.
-        let nameless = Datum {
-            name: b"",
-            ellipsoid: None,
-            anchor: None,
-            anchor_epoch: None,
-            identifiers: List::new(alloc),
-        };
-        let frame = mem::replace(self, Frame::Datum(nameless));
-        *self = Frame::Datum(frame.into_datum());
+        if let Frame::Ensemble(ensemble) = self {
+            let datum = Datum {
+                name: ensemble.name,
+                ellipsoid: ensemble.ellipsoid.take(),
+                anchor: None,
+                anchor_epoch: None,
+                identifiers: mem::replace(&mut ensemble.identifiers, List::new(alloc)),
+            };
+            *self = Frame::Datum(datum);
+        }
     }
 }
 
@@ -140,52 +128,10 @@ impl Drop for Ensemble<'_> {
     }
 }
 
-impl<'a> Ensemble<'a> {
-    /// The reference frame of the ensemble's name, its ellipsoid and its identifiers. Profile.
-    pub fn into_frame(self) -> Datum<'a>
-        ensures { result ≡ frame_of self.entry }
-    {
-        let Ensemble {
-            name,
-            members: _,
-            ellipsoid,
-            accuracy: _,
-            identifiers,
-        } = self;
-        Datum {
-            name,
-            ellipsoid,
-            anchor: None,
-            anchor_epoch: None,
-            identifiers,
-        }
-    }
-}
-
-/// A member of a datum ensemble, `MEMBER[name, id..]`. ISO 19162:2019, "Datum ensemble".
-#[derive(Drop)]
-pub struct Member<'a> {
-    /// The name.
-    pub name: &'a [u8],
-    /// The identifiers, as written.
-    pub identifiers: List<Ident<'a>>,
-}
-
-impl<'a> Model for Member<'a> {
-    ghost use Rattle.crs_value.specs.NamedValues.{NamedParts};
-    ghost use Rattle.crs_value.specs.Sound.{IsNamed};
-
-    ghost Value = { NamedParts };
-
-    ghost view = { λ m. record { name = m.name.now; identifiers = m.identifiers } };
-
-    ghost invariant = { λ m. IsNamed (view m) };
-}
-
 impl<'a> Node<'a> for Datum<'a> {
     ghost Reads = { λ c item parts. ReadsDatum c item parts };
 
-    fn read(alloc: Global, node: &Cursor<'_, 'a>) -> Result<Self, AllocError> {
+    fn read(alloc: Global, node: &Cursor<'_, 'a>) -> Made<Self> {
         Ok(Datum {
             name: node.text(),
             ellipsoid: node.optional(alloc, Class::Ellipsoid)?,
@@ -202,7 +148,7 @@ impl<'a> Node<'a> for Ensemble<'a> {
 
     ghost Reads = { λ c item parts. ReadsEnsemble c item parts };
 
-    fn read(alloc: Global, node: &Cursor<'_, 'a>) -> Result<Self, AllocError> {
+    fn read(alloc: Global, node: &Cursor<'_, 'a>) -> Made<Self> {
         laws::slots_count();
         Ok(Ensemble {
             name: node.text(),
@@ -214,23 +160,6 @@ impl<'a> Node<'a> for Ensemble<'a> {
     }
 }
 
-impl<'a> Node<'a> for Member<'a> {
-    ghost Reads = { λ c item parts. ReadsNamed c item parts };
-
-    fn read(alloc: Global, node: &Cursor<'_, 'a>) -> Result<Self, AllocError> {
-        Ok(Member {
-            name: node.text(),
-            identifiers: node.many(alloc, Class::Identifier)?,
-        })
-    }
-}
-
-impl Keyed for Member<'_> {
-    fn key(&self, level: Level) -> u128 {
-        key_of_named(self.name, &self.identifiers, level)
-    }
-}
-
 // The frame of a CRS: its reference frame, of the one class, or where there is none its ensemble, of the
 // other.
 pub(crate) fn read_frame<'a>(
@@ -238,7 +167,7 @@ pub(crate) fn read_frame<'a>(
     node: &Cursor<'_, 'a>,
     frame: Class,
     ensemble: Class,
-) -> Result<Frame<'a>, AllocError>
+) -> Made<Frame<'a>>
     requires sound { IsSound node.now.class (item node.now) }
     requires there { RequiresOneOf node.now.class (frame ∷ ensemble ∷ []) }
     requires frame { Requires frame Class.Text 0 }
@@ -252,9 +181,7 @@ pub(crate) fn read_frame<'a>(
         let class = frame;
         return Datum::read(alloc, &Cursor { items, id, class }).map(Frame::Datum);
     }
-    let Some(id) = first(items, node.id, node.class, ensemble) else {
-        unreachable!()
-    };
+    let id = first(items, node.id, node.class, ensemble).unwrap();
     let class = ensemble;
     Ensemble::read(alloc, &Cursor { items, id, class }).map(Frame::Ensemble)
 }

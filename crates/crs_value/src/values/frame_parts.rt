@@ -1,23 +1,18 @@
 //! Ellipsoids, prime meridians and what dynamic frames say.
 ghost use Rattle.std.specs.Prelude.{◌≡◌};
 ghost use Rattle.crs_value.specs.SoundFrames.{IsEllipsoid, IsMeridian};
-ghost use Rattle.crs_value.specs.Values.{EllipsoidParts, MeridianParts};
-ghost use Rattle.crs_value.specs.Reads.{ReadsEllipsoid, ReadsMeridian};
+ghost use Rattle.crs_value.specs.Values.{EllipsoidParts, MeridianParts, DynamicParts};
+ghost use Rattle.crs_value.specs.Reads.{ReadsEllipsoid, ReadsMeridian, ReadsDynamic};
 ghost use Rattle.crs_value.specs.Reading.{Requires};
-ghost use Rattle.crs_value.specs.DynamicValues.{DynamicParts};
 ghost use Rattle.crs_value.specs.SoundDynamic.{IsDynamic};
-ghost use Rattle.crs_value.specs.NamedValues.{NamedParts};
-ghost use Rattle.crs_value.specs.Sound.{IsNamed};
-ghost use Rattle.crs_value.specs.ReadsDynamic.{ReadsDynamic};
-ghost use Rattle.crs_value.specs.ReadsNamed.{ReadsNamed};
 ghost use Rattle.crs_shape.specs.declared.class.Class.TheVariants as classes;
 
 use crate::reading::cursor::Cursor;
 use crate::reading::node::Node;
-use crate::{Ident, List, Unit};
+use crate::{DeformationModel, Ident, List, Made, Unit};
 use crs_decimal::Decimal;
 use crs_shape::{Class, laws};
-use std::alloc::{AllocError, Global};
+use std::alloc::Global;
 use std::marker::Model;
 
 /// An ellipsoid, `ELLIPSOID[name, semi-major axis, inverse flattening, (unit), id..]`.
@@ -55,7 +50,7 @@ impl<'a> Node<'a> for Ellipsoid<'a> {
 
     ghost Reads = { λ c item parts. ReadsEllipsoid c item parts };
 
-    fn read(alloc: Global, node: &Cursor<'_, 'a>) -> Result<Self, AllocError> {
+    fn read(alloc: Global, node: &Cursor<'_, 'a>) -> Made<Self> {
         Ok(Ellipsoid {
             name: node.text(),
             semi_major_axis: node.number_at(0),
@@ -93,7 +88,7 @@ impl<'a> Node<'a> for Meridian<'a> {
 
     ghost Reads = { λ c item parts. ReadsMeridian c item parts };
 
-    fn read(alloc: Global, node: &Cursor<'_, 'a>) -> Result<Self, AllocError> {
+    fn read(alloc: Global, node: &Cursor<'_, 'a>) -> Made<Self> {
         Ok(Meridian {
             name: node.text(),
             longitude: node.number(),
@@ -125,44 +120,16 @@ impl Drop for Dynamic<'_> {
     }
 }
 
-/// A deformation model, `MODEL[name, id..]`, or a velocity grid. ISO 19162:2019, "Deformation model".
-#[derive(Drop)]
-pub struct DeformationModel<'a> {
-    /// The name.
-    pub name: &'a [u8],
-    /// The identifiers, as written.
-    pub identifiers: List<Ident<'a>>,
-}
-
-impl<'a> Model for DeformationModel<'a> {
-    ghost Value = { NamedParts };
-
-    ghost view = { λ m. record { name = m.name.now; identifiers = m.identifiers } };
-
-    ghost invariant = { λ m. IsNamed (view m) };
-}
-
 impl<'a> Node<'a> for Dynamic<'a> {
     ghost Suits = { λ c. c ≡ classes.Dynamic };
 
     ghost Reads = { λ c item parts. ReadsDynamic c item parts };
 
-    fn read(alloc: Global, node: &Cursor<'_, 'a>) -> Result<Self, AllocError> {
+    fn read(alloc: Global, node: &Cursor<'_, 'a>) -> Made<Self> {
         laws::slots_count();
         Ok(Dynamic {
             epoch: node.one(alloc, Class::FrameEpoch)?,
             model: node.optional(alloc, Class::DeformationModel)?,
-        })
-    }
-}
-
-impl<'a> Node<'a> for DeformationModel<'a> {
-    ghost Reads = { λ c item parts. ReadsNamed c item parts };
-
-    fn read(alloc: Global, node: &Cursor<'_, 'a>) -> Result<Self, AllocError> {
-        Ok(DeformationModel {
-            name: node.text(),
-            identifiers: node.many(alloc, Class::Identifier)?,
         })
     }
 }

@@ -1,4 +1,4 @@
-//! Identifiers.
+//! Identifiers, and values that have a name and identifiers alone.
 ghost use Rattle.std.specs.Prelude.{◌≡◌, IsTrue, IfOk};
 ghost use Rattle.std.specs.Option.{option_copied};
 ghost use Rattle.crs_text.specs.Items.{arguments, skip};
@@ -8,16 +8,17 @@ ghost use Rattle.crs_value.specs.Checks.{IsSound};
 ghost use Rattle.crs_value.specs.Members.{HaveSameMembers, IsIn};
 ghost use Rattle.crs_value.specs.Reading.{ReadsFirst, ReadsOptional};
 ghost use Rattle.crs_value.specs.Reads.{ReadsText, single_of, ReadsIdent};
-ghost use Rattle.crs_value.specs.Sound.{IsIdent};
-ghost use Rattle.crs_value.specs.Values.{IdentParts};
+ghost use Rattle.crs_value.specs.ReadsNamed.{ReadsNamed};
+ghost use Rattle.crs_value.specs.Sound.{IsIdent, IsNamed};
+ghost use Rattle.crs_value.specs.NamedValues.{IdentParts, NamedParts};
 
-use crate::Level;
 use crate::reading::cursor::Cursor;
 use crate::reading::node::Node;
-use crate::values::key::{Keyed, Places, key_of_ident};
+use crate::values::key::{Key, Keyed, Places};
+use crate::{Level, List, Made};
 use crs_shape::Class;
 use crs_text::ItemKind;
-use std::alloc::{AllocError, Global};
+use std::alloc::Global;
 use std::marker::Model;
 
 /// An identifier, `ID[authority, code, (version), (citation), (uri)]`. A text is what is between its quotes, each
@@ -63,25 +64,15 @@ fn single<'a>(node: &Cursor<'_, 'a>, k: usize) -> Option<&'a [u8]>
     }
 }
 
-fn code<'a>(node: &Cursor<'_, 'a>) -> &'a [u8]
-    requires sound { IsSound Class.Identifier (item node.now) }
-    ensures { ReadsFirst ReadsText (single_of (skip 1 (arguments (item node.now)))) result.now }
-{
-    match single(node, 1) {
-        Some(code) => code,
-        None => unreachable!(),
-    }
-}
-
 impl<'a> Node<'a> for Ident<'a> {
     ghost Suits = { λ c. c ≡ classes.Identifier };
 
     ghost Reads = { λ c item parts. ReadsIdent c item parts };
 
-    fn read(_alloc: Global, node: &Cursor<'_, 'a>) -> Result<Self, AllocError> {
+    fn read(_alloc: Global, node: &Cursor<'_, 'a>) -> Made<Self> {
         Ok(Ident {
             authority: node.text(),
-            code: code(node),
+            code: single(node, 1).unwrap(),
             version: single(node, 2),
             citation: node.optional_text(Class::Citation),
             uri: node.optional_text(Class::Uri),
@@ -93,16 +84,20 @@ impl Keyed for Ident<'_> {
     const HAS_TWO_KEYS: bool = false;
 
     fn key(&self, _level: Level) -> u128 {
-        key_of_ident(self)
+        let mut key = Key::new();
+        key.put_text(self.authority);
+        key.put_text(self.code);
+        key.put_optional_text(self.version);
+        key.put_optional_text(self.citation);
+        key.put_optional_text(self.uri);
+        key.finish()
     }
 
-    fn once(
-        alloc: Global,
-        members: &[Self],
-        places: &[Places],
-    ) -> Result<Option<Vec<Self>>, AllocError> {
+    fn once(alloc: Global, members: &[Self], places: &[Places]) -> Made<Option<Vec<Self>>> {
         match places {
-            [places] if places.are_some_repeated() => Ok(Some(each_once(alloc, members, places)?)),
+            [places] if places.count_of_keys() < members.len() => Ok(Some(each_once(
+                alloc, members, places,
+            )?)),
             _ => Ok(None),
         }
     }
@@ -141,11 +136,7 @@ fn is_equal_at<'a>(ident: &Ident<'a>, idents: &[Ident<'a>], place: usize) -> boo
 }
 
 // Each identifier, unless it is equal to the last one before it that has its key.
-fn each_once<'a>(
-    alloc: Global,
-    idents: &[Ident<'a>],
-    places: &Places,
-) -> Result<Vec<Ident<'a>>, AllocError>
+fn each_once<'a>(alloc: Global, idents: &[Ident<'a>], places: &Places) -> Made<Vec<Ident<'a>>>
     ensures { IfOk result (λ once. HaveSameMembers once.items idents.now) }
 {
     let mut once = Vec::with_capacity(alloc, places.count_of_keys())?;
@@ -157,4 +148,54 @@ fn each_once<'a>(
         at += 1;
     }
     Ok(once)
+}
+
+/// A value that has a name and identifiers alone. Each kind of it is a type of its own, by its number.
+#[derive(Drop)]
+pub struct Named<'a, const KIND: u8> {
+    /// The name.
+    pub name: &'a [u8],
+    /// The identifiers, as written.
+    pub identifiers: List<Ident<'a>>,
+}
+
+/// The method of a conversion, `METHOD[name, id..]`.
+/// ISO 19162:2019, "Map projection method".
+pub type Method<'a> = Named<'a, 0>;
+
+/// A member of a datum ensemble, `MEMBER[name, id..]`. ISO 19162:2019, "Datum ensemble".
+pub type Member<'a> = Named<'a, 1>;
+
+/// A geoid model, `GEOIDMODEL[name, id..]`. ISO 19162:2019, "Vertical CRS".
+pub type GeoidModel<'a> = Named<'a, 2>;
+
+/// A deformation model, `MODEL[name, id..]`, or a velocity grid. ISO 19162:2019, "Deformation model".
+pub type DeformationModel<'a> = Named<'a, 3>;
+
+impl<'a, const KIND: u8> Model for Named<'a, KIND> {
+    ghost Value = { NamedParts };
+
+    ghost view = { λ n. record { name = n.name.now; identifiers = n.identifiers } };
+
+    ghost invariant = { λ n. IsNamed (view n) };
+}
+
+impl<'a, const KIND: u8> Node<'a> for Named<'a, KIND> {
+    ghost Reads = { λ c item parts. ReadsNamed c item parts };
+
+    fn read(alloc: Global, node: &Cursor<'_, 'a>) -> Made<Self> {
+        Ok(Named {
+            name: node.text(),
+            identifiers: node.many(alloc, Class::Identifier)?,
+        })
+    }
+}
+
+impl<const KIND: u8> Keyed for Named<'_, KIND> {
+    fn key(&self, level: Level) -> u128 {
+        let mut key = Key::new();
+        key.put_text(self.name);
+        key.put_idents(&self.identifiers, level);
+        key.finish()
+    }
 }

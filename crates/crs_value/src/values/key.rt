@@ -5,10 +5,10 @@ ghost use Rattle.std.specs.Prelude.{IfOk, IfSome};
 ghost use Rattle.crs_value.specs.Members.{HaveSameMembers};
 
 use crate::values::list::FEW;
-use crate::{BoundingBox, Extent, Ident, Level, List, Unit};
+use crate::{BoundingBox, Extent, Ident, Level, List, Made, Unit};
 use crs_decimal::Decimal;
 use crs_shape::UnitKind;
-use std::alloc::{AllocError, Global};
+use std::alloc::Global;
 use std::hash::{DefaultHasher, Hasher};
 
 // A value that may be a member of a set.
@@ -20,19 +20,15 @@ pub(crate) trait Keyed: Sized {
     const HAS_TWO_KEYS: bool = true;
 
     // These members, each once, if some are repeated; None for all but identifiers, which other members of sets have.
-    fn once(
-        _alloc: Global,
-        _members: &[Self],
-        _places: &[Places],
-    ) -> Result<Option<Vec<Self>>, AllocError>
+    fn once(_alloc: Global, _members: &[Self], _places: &[Places]) -> Made<Option<Vec<Self>>>
         ensures { IfOk result (λ once. IfSome once (λ once. HaveSameMembers once.items _members.now)) }
     {
         Ok(None)
     }
 }
 
-// What a key is made of: two digests, one of which has a word more in front. Each part is a word or two, which the
-// hashers take whole.
+// What a key is made of: two digests, one of which has a word more in front. Each part is two words, which the hashers
+// take whole.
 #[derive(Drop)]
 pub(crate) struct Key {
     high: DefaultHasher,
@@ -53,47 +49,35 @@ impl Key {
         u128::from(self.high.finish()) << 64 | u128::from(self.low.finish())
     }
 
-    fn put(&mut self, word: u64) {
-        self.high.write_u64(word);
-        self.low.write_u64(word);
-    }
-
-    fn put_wide(&mut self, word: u128) {
+    fn put(&mut self, word: u128) {
         self.high.write_u128(word);
         self.low.write_u128(word);
-    }
-
-    fn put_presence(&mut self, is_there: bool) {
-        self.put(u64::from(is_there));
     }
 
     pub(crate) fn put_text(&mut self, text: &[u8]) {
         let mut key = Key::new();
         key.high.write(text);
         key.low.write(text);
-        self.put_wide(key.finish());
+        self.put(key.finish());
     }
 
     pub(crate) fn put_optional_text(&mut self, text: Option<&[u8]>) {
-        self.put_presence(text.is_some());
-        if let Some(text) = text {
-            self.put_text(text);
+        match text {
+            Some(text) => self.put_text(text),
+            None => self.put(0),
         }
     }
 
-    pub(crate) fn put_number(&mut self, number: &Decimal) {
-        self.put_parts(number.is_negative(), number.digits(), number.power());
-    }
-
     // Equal numbers have equal parts.
-    fn put_parts(&mut self, negative: bool, digits: u128, power: i32) {
-        self.put_presence(negative);
-        self.put_wide(digits);
-        self.put(u64::from(power.cast_unsigned()));
+    pub(crate) fn put_number(&mut self, number: &Decimal) {
+        self.put(number.digits());
+        self.put(
+            u128::from(number.power().cast_unsigned()) << 1 | u128::from(number.is_negative()),
+        );
     }
 
     pub(crate) fn put_box(&mut self, bbox: &Option<BoundingBox>) {
-        self.put_presence(bbox.is_some());
+        self.put(u128::from(bbox.is_some()));
         if let Some(bbox) = bbox {
             self.put_number(&bbox.south);
             self.put_number(&bbox.west);
@@ -103,7 +87,7 @@ impl Key {
     }
 
     pub(crate) fn put_extent(&mut self, extent: &Option<Extent<'_>>) {
-        self.put_presence(extent.is_some());
+        self.put(u128::from(extent.is_some()));
         if let Some(extent) = extent {
             self.put_number(&extent.minimum);
             self.put_number(&extent.maximum);
@@ -116,16 +100,18 @@ impl Key {
         match unit {
             Some(unit) => self.put_unit(UnitKind::Length, unit, Level::Full),
             None => {
-                self.put(UnitKind::Length as u64);
+                self.put(UnitKind::Length as u128);
                 self.put_text(b"metre");
-                self.put_parts(false, 1, 0);
-                self.put_wide(key_of_set(&[]));
+                // The number 1.
+                self.put(1);
+                self.put(0);
+                self.put(Key::new().finish());
             }
         }
     }
 
     pub(crate) fn put_optional_unit(&mut self, unit: &Option<Unit<'_>>, level: Level) {
-        self.put_presence(unit.is_some());
+        self.put(u128::from(unit.is_some()));
         if let Some(unit) = unit {
             self.put_unit(UnitKind::Plain, unit, level);
         }
@@ -133,7 +119,7 @@ impl Key {
 
     // A unit where this kind is asked.
     fn put_unit(&mut self, asked: UnitKind, unit: &Unit<'_>, level: Level) {
-        self.put(unit.kind.as_asked(asked) as u64);
+        self.put(unit.kind.as_asked(asked) as u128);
         self.put_text(unit.name);
         self.put_number(&unit.factor);
         self.put_idents(&unit.identifiers, level);
@@ -142,58 +128,40 @@ impl Key {
     // The identifiers that the level keeps, in any order and however often.
     pub(crate) fn put_idents(&mut self, idents: &List<Ident<'_>>, level: Level) {
         match level {
-            Level::Full => self.put_wide(key_of_idents(idents)),
+            Level::Full => self.put(key_of_idents(idents)),
             Level::Definition => {}
         }
     }
 }
 
 // The key of a set whose members have these keys, in order: one that follows itself counts once.
-fn key_of_set(sorted: &[(u128, usize)]) -> u128 {
+fn key_of_set<T, F: Fn(&T) -> u128>(sorted: &[T], key_of: F) -> u128
+    requires { F.IsAlwaysCallable key_of }
+{
     let mut key = Key::new();
     let mut last = None;
-    for entry in sorted {
-        if last != Some(entry.0) {
-            key.put_wide(entry.0);
-            last = Some(entry.0);
+    for member in sorted {
+        let next = key_of(member);
+        if last != Some(next) {
+            key.put(next);
+            last = Some(next);
         }
     }
     key.finish()
 }
 
-// Of what has a name and identifiers.
-pub(crate) fn key_of_named(name: &[u8], idents: &List<Ident<'_>>, level: Level) -> u128 {
-    let mut key = Key::new();
-    key.put_text(name);
-    key.put_idents(idents, level);
-    key.finish()
-}
-
-pub(crate) fn key_of_ident(ident: &Ident<'_>) -> u128 {
-    let mut key = Key::new();
-    key.put_text(ident.authority);
-    key.put_text(ident.code);
-    key.put_optional_text(ident.version);
-    key.put_optional_text(ident.citation);
-    key.put_optional_text(ident.uri);
-    key.finish()
-}
-
 fn key_of_idents(idents: &List<Ident<'_>>) -> u128 {
-    match idents.places(Level::Full) {
-        Some(places) => key_of_set(&places.sorted),
-        None => key_of_few(idents.as_slice()),
+    if let Some(places) = idents.places(Level::Full) {
+        return key_of_set(&places.sorted, |entry| entry.0);
     }
-}
-
-fn key_of_few(idents: &[Ident<'_>]) -> u128 {
-    let mut entries = [(0, 0); FEW];
-    for (entry, ident) in entries.iter_mut().zip(idents) {
-        entry.0 = key_of_ident(ident);
+    let idents = idents.as_slice();
+    let mut keys = [0; FEW];
+    for (key, ident) in keys.iter_mut().zip(idents) {
+        *key = ident.key(Level::Full);
     }
-    let entries = &mut entries[..idents.len().min(FEW)];
-    entries.sort_unstable();
-    key_of_set(entries)
+    let keys = &mut keys[..idents.len().min(FEW)];
+    keys.sort_unstable();
+    key_of_set(keys, |key| *key)
 }
 
 // A place that no list has.
@@ -209,11 +177,7 @@ pub(crate) struct Places {
 }
 
 impl Places {
-    pub(crate) fn of<T: Keyed>(
-        alloc: Global,
-        members: &[T],
-        level: Level,
-    ) -> Result<Places, AllocError> {
+    pub(crate) fn of<T: Keyed>(alloc: Global, members: &[T], level: Level) -> Made<Places> {
         let mut keys = Vec::with_capacity(alloc, members.len())?;
         let mut sorted = Vec::with_capacity(alloc, members.len())?;
         for (place, member) in members.iter().enumerate() {
@@ -228,10 +192,6 @@ impl Places {
     // How many keys there are.
     pub(crate) fn count_of_keys(&self) -> usize {
         self.sorted.chunk_by(|a, b| a.0 == b.0).count()
-    }
-
-    pub(crate) fn are_some_repeated(&self) -> bool {
-        self.count_of_keys() < self.keys.len()
     }
 
     // The last place before this one that has its key.
@@ -268,41 +228,39 @@ pub struct Guess {
 /// Where the members of one list may have counterparts in another. Profile.
 #[derive(Clone, Copy)]
 pub struct Guesses<'b> {
-    own: Option<&'b Places>,
-    others: Option<&'b Places>,
+    // Where the members of the list are, and those of the other.
+    pub(crate) places: Option<(&'b Places, &'b Places)>,
 }
 
 impl<'b> Guesses<'b> {
     /// No guess.
     pub fn none() -> Guesses<'b> {
-        Guesses::new(None, None)
-    }
-
-    pub(crate) fn new(own: Option<&'b Places>, others: Option<&'b Places>) -> Guesses<'b> {
-        Guesses { own, others }
+        Guesses { places: None }
     }
 
     /// Whether there are any.
     pub fn are_known(self) -> bool {
-        self.own.is_some() && self.others.is_some()
+        self.places.is_some()
     }
 
     /// The guesses for the other list's members.
     pub fn turned(self) -> Guesses<'b> {
-        Guesses::new(self.others, self.own)
+        Guesses {
+            places: self.places.map(|(own, others)| (others, own)),
+        }
     }
 
     /// The guess for the member at this place.
     pub fn of(self, at: usize) -> Guess {
-        match (self.own, self.others) {
-            (Some(own), Some(others)) => Guess {
+        match self.places {
+            Some((own, others)) => Guess {
                 other: match own.keys.get(at) {
                     Some(key) => others.place(others.rank(*key, 0), *key),
                     None => NOWHERE,
                 },
                 before: own.before_of(at),
             },
-            _ => Guess {
+            None => Guess {
                 other: NOWHERE,
                 before: NOWHERE,
             },

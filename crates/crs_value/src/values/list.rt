@@ -1,14 +1,14 @@
 //! Lists.
 #![tactic(auto, unfolding(crate::specs::Fronts::front))]
 
-ghost use Rattle.std.specs.Prelude.{◌≡◌, ◌<◌, [], ◌∷◌, ◌++◌, IfOk, None, OnErr, length, map, take};
+ghost use Rattle.std.specs.Prelude.{◌≡◌, ◌<◌, [], IfOk, None, length, map};
 ghost use Rattle.std.specs.List.{swap};
-ghost use Rattle.crs_value.specs.Fronts.{AreFollowedByOnce, front};
+ghost use Rattle.crs_value.specs.Fronts.{front};
 ghost use Rattle.crs_value.specs.Members.{HaveSameMembers};
 
 use crate::values::key::{Guesses, Keyed, Places};
-use crate::values::level::Level;
-use std::alloc::{AllocError, Global};
+use crate::{Level, Made};
+use std::alloc::Global;
 use std::marker::Model;
 
 // In a list of up to so many members, a counterpart is looked for member by member.
@@ -84,7 +84,9 @@ impl<T> List<T> {
     /// Where members of `once` may have counterparts in another list. No promise rests on it: there are guesses for
     /// lists of more than 32 members, until they are changed.
     pub fn guesses<'b>(&'b self, others: &'b List<T>, level: Level) -> Guesses<'b> {
-        Guesses::new(self.places(level), others.places(level))
+        Guesses {
+            places: self.places(level).zip(others.places(level)),
+        }
     }
 
     pub(crate) fn places(&self, level: Level) -> Option<&Places> {
@@ -134,28 +136,29 @@ impl<T> List<T> {
         }
     }
 
-    // Out of memory, the list is as before.
-    pub(crate) fn push(&mut self, member: T) -> Result<(), AllocError>
-    where
-        T: Drop,
-        ensures { IfOk result (λ _. self.new ≡ self.old ++ member ∷ []) }
-    {
-        forget(&mut self.members, &mut self.lookup);
-        self.members.push(member)?;
-        Ok(())
-    }
-
-    // Has the list know where its members are, if they are many. Out of memory, it is as before.
-    pub(crate) fn note_places(&mut self, alloc: Global) -> Result<(), AllocError>
+    // The list of these members, which knows where they are if they are many. Behind them, where some are repeated, it
+    // has each once.
+    pub(crate) fn of(alloc: Global, mut members: Vec<T>) -> Made<List<T>>
     where
         T: Keyed + Drop,
-        ensures { self.new ≡ self.old }
+        ensures { IfOk result (λ list. list ≡ members.items) }
     {
-        forget(&mut self.members, &mut self.lookup);
-        if self.members.len() > FEW {
-            self.lookup = Some(lookup_of(alloc, &mut self.members)?);
+        let count = members.len();
+        if count <= FEW {
+            return Ok(List {
+                members,
+                lookup: None,
+            });
         }
-        Ok(())
+        let places = places_of(alloc, &members)?;
+        let Some(mut once) = T::once(alloc, &members, &places)? else {
+            let lookup = Some(Box::new(alloc, Lookup { count, places })?);
+            return Ok(List { members, lookup });
+        };
+        let places = places_of(alloc, &once)?;
+        let lookup = Some(Box::new(alloc, Lookup { count, places })?);
+        members.append(&mut once)?;
+        Ok(List { members, lookup })
     }
 }
 
@@ -170,29 +173,7 @@ fn forget<T: Drop>(members: &mut Vec<T>, lookup: &mut Option<Box<Lookup>>)
     }
 }
 
-// How these are found; behind them, where some are repeated, each once. Out of memory, they are as before.
-fn lookup_of<T: Keyed + Drop>(
-    alloc: Global,
-    members: &mut Vec<T>,
-) -> Result<Box<Lookup>, AllocError>
-    ensures found { IfOk result (λ lookup. (take lookup.value.count members.new.items ≡ members.old.items)
-        × AreFollowedByOnce lookup.value.count members.new.items) }
-    ensures refused { OnErr result (members.new.items ≡ members.old.items) }
-{
-    let count = members.len();
-    let places = places_of(alloc, members)?;
-    match T::once(alloc, members, &places)? {
-        Some(mut once) => {
-            let places = places_of(alloc, &once)?;
-            let lookup = Box::new(alloc, Lookup { count, places })?;
-            members.append(&mut once)?;
-            Ok(lookup)
-        }
-        None => Ok(Box::new(alloc, Lookup { count, places })?),
-    }
-}
-
-fn places_of<T: Keyed>(alloc: Global, members: &[T]) -> Result<Vec<Places>, AllocError> {
+fn places_of<T: Keyed>(alloc: Global, members: &[T]) -> Made<Vec<Places>> {
     let mut places = Vec::new(alloc);
     places.push(Places::of(alloc, members, Level::Full)?)?;
     if T::HAS_TWO_KEYS {

@@ -1,19 +1,19 @@
-//! Single CRSs: geodetic, projected and vertical ones, with base CRSs and geoid models.
+//! Single CRSs: geodetic, projected and vertical ones, with base CRSs.
 ghost use Rattle.std.specs.Prelude.{◌≡◌};
 ghost use Rattle.crs_value.specs.ReadsCrs.{IsGeodeticClass, ReadsBase, ReadsGeodetic, ReadsProjected, ReadsVertical};
-ghost use Rattle.crs_value.specs.ReadsNamed.{ReadsNamed};
 ghost use Rattle.crs_shape.specs.declared.class.Class.TheVariants as classes;
 
 use crate::reading::cursor::Cursor;
 use crate::reading::firsts::firsts_of;
 use crate::reading::node::Node;
 use crate::values::frame::read_frame;
-use crate::values::key::{Keyed, key_of_named};
 use crate::values::system::read_system;
 use crate::values::usage::read_tail;
-use crate::{Conversion, Dynamic, Frame, Ident, Level, List, Meridian, System, Tail, Unit};
+use crate::{
+    Conversion, Dynamic, Frame, GeoidModel, Ident, List, Made, Meridian, System, Tail, Unit,
+};
 use crs_shape::{Class, laws};
-use std::alloc::{AllocError, Global};
+use std::alloc::Global;
 use std::marker::Model;
 
 /// A geodetic or geographic CRS, `GEODCRS[name, (dynamic), frame, (meridian), system, tail]` or with `GEOGCRS`.
@@ -62,7 +62,7 @@ impl<'a> Node<'a> for Geodetic<'a> {
 
     ghost Reads = { λ c item parts. ReadsGeodetic c item parts };
 
-    fn read(alloc: Global, node: &Cursor<'_, 'a>) -> Result<Self, AllocError> {
+    fn read(alloc: Global, node: &Cursor<'_, 'a>) -> Made<Self> {
         laws::slots_count();
         let firsts = firsts_of(node.items, node.id, node.class);
         Ok(Geodetic {
@@ -160,7 +160,7 @@ impl<'a> Node<'a> for Projected<'a> {
 
     ghost Reads = { λ c item parts. ReadsProjected c item parts };
 
-    fn read(alloc: Global, node: &Cursor<'_, 'a>) -> Result<Self, AllocError> {
+    fn read(alloc: Global, node: &Cursor<'_, 'a>) -> Made<Self> {
         laws::slots_count();
         let firsts = firsts_of(node.items, node.id, node.class);
         Ok(Projected {
@@ -178,7 +178,7 @@ impl<'a> Node<'a> for Base<'a> {
 
     ghost Reads = { λ c item parts. ReadsBase c item parts };
 
-    fn read(alloc: Global, node: &Cursor<'_, 'a>) -> Result<Self, AllocError> {
+    fn read(alloc: Global, node: &Cursor<'_, 'a>) -> Made<Self> {
         laws::slots_count();
         Ok(Base {
             name: node.text(),
@@ -232,32 +232,12 @@ impl Drop for Vertical<'_> {
     }
 }
 
-/// A geoid model, `GEOIDMODEL[name, id..]`. ISO 19162:2019, "Vertical CRS".
-#[derive(Drop)]
-pub struct GeoidModel<'a> {
-    /// The name.
-    pub name: &'a [u8],
-    /// The identifiers, as written.
-    pub identifiers: List<Ident<'a>>,
-}
-
-impl<'a> Model for GeoidModel<'a> {
-    ghost use Rattle.crs_value.specs.NamedValues.{NamedParts};
-    ghost use Rattle.crs_value.specs.Sound.{IsNamed};
-
-    ghost Value = { NamedParts };
-
-    ghost view = { λ g. record { name = g.name.now; identifiers = g.identifiers } };
-
-    ghost invariant = { λ g. IsNamed (view g) };
-}
-
 impl<'a> Node<'a> for Vertical<'a> {
     ghost Suits = { λ c. c ≡ classes.VerticalCrs };
 
     ghost Reads = { λ c item parts. ReadsVertical c item parts };
 
-    fn read(alloc: Global, node: &Cursor<'_, 'a>) -> Result<Self, AllocError> {
+    fn read(alloc: Global, node: &Cursor<'_, 'a>) -> Made<Self> {
         laws::slots_count();
         let firsts = firsts_of(node.items, node.id, node.class);
         Ok(Vertical {
@@ -268,22 +248,5 @@ impl<'a> Node<'a> for Vertical<'a> {
             geoid_models: node.many(alloc, Class::GeoidModel)?,
             tail: read_tail(alloc, node, &firsts)?,
         })
-    }
-}
-
-impl<'a> Node<'a> for GeoidModel<'a> {
-    ghost Reads = { λ c item parts. ReadsNamed c item parts };
-
-    fn read(alloc: Global, node: &Cursor<'_, 'a>) -> Result<Self, AllocError> {
-        Ok(GeoidModel {
-            name: node.text(),
-            identifiers: node.many(alloc, Class::Identifier)?,
-        })
-    }
-}
-
-impl Keyed for GeoidModel<'_> {
-    fn key(&self, level: Level) -> u128 {
-        key_of_named(self.name, &self.identifiers, level)
     }
 }

@@ -1,27 +1,25 @@
 //! Units, axes and coordinate systems.
 ghost use Rattle.crs_value.specs.Cursor.{item};
 ghost use Rattle.crs_value.specs.Checks.{IsSound, HasSystem};
-ghost use Rattle.crs_value.specs.Reads.{ReadsKind, IsUnitClass, ReadsUnit, ReadsDirection, ReadsAxisMeridian};
-ghost use Rattle.crs_value.specs.Reads.{ReadsAxis, HasType, ReadsType, ReadsSystem};
-ghost use Rattle.crs_value.specs.Sound.{IsUnit, IsAxis, IsAxisMeridian};
+ghost use Rattle.crs_value.specs.Reads.{ReadsKind, IsUnitClass, ReadsUnit, ReadsDirection, ReadsAxisMeridian, ReadsAxis, HasType, ReadsType, ReadsSystem};
+ghost use Rattle.crs_value.specs.Sound.{IsUnit, IsAxis, IsAxisMeridian, own_or, IsSystem};
 ghost use Rattle.crs_value.specs.Values.{UnitParts, AxisParts, AxisMeridianParts, SystemParts};
 ghost use Rattle.crs_value.specs.Reading.{Requires, those, ReadsFirst, item_at};
 ghost use Rattle.std.specs.Prelude.{◌≡◌, IfOk};
 ghost use Rattle.crs_text.specs.Items.{arguments, HasId};
 ghost use Rattle.std.specs.Option.{option_copied};
 ghost use Rattle.crs_value.specs.FirstArguments.{AreFirsts};
-ghost use Rattle.crs_value.specs.SoundSystem.{own_or, IsSystem};
 ghost use Rattle.crs_shape.specs.declared.class.Class.TheVariants as classes;
 
 use crate::reading::cursor::Cursor;
 use crate::reading::firsts::Firsts;
 use crate::reading::node::{Node, required};
 use crate::values::key::Keyed;
-use crate::{Ident, Level, List};
+use crate::{Ident, Level, List, Made};
 use crs_decimal::Decimal;
 use crs_shape::{Class, Direction, SystemType, UnitKind, laws};
 use crs_text::{ItemId, Items};
-use std::alloc::{AllocError, Global};
+use std::alloc::Global;
 use std::marker::Model;
 
 /// A unit, `LENGTHUNIT[name, factor, id..]` or with another keyword of a unit.
@@ -46,25 +44,14 @@ impl<'a> Model for Unit<'a> {
     ghost invariant = { λ u. IsUnit (view u) };
 }
 
-fn kind(node: &Cursor<'_, '_>) -> UnitKind
-    requires class { IsUnitClass node.now.class }
-    requires sound { IsSound node.now.class (item node.now) }
-    ensures { ReadsKind (item node.now) result }
-{
-    match UnitKind::read(node.items.raw(node.id)) {
-        Some(kind) => kind,
-        None => unreachable!(),
-    }
-}
-
 impl<'a> Node<'a> for Unit<'a> {
     ghost Suits = { λ c. IsUnitClass c × Requires c classes.Text 0 × Requires c classes.Number 0 };
 
     ghost Reads = { λ c item parts. ReadsUnit c item parts };
 
-    fn read(alloc: Global, node: &Cursor<'_, 'a>) -> Result<Self, AllocError> {
+    fn read(alloc: Global, node: &Cursor<'_, 'a>) -> Made<Self> {
         Ok(Unit {
-            kind: kind(node),
+            kind: UnitKind::read(node.items.raw(node.id)).unwrap(),
             name: node.text(),
             factor: node.number(),
             identifiers: node.many(alloc, Class::Identifier)?,
@@ -133,7 +120,7 @@ impl<'a> Node<'a> for AxisMeridian<'a> {
 
     ghost Reads = { λ c item parts. ReadsAxisMeridian c item parts };
 
-    fn read(alloc: Global, node: &Cursor<'_, 'a>) -> Result<Self, AllocError> {
+    fn read(alloc: Global, node: &Cursor<'_, 'a>) -> Made<Self> {
         Ok(AxisMeridian {
             longitude: node.number(),
             unit: node.one(alloc, Class::AngleUnit)?,
@@ -146,10 +133,11 @@ impl<'a> Node<'a> for Axis<'a> {
 
     ghost Reads = { λ c item parts. ReadsAxis c item parts };
 
-    fn read(alloc: Global, node: &Cursor<'_, 'a>) -> Result<Self, AllocError> {
+    fn read(alloc: Global, node: &Cursor<'_, 'a>) -> Made<Self> {
+        let word = required(node.items, node.id, Class::Axis, Class::Word);
         Ok(Axis {
             name: node.text(),
-            direction: direction(node),
+            direction: Direction::read(node.items.raw(word)).unwrap(),
             meridian: node.optional(alloc, Class::AxisMeridian)?,
             order: node.optional(alloc, Class::Order)?,
             unit: node.optional(alloc, Class::AxisUnit)?,
@@ -162,18 +150,6 @@ impl<'a> Node<'a> for Axis<'a> {
 impl Keyed for Axis<'_> {
     fn key(&self, _level: Level) -> u128 {
         0
-    }
-}
-
-fn direction(node: &Cursor<'_, '_>) -> Direction
-    requires sound { IsSound Class.Axis (item node.now) }
-    ensures { ReadsFirst ReadsDirection (those Class.Axis Class.Word (arguments (item node.now))) result }
-{
-    let items = node.items;
-    let word = required(items, node.id, Class::Axis, Class::Word);
-    match Direction::read(items.raw(word)) {
-        Some(direction) => direction,
-        None => unreachable!(),
     }
 }
 
@@ -231,10 +207,7 @@ fn system_type(items: &Items<'_>, id: ItemId) -> SystemType
         (item_at items.now id))) result }
 {
     let word = required(items, id, Class::CoordinateSystem, Class::Word);
-    match SystemType::read(items.raw(word)) {
-        Some(system_type) => system_type,
-        None => unreachable!(),
-    }
+    SystemType::read(items.raw(word)).unwrap()
 }
 
 // The type of the system of a CRS of this class.
@@ -255,7 +228,7 @@ pub(crate) fn read_system<'a>(
     alloc: Global,
     node: &Cursor<'_, 'a>,
     firsts: &Firsts,
-) -> Result<System<'a>, AllocError>
+) -> Made<System<'a>>
     requires sound { IsSound node.now.class (item node.now) }
     requires system { HasSystem node.now.class }
     requires there { Requires node.now.class Class.CoordinateSystem 0 × Requires node.now.class Class.Axis 0 }

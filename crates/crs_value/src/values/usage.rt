@@ -1,5 +1,5 @@
 //! Usages, and the ends of CRSs.
-ghost use Rattle.std.specs.Prelude.{◌↔◌, IsTrue, IfOk, ◌≡◌};
+ghost use Rattle.std.specs.Prelude.{IfOk, ◌≡◌};
 ghost use Rattle.std.specs.Option.{option_copied};
 ghost use Rattle.crs_text.specs.Items.{arguments};
 ghost use Rattle.crs_shape.specs.declared.class.Class.TheVariants as classes;
@@ -8,17 +8,17 @@ ghost use Rattle.crs_value.specs.Cursor.{item};
 ghost use Rattle.crs_value.specs.Checks.{IsSound};
 ghost use Rattle.crs_value.specs.FirstArguments.{AreFirsts};
 ghost use Rattle.crs_value.specs.Reads.{ReadsBare, ReadsTail, ReadsBox, ReadsExtent, ReadsUsage};
-ghost use Rattle.crs_value.specs.Values.{SaysSome, UsageParts, BoxParts, ExtentParts, TailParts};
-ghost use Rattle.crs_value.specs.SoundUsages.{IsUsage, IsBox, IsExtent, IsTail};
+ghost use Rattle.crs_value.specs.Values.{UsageParts, BoxParts, ExtentParts, TailParts};
+ghost use Rattle.crs_value.specs.Sound.{IsUsage, IsBox, IsExtent, IsTail};
 
 use crate::reading::cursor::Cursor;
 use crate::reading::firsts::Firsts;
 use crate::reading::node::Node;
 use crate::values::key::{Key, Keyed};
-use crate::{Ident, Level, List, Unit};
+use crate::{Ident, Level, List, Made, Unit};
 use crs_decimal::Decimal;
 use crs_shape::{Class, laws};
-use std::alloc::{AllocError, Global};
+use std::alloc::Global;
 use std::marker::Model;
 
 /// A usage, `USAGE[(scope), (area), (box), (extent)]`, with one part at least; or the parts of one that are bare at a
@@ -126,7 +126,7 @@ impl<'a> Node<'a> for BoundingBox {
 
     ghost Reads = { λ c item parts. ReadsBox c item parts };
 
-    fn read(_alloc: Global, node: &Cursor<'_, 'a>) -> Result<Self, AllocError> {
+    fn read(_alloc: Global, node: &Cursor<'_, 'a>) -> Made<Self> {
         Ok(BoundingBox {
             south: node.number_at(0),
             west: node.number_at(1),
@@ -141,7 +141,7 @@ impl<'a> Node<'a> for Extent<'a> {
 
     ghost Reads = { λ c item parts. ReadsExtent c item parts };
 
-    fn read(alloc: Global, node: &Cursor<'_, 'a>) -> Result<Self, AllocError> {
+    fn read(alloc: Global, node: &Cursor<'_, 'a>) -> Made<Self> {
         Ok(Extent {
             minimum: node.number_at(0),
             maximum: node.number_at(1),
@@ -155,7 +155,7 @@ impl<'a> Node<'a> for Usage<'a> {
 
     ghost Reads = { λ c item parts. ReadsUsage c item parts };
 
-    fn read(alloc: Global, node: &Cursor<'_, 'a>) -> Result<Self, AllocError> {
+    fn read(alloc: Global, node: &Cursor<'_, 'a>) -> Made<Self> {
         laws::slots_count();
         Ok(Usage {
             scope: node.optional_text(Class::Scope),
@@ -179,29 +179,8 @@ impl Keyed for Usage<'_> {
     }
 }
 
-// Whether a usage of these parts has one at least.
-fn says_some(
-    scope: Option<&[u8]>,
-    area: Option<&[u8]>,
-    bbox: &Option<BoundingBox>,
-    extent: &Option<Extent<'_>>,
-) -> bool
-    ensures { IsTrue result ↔ SaysSome (record {
-      scope = option_copied scope.entry;
-      area = option_copied area.entry;
-      bbox = bbox.now;
-      extent = extent.now;
-    }) }
-{
-    scope.is_some() || area.is_some() || bbox.is_some() || extent.is_some()
-}
-
 // The usage whose parts are bare at a CRS's end, None where no part is.
-fn bare_usage<'a>(
-    alloc: Global,
-    node: &Cursor<'_, 'a>,
-    firsts: &Firsts,
-) -> Result<Option<Usage<'a>>, AllocError>
+fn bare_usage<'a>(alloc: Global, node: &Cursor<'_, 'a>, firsts: &Firsts) -> Made<Option<Usage<'a>>>
     requires sound { IsSound node.now.class (item node.now) }
     requires firsts { AreFirsts node.now.items.now node.now.class (arguments (item node.now)) firsts.now }
     ensures { IfOk result (ReadsBare node.now.class (item node.now)) }
@@ -210,7 +189,7 @@ fn bare_usage<'a>(
     let area = node.optional_text_from(Class::Area, firsts.area);
     let bbox = node.optional_from(alloc, Class::BoundingBox, firsts.bbox)?;
     let extent = node.optional_from(alloc, Class::VerticalExtent, firsts.extent)?;
-    if !says_some(scope, area, &bbox, &extent) {
+    if scope.is_none() && area.is_none() && bbox.is_none() && extent.is_none() {
         return Ok(None);
     }
     Ok(Some(Usage {
@@ -222,11 +201,7 @@ fn bare_usage<'a>(
 }
 
 // The end of a CRS of this class.
-pub(crate) fn read_tail<'a>(
-    alloc: Global,
-    node: &Cursor<'_, 'a>,
-    firsts: &Firsts,
-) -> Result<Tail<'a>, AllocError>
+pub(crate) fn read_tail<'a>(alloc: Global, node: &Cursor<'_, 'a>, firsts: &Firsts) -> Made<Tail<'a>>
     requires sound { IsSound node.now.class (item node.now) }
     requires firsts { AreFirsts node.now.items.now node.now.class (arguments (item node.now)) firsts.now }
     ensures { IfOk result (λ tail. ReadsTail node.now.class (item node.now) tail) }

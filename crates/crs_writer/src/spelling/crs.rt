@@ -1,79 +1,251 @@
-//! Vertical and compound CRSs, and CRSs of any kind.
-ghost use Rattle.std.specs.Prelude.{◌≡◌, ◌++◌, OnOk};
+//! CRSs of each kind, and the base CRSs of projected ones.
+ghost use Rattle.std.specs.Prelude.{◌≡◌, ◌∷◌, ◌++◌, [], ℕ, List, OnOk, Option, codes};
+ghost use Rattle.std.specs.Option.{option_map};
+ghost use Rattle.crs_text.specs.Items.{End, More};
+ghost use Rattle.crs_text.specs.Written.{item_text};
+ghost use Rattle.crs_shape.specs.declared.unit_kind.UnitKind.TheVariants as kinds;
 ghost use Rattle.crs_value.specs.CompoundValues.{CompoundParts};
-ghost use Rattle.crs_value.specs.CrsValues.{VerticalParts};
-ghost use Rattle.crs_value.specs.ReadsCrs.{ReadsCompound, ReadsCrs, ReadsVertical};
-ghost use Rattle.crs_normal.specs.PartTexts.{compound_text, vertical_text};
+ghost use Rattle.crs_value.specs.CrsValues.{ProjectedParts, VerticalParts};
+ghost use Rattle.crs_value.specs.Values.{DynamicParts, IdentParts, MeridianParts, SystemParts, TailParts, UnitParts};
+ghost use Rattle.crs_value.specs.ReadsCrs.{ReadsBase, ReadsCompound, ReadsCrs, ReadsGeodetic, ReadsHorizontal, ReadsProjected, ReadsVertical};
+ghost use Rattle.crs_value.specs.declared.values.frame.Frame.{Frame};
+ghost use Rattle.crs_normal.specs.PartTexts.{base_text, compound_text, geodetic_text, horizontal_text, projected_text, vertical_text};
+ghost use Rattle.crs_normal.specs.SpelledCrs.{geodetic_keyword};
+ghost use Rattle.crs_normal.specs.SpelledDynamic.{item_dynamic, norm_dynamic};
+ghost use Rattle.crs_normal.specs.SpelledFrames.{item_frame, item_meridian, norm_frame, norm_meridian};
+ghost use Rattle.crs_normal.specs.SpelledItems.{each, node_of, opt, text_item, item_ident, item_unit, norm_units, set_idents};
+ghost use Rattle.crs_normal.specs.SpelledSystems.{norm_system, system_items};
+ghost use Rattle.crs_normal.specs.SpelledUsages.{norm_tail, tail_items};
 ghost use Rattle.crs_nodes.specs.Cursor.{item};
 ghost use Rattle.crs_nodes.specs.Found.{SaysIfAny};
 ghost use Rattle.crs_leaves.specs.Direct.{IsRead, Writes};
+ghost use Rattle.crs_leaves.specs.Openings.{named_node};
 ghost use Rattle.crs_writer.specs.CrsText.{crs_text};
 
 use crate::members::{MembersPart, ReadAs};
-use crate::parts::{Appended, Part, Spell, write_optional};
+use crate::parts::{Appended, IdentsPart, Part, Spell, UnitPart, write_optional};
 use crate::set::write_set;
+use crate::spelling::common::write_optional_unit;
 use crate::spelling::frame::FramePart;
+use crate::spelling::frame_parts::write_meridian;
 use crate::spelling::system::{SystemPart, write_system};
-use crate::spelling::usage::TailPart;
+use crate::spelling::tail::TailPart;
 use crs_leaves::{append, open_text};
 use crs_nodes::Node;
 use crs_shape::Class;
 use crs_value::{
-    Compound, Crs, Dynamic, Geodetic, GeoidModel, Horizontal, Level, Projected, Vertical,
+    Base, Compound, Conversion, Crs, Dynamic, Geodetic, GeoidModel, Horizontal, Level, Meridian,
+    Projected, SystemType, UnitKind, Vertical,
 };
 use std::alloc::AllocError;
 
-// The parts of a vertical CRS.
-#[derive(Drop)]
-struct VerticalFields<'n, 'm, D, F, S, G, T> {
-    name: &'n [u8],
-    dynamic: Option<D>,
-    frame: F,
-    system: S,
-    models: &'m G,
-    tail: T,
+// The keyword of a geodetic CRS whose coordinate system has this type, the opening delimiter and a quote.
+pub fn geodetic_opening(system_type: SystemType) -> &'static str
+    ensures { result.now ≡ geodetic_keyword system_type ++ 91 ∷ 34 ∷ [] }
+{
+    match system_type {
+        SystemType::Ellipsoidal => "GEOGCRS[\"",
+        SystemType::Cartesian | SystemType::Spherical | SystemType::Vertical => "GEODCRS[\"",
+    }
 }
 
-impl<
-    'n,
-    'm,
+// The datum is the dynamic part, the frame and the prime meridian.
+#[tactic(auto, using(crate::proofs::FlatLemmas::crs_rules))]
+fn write_geodetic<
+    'a,
+    D: Part<Dynamic<'a>>,
+    F: FramePart,
+    M: Part<Meridian<'a>>,
+    S: SystemPart,
+    T: TailPart,
+>(
+    out: &mut Vec<u8>,
+    named: (&[u8], T),
+    datum: (Option<D>, F, Option<M>),
+    system: S,
+    level: Level,
+) -> Appended
+    ensures { OnOk result ((n : List ℕ) (d : Option DynamicParts) (f : Frame) (m : Option MeridianParts)
+        (s : SystemParts) (t : TailParts) → n ≡ named.entry.0.now → SaysIfAny D.Says datum.0 d →
+        F.SaysGeodetic datum.1 f → SaysIfAny M.Says datum.2 m → S.Says system s →
+        T.Says named.entry.1 t → out.new.items ≡ out.old.items
+        ++ item_text (node_of (geodetic_keyword s.system_type) (text_item n)
+        (opt item_dynamic (option_map (norm_dynamic level) d) (More (item_frame (codes "DATUM") (norm_frame level f))
+        (opt item_meridian (norm_meridian level m)
+        (system_items (norm_system level s) (tail_items (norm_tail level t)))))))) }
+{
+    let opening = geodetic_opening(system.system_type());
+    open_text(out, opening.as_bytes(), named.0)?;
+    write_optional::<Dynamic<'a>, D>(out, datum.0, level)?;
+    datum.1.put_geodetic(out, level)?;
+    write_meridian::<M>(out, datum.2, level)?;
+    write_system(out, system, level)?;
+    named.1.put(out, level)?;
+    append(out, b"]")
+}
+
+impl Spell for Geodetic<'_> {
+    ghost spelling = { geodetic_text };
+
+    #[tactic(auto, using(crate::proofs::FlatLemmas::value_rules))]
+    fn spell(&self, out: &mut Vec<u8>, level: Level) -> Appended {
+        let datum = (self.dynamic.as_ref(), &self.frame, self.meridian.as_ref());
+        write_geodetic(out, (self.name, &self.tail), datum, &self.system, level)
+    }
+}
+
+impl<'a> ReadAs<'a> for Geodetic<'a> {
+    ghost Reads = { ReadsGeodetic };
+
+    fn write_of(node: &Node<'_, 'a>, out: &mut Vec<u8>, level: Level) -> Appended {
+        let dynamic = node.first(Class::Dynamic);
+        let meridian = node.first(Class::PrimeMeridian);
+        let datum = (dynamic.as_ref(), node, meridian.as_ref());
+        write_geodetic(out, (node.text(), node), datum, node, level)
+    }
+}
+
+// After an opening; the datum is as in a geodetic CRS, and the unit of its angles.
+#[tactic(auto, using(crate::proofs::FlatLemmas::crs_rules))]
+fn write_base<
+    'a,
+    D: Part<Dynamic<'a>>,
+    F: FramePart,
+    M: Part<Meridian<'a>>,
+    U: UnitPart,
+    I: IdentsPart,
+>(
+    out: &mut Vec<u8>,
+    opening: &[u8],
+    named: (&[u8], I),
+    datum: (Option<D>, F, Option<M>, Option<U>),
+    level: Level,
+) -> Appended
+    ensures { OnOk result ((n : List ℕ) (d : Option DynamicParts) (f : Frame) (m : Option MeridianParts)
+        (u : Option UnitParts) (is : List IdentParts) → n ≡ named.entry.0.now → SaysIfAny D.Says datum.0 d →
+        F.SaysGeodetic datum.1 f → SaysIfAny M.Says datum.2 m → SaysIfAny U.Says datum.3 u → I.Says named.entry.1 is →
+        out.new.items ≡ out.old.items ++ named_node opening.now n (opt item_dynamic (option_map (norm_dynamic level) d)
+        (More (item_frame (codes "DATUM") (norm_frame level f)) (opt item_meridian (norm_meridian level m)
+        (opt item_unit (norm_units level kinds.Angle u) (each item_ident (set_idents level is) End)))))) }
+{
+    open_text(out, opening, named.0)?;
+    write_optional::<Dynamic<'a>, D>(out, datum.0, level)?;
+    datum.1.put_geodetic(out, level)?;
+    write_meridian::<M>(out, datum.2, level)?;
+    write_optional_unit(out, UnitKind::Angle, datum.3, level)?;
+    named.1.put(out, level)?;
+    append(out, b"]")
+}
+
+impl Spell for Base<'_> {
+    ghost spelling = { base_text };
+
+    fn spell(&self, out: &mut Vec<u8>, level: Level) -> Appended {
+        let named = (self.name, &self.identifiers);
+        let datum = (
+            self.dynamic.as_ref(),
+            &self.frame,
+            self.meridian.as_ref(),
+            self.unit.as_ref(),
+        );
+        write_base(out, b"BASEGEOGCRS[\"", named, datum, level)
+    }
+}
+
+impl<'a> ReadAs<'a> for Base<'a> {
+    ghost Reads = { ReadsBase };
+
+    fn write_of(node: &Node<'_, 'a>, out: &mut Vec<u8>, level: Level) -> Appended {
+        let dynamic = node.first(Class::Dynamic);
+        let meridian = node.first(Class::PrimeMeridian);
+        let unit = node.first(Class::AngleUnit);
+        let datum = (dynamic.as_ref(), node, meridian.as_ref(), unit.as_ref());
+        write_base(out, b"BASEGEOGCRS[\"", (node.text(), node), datum, level)
+    }
+}
+
+// The derivation is the base CRS and the conversion.
+fn write_projected<'a, B: Part<Base<'a>>, C: Part<Conversion<'a>>, S: SystemPart, T: TailPart>(
+    out: &mut Vec<u8>,
+    named: (&[u8], T),
+    derivation: (B, C),
+    system: S,
+    level: Level,
+) -> Appended
+    ensures { OnOk result ((p : ProjectedParts) → p.name ≡ named.entry.0.now → B.Says derivation.0 p.base →
+        C.Says derivation.1 p.conversion → S.Says system p.system → T.Says named.entry.1 p.tail →
+        out.new.items ≡ out.old.items ++ projected_text level p) }
+{
+    open_text(out, b"PROJCRS[\"", named.0)?;
+    derivation.0.put(out, level)?;
+    derivation.1.put(out, level)?;
+    write_system(out, system, level)?;
+    named.1.put(out, level)?;
+    append(out, b"]")
+}
+
+impl Spell for Projected<'_> {
+    ghost spelling = { projected_text };
+
+    fn spell(&self, out: &mut Vec<u8>, level: Level) -> Appended {
+        let derivation = (&self.base, &self.conversion);
+        write_projected(
+            out,
+            (self.name, &self.tail),
+            derivation,
+            &self.system,
+            level,
+        )
+    }
+}
+
+impl<'a> ReadAs<'a> for Projected<'a> {
+    ghost Reads = { ReadsProjected };
+
+    fn write_of(node: &Node<'_, 'a>, out: &mut Vec<u8>, level: Level) -> Appended {
+        let base = node.first(Class::BaseCrs);
+        let conversion = node.first(Class::Conversion);
+        let derivation = (base.as_ref(), conversion.as_ref());
+        write_projected(out, (node.text(), node), derivation, node, level)
+    }
+}
+
+// `datum` is the dynamic part, the frame, and the coordinate system that heights above it have.
+fn write_vertical<
     'a,
     D: Part<Dynamic<'a>>,
     F: FramePart,
     S: SystemPart,
     G: MembersPart<GeoidModel<'a>>,
     T: TailPart,
-> VerticalFields<'n, 'm, D, F, S, G, T> {
-    fn write(self, out: &mut Vec<u8>, level: Level) -> Appended
-        requires { G.Hold self.models.now }
-        ensures { OnOk result ((v : VerticalParts) → v.name ≡ self.entry.name.now →
-            SaysIfAny D.Says self.entry.dynamic v.dynamic → F.SaysVertical self.entry.frame v.frame →
-            S.Says self.entry.system v.system → G.Say self.entry.models.now v.geoid_models →
-            T.Says self.entry.tail v.tail → out.new.items ≡ out.old.items ++ vertical_text level v) }
-    {
-        open_text(out, b"VERTCRS[\"", self.name)?;
-        write_optional::<Dynamic<'a>, D>(out, self.dynamic, level)?;
-        self.frame.put_vertical(out, level)?;
-        write_system(out, self.system, level)?;
-        write_set::<GeoidModel<'a>, G>(out, self.models, level)?;
-        self.tail.put(out, level)?;
-        append(out, b"]")
-    }
+>(
+    out: &mut Vec<u8>,
+    named: (&[u8], T),
+    datum: (Option<D>, F, S),
+    models: &G,
+    level: Level,
+) -> Appended
+    requires { G.Hold models.now }
+    ensures { OnOk result ((v : VerticalParts) → v.name ≡ named.entry.0.now → SaysIfAny D.Says datum.0 v.dynamic →
+        F.SaysVertical datum.1 v.frame → S.Says datum.2 v.system → G.Say models.now v.geoid_models →
+        T.Says named.entry.1 v.tail → out.new.items ≡ out.old.items ++ vertical_text level v) }
+{
+    open_text(out, b"VERTCRS[\"", named.0)?;
+    write_optional::<Dynamic<'a>, D>(out, datum.0, level)?;
+    datum.1.put_vertical(out, level)?;
+    write_system(out, datum.2, level)?;
+    write_set::<GeoidModel<'a>, G>(out, models, level)?;
+    named.1.put(out, level)?;
+    append(out, b"]")
 }
 
 impl Spell for Vertical<'_> {
     ghost spelling = { vertical_text };
 
     fn spell(&self, out: &mut Vec<u8>, level: Level) -> Appended {
-        VerticalFields {
-            name: self.name,
-            dynamic: self.dynamic.as_ref(),
-            frame: &self.frame,
-            system: &self.system,
-            models: &self.geoid_models.as_slice(),
-            tail: &self.tail,
-        }
-        .write(out, level)
+        let datum = (self.dynamic.as_ref(), &self.frame, &self.system);
+        let models = self.geoid_models.as_slice();
+        write_vertical(out, (self.name, &self.tail), datum, &models, level)
     }
 }
 
@@ -81,42 +253,57 @@ impl<'a> ReadAs<'a> for Vertical<'a> {
     ghost Reads = { ReadsVertical };
 
     fn write_of(node: &Node<'_, 'a>, out: &mut Vec<u8>, level: Level) -> Appended {
-        VerticalFields {
-            name: node.text(),
-            dynamic: node.first(Class::Dynamic).as_ref(),
-            frame: node,
-            system: node,
-            models: &node.all(Class::GeoidModel),
-            tail: node,
-        }
-        .write(out, level)
+        let dynamic = node.first(Class::Dynamic);
+        let models = node.all(Class::GeoidModel);
+        let datum = (dynamic.as_ref(), node, node);
+        write_vertical(out, (node.text(), node), datum, &models, level)
     }
 }
 
-impl<'c, 'i, 'a> Part<Vertical<'a>> for &'c Node<'i, 'a> {
-    ghost Says = { λ n v. ReadsVertical n.now.class (item n.now) v };
+impl Spell for Horizontal<'_> {
+    ghost spelling = { horizontal_text };
 
-    fn put(&self, out: &mut Vec<u8>, level: Level) -> Appended {
-        append(out, b",")?;
-        Vertical::write_of(*self, out, level)
+    fn spell(&self, out: &mut Vec<u8>, level: Level) -> Appended {
+        match self {
+            Horizontal::Geodetic(geodetic) => geodetic.spell(out, level),
+            Horizontal::Projected(projected) => projected.spell(out, level),
+        }
+    }
+}
+
+// In the node of the compound CRS.
+impl<'a> ReadAs<'a> for Horizontal<'a> {
+    ghost Reads = { ReadsHorizontal };
+
+    fn write_of(node: &Node<'_, 'a>, out: &mut Vec<u8>, level: Level) -> Appended {
+        if let Some(found) = node.first(Class::GeodeticCrs) {
+            return Geodetic::write_of(&found, out, level);
+        }
+        if let Some(found) = node.first(Class::GeographicCrs) {
+            return Geodetic::write_of(&found, out, level);
+        }
+        match node.first(Class::ProjectedCrs) {
+            None => Ok(()),
+            Some(found) => Projected::write_of(&found, out, level),
+        }
     }
 }
 
 // The components are the horizontal and the vertical one.
 fn write_compound<'a, H: Part<Horizontal<'a>>, V: Part<Vertical<'a>>, T: TailPart>(
     out: &mut Vec<u8>,
-    name: &[u8],
+    named: (&[u8], T),
     components: (H, V),
-    tail: T,
     level: Level,
 ) -> Appended
-    ensures { OnOk result ((p : CompoundParts) → p.name ≡ name.now → H.Says components.0 p.horizontal →
-        V.Says components.1 p.vertical → T.Says tail p.tail → out.new.items ≡ out.old.items ++ compound_text level p) }
+    ensures { OnOk result ((p : CompoundParts) → p.name ≡ named.entry.0.now → H.Says components.0 p.horizontal →
+        V.Says components.1 p.vertical → T.Says named.entry.1 p.tail →
+        out.new.items ≡ out.old.items ++ compound_text level p) }
 {
-    open_text(out, b"COMPOUNDCRS[\"", name)?;
+    open_text(out, b"COMPOUNDCRS[\"", named.0)?;
     components.0.put(out, level)?;
     components.1.put(out, level)?;
-    tail.put(out, level)?;
+    named.1.put(out, level)?;
     append(out, b"]")
 }
 
@@ -125,7 +312,7 @@ impl Spell for Compound<'_> {
 
     fn spell(&self, out: &mut Vec<u8>, level: Level) -> Appended {
         let components = (&self.horizontal, &self.vertical);
-        write_compound(out, self.name, components, &self.tail, level)
+        write_compound(out, (self.name, &self.tail), components, level)
     }
 }
 
@@ -134,8 +321,7 @@ impl<'a> ReadAs<'a> for Compound<'a> {
 
     fn write_of(node: &Node<'_, 'a>, out: &mut Vec<u8>, level: Level) -> Appended {
         let vertical = node.first(Class::VerticalCrs);
-        let components = (node, vertical.as_ref());
-        write_compound(out, node.text(), components, node, level)
+        write_compound(out, (node.text(), node), (node, vertical.as_ref()), level)
     }
 }
 

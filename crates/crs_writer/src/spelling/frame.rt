@@ -1,7 +1,6 @@
 //! Reference frames, ensembles and their members.
 ghost use Rattle.std.specs.Prelude.{◌≡◌, ◌∷◌, ◌++◌, OnOk, codes};
-ghost use Rattle.std.specs.Option.{option_copied, option_map};
-ghost use Rattle.crs_text.specs.Items.{End, More};
+ghost use Rattle.std.specs.Option.{option_copied};
 ghost use Rattle.crs_text.specs.Written.{item_text};
 ghost use Rattle.crs_value.specs.Reading.{ReadsOne};
 ghost use Rattle.crs_value.specs.Reads.{ReadsDatum, ReadsEnsemble};
@@ -10,14 +9,11 @@ ghost use Rattle.crs_value.specs.ReadsNamed.{ReadsNamed};
 ghost use Rattle.crs_value.specs.Values.{DatumParts, EnsembleParts};
 ghost use Rattle.crs_value.specs.declared.values.frame.Frame.{Frame};
 ghost use Rattle.crs_normal.specs.PartTexts.{datum_text, ensemble_text, frame_text, member_text};
-ghost use Rattle.crs_normal.specs.SpelledFrames.{item_ellipsoid, item_frame, item_member, norm_ellipsoid, norm_frame};
-ghost use Rattle.crs_normal.specs.SpelledFrames.{item_datum, item_ensemble, norm_datum, norm_ensemble, set_members};
-ghost use Rattle.crs_normal.specs.SpelledItems.{each, number_node, opt, text_node};
-ghost use Rattle.crs_normal.specs.SpelledUnits.{item_ident, set_idents};
+ghost use Rattle.crs_normal.specs.SpelledFrames.{item_datum, item_frame, norm_datum, norm_frame};
 ghost use Rattle.crs_nodes.specs.Cursor.{item};
 ghost use Rattle.crs_nodes.specs.Found.{SaysIfAny};
 ghost use Rattle.crs_leaves.specs.Direct.{Writes};
-ghost use Rattle.crs_leaves.specs.Openings.{named_node};
+ghost use Rattle.crs_writer.specs.Parts.{datum_node};
 
 use crate::members::{MembersPart, ReadAs};
 use crate::parts::{
@@ -25,7 +21,7 @@ use crate::parts::{
     write_optional_number, write_part,
 };
 use crate::set::write_set;
-use crate::spelling::unit::write_named;
+use crate::spelling::common::write_named;
 use crs_leaves::{append, append_item, open_text, write_optional_text};
 use crs_nodes::{Node, copied};
 use crs_shape::Class;
@@ -47,73 +43,47 @@ impl<'a> ReadAs<'a> for Member<'a> {
     }
 }
 
-// The parts of a reference frame.
-#[derive(Drop)]
-struct DatumFields<'n, E, N, I> {
-    name: &'n [u8],
-    ellipsoid: Option<E>,
-    anchor: Option<&'n [u8]>,
-    epoch: Option<N>,
-    ids: I,
-}
-
-impl<'n, 'a, E: Part<Ellipsoid<'a>>, N: NumberPart, I: IdentsPart> DatumFields<'n, E, N, I> {
-    // After an opening.
-    #[tactic(auto, using(crate::proofs::FlatLemmas::flat_rules))]
-    fn write(self, out: &mut Vec<u8>, opening: &[u8], level: Level) -> Appended
-        ensures { OnOk result ((d : DatumParts) → d.name ≡ self.entry.name.now →
-            SaysIfAny E.Says self.entry.ellipsoid d.ellipsoid → d.anchor ≡ option_copied self.entry.anchor →
-            SaysIfAny N.Says self.entry.epoch d.anchor_epoch → I.Says self.entry.ids d.identifiers →
-            out.new.items ≡ out.old.items ++ named_node opening.now d.name
-            (opt item_ellipsoid (option_map (norm_ellipsoid level) d.ellipsoid)
-            (opt (text_node (codes "ANCHOR")) d.anchor
-            (opt (number_node (codes "ANCHOREPOCH")) d.anchor_epoch
-            (each item_ident (set_idents level d.identifiers) End))))) }
-    {
-        open_text(out, opening, self.name)?;
-        write_optional::<Ellipsoid<'a>, E>(out, self.ellipsoid, level)?;
-        write_optional_text(out, b",ANCHOR[\"", self.anchor)?;
-        write_optional_number(out, b",ANCHOREPOCH[", self.epoch)?;
-        self.ids.put(out, level)?;
-        append(out, b"]")
-    }
+// A reference frame after an opening; its own parts are the ellipsoid, the anchor and the anchor epoch.
+#[tactic(auto, using(crate::proofs::FlatLemmas::flat_rules))]
+fn write_datum<'a, E: Part<Ellipsoid<'a>>, N: NumberPart, I: IdentsPart>(
+    out: &mut Vec<u8>,
+    opening: &[u8],
+    named: (&[u8], I),
+    parts: (Option<E>, Option<&[u8]>, Option<N>),
+    level: Level,
+) -> Appended
+    ensures { OnOk result ((d : DatumParts) → d.name ≡ named.entry.0.now →
+        SaysIfAny E.Says parts.entry.0 d.ellipsoid → d.anchor ≡ option_copied parts.entry.1 →
+        SaysIfAny N.Says parts.entry.2 d.anchor_epoch → I.Says named.entry.1 d.identifiers →
+        out.new.items ≡ out.old.items ++ datum_node level opening.now d) }
+{
+    open_text(out, opening, named.0)?;
+    write_optional::<Ellipsoid<'a>, E>(out, parts.0, level)?;
+    write_optional_text(out, b",ANCHOR[\"", parts.1)?;
+    write_optional_number(out, b",ANCHOREPOCH[", parts.2)?;
+    named.1.put(out, level)?;
+    append(out, b"]")
 }
 
 // Of a value.
 #[tactic(auto, using(crate::proofs::FlatLemmas::value_rules))]
 fn write_datum_in(out: &mut Vec<u8>, opening: &[u8], datum: &Datum<'_>, level: Level) -> Appended
-    ensures { OnOk result (out.new.items ≡ out.old.items ++ named_node opening.now datum.now.name
-        (opt item_ellipsoid (option_map (norm_ellipsoid level) datum.now.ellipsoid)
-        (opt (text_node (codes "ANCHOR")) datum.now.anchor
-        (opt (number_node (codes "ANCHOREPOCH")) datum.now.anchor_epoch
-        (each item_ident (set_idents level datum.now.identifiers) End))))) }
+    ensures { OnOk result (out.new.items ≡ out.old.items ++ datum_node level opening.now datum.now) }
 {
-    DatumFields {
-        name: datum.name,
-        ellipsoid: datum.ellipsoid.as_ref(),
-        anchor: datum.anchor,
-        epoch: datum.anchor_epoch.as_ref(),
-        ids: &datum.identifiers,
-    }
-    .write(out, opening, level)
+    let ellipsoid = datum.ellipsoid.as_ref();
+    let parts = (ellipsoid, datum.anchor, datum.anchor_epoch.as_ref());
+    write_datum(out, opening, (datum.name, &datum.identifiers), parts, level)
 }
 
 // Of an item.
 fn write_datum_of(out: &mut Vec<u8>, opening: &[u8], node: &Node<'_, '_>, level: Level) -> Appended
-    ensures { OnOk result (Writes (ReadsDatum node.now.class (item node.now)) (λ d. named_node opening.now d.name
-        (opt item_ellipsoid (option_map (norm_ellipsoid level) d.ellipsoid)
-        (opt (text_node (codes "ANCHOR")) d.anchor
-        (opt (number_node (codes "ANCHOREPOCH")) d.anchor_epoch
-        (each item_ident (set_idents level d.identifiers) End))))) out.old.items out.new.items) }
+    ensures { OnOk result (Writes (ReadsDatum node.now.class (item node.now)) (datum_node level opening.now)
+        out.old.items out.new.items) }
 {
-    DatumFields {
-        name: node.text(),
-        ellipsoid: node.first(Class::Ellipsoid).as_ref(),
-        anchor: node.text_in(Class::Anchor),
-        epoch: node.number_in(Class::AnchorEpoch),
-        ids: node,
-    }
-    .write(out, opening, level)
+    let ellipsoid = node.first(Class::Ellipsoid);
+    let epoch = node.number_in(Class::AnchorEpoch);
+    let parts = (ellipsoid.as_ref(), node.text_in(Class::Anchor), epoch);
+    write_datum(out, opening, (node.text(), node), parts, level)
 }
 
 // Of an item, after a comma, as a geodetic one.
@@ -139,56 +109,40 @@ impl Spell for Datum<'_> {
     }
 }
 
-// The parts of an ensemble.
-#[derive(Drop)]
-struct EnsembleFields<'n, 'm, M, E, N, I> {
-    name: &'n [u8],
-    members: &'m M,
-    ellipsoid: Option<E>,
-    accuracy: N,
-    ids: I,
-}
-
-impl<
-    'n,
-    'm,
+// The other parts are the ellipsoid and the accuracy.
+fn write_ensemble<
     'a,
     M: MembersPart<Member<'a>>,
     E: Part<Ellipsoid<'a>>,
     N: NumberPart,
     I: IdentsPart,
-> EnsembleFields<'n, 'm, M, E, N, I> {
-    // After an opening.
-    fn write(self, out: &mut Vec<u8>, opening: &[u8], level: Level) -> Appended
-        requires { M.Hold self.members.now }
-        ensures { OnOk result ((e : EnsembleParts) → e.name ≡ self.entry.name.now →
-            M.Say self.entry.members.now e.members → SaysIfAny E.Says self.entry.ellipsoid e.ellipsoid →
-            N.Says self.entry.accuracy e.accuracy → I.Says self.entry.ids e.identifiers →
-            out.new.items ≡ out.old.items ++ named_node opening.now e.name (each item_member (set_members level e.members)
-            (opt item_ellipsoid (option_map (norm_ellipsoid level) e.ellipsoid)
-            (More (number_node (codes "ENSEMBLEACCURACY") e.accuracy) (each item_ident (set_idents level e.identifiers) End))))) }
-    {
-        open_text(out, opening, self.name)?;
-        write_set::<Member<'a>, M>(out, self.members, level)?;
-        write_optional::<Ellipsoid<'a>, E>(out, self.ellipsoid, level)?;
-        write_number_node(out, b",ENSEMBLEACCURACY[", self.accuracy)?;
-        self.ids.put(out, level)?;
-        append(out, b"]")
-    }
+>(
+    out: &mut Vec<u8>,
+    named: (&[u8], I),
+    members: &M,
+    others: (Option<E>, N),
+    level: Level,
+) -> Appended
+    requires { M.Hold members.now }
+    ensures { OnOk result ((e : EnsembleParts) → e.name ≡ named.entry.0.now →
+        M.Say members.now e.members → SaysIfAny E.Says others.0 e.ellipsoid → N.Says others.1 e.accuracy →
+        I.Says named.entry.1 e.identifiers → out.new.items ≡ out.old.items ++ ensemble_text level e) }
+{
+    open_text(out, b"ENSEMBLE[\"", named.0)?;
+    write_set::<Member<'a>, M>(out, members, level)?;
+    write_optional::<Ellipsoid<'a>, E>(out, others.0, level)?;
+    write_number_node(out, b",ENSEMBLEACCURACY[", others.1)?;
+    named.1.put(out, level)?;
+    append(out, b"]")
 }
 
 impl Spell for Ensemble<'_> {
     ghost spelling = { ensemble_text };
 
     fn spell(&self, out: &mut Vec<u8>, level: Level) -> Appended {
-        EnsembleFields {
-            name: self.name,
-            members: &self.members.as_slice(),
-            ellipsoid: self.ellipsoid.as_ref(),
-            accuracy: &self.accuracy,
-            ids: &self.identifiers,
-        }
-        .write(out, b"ENSEMBLE[\"", level)
+        let named = (self.name, &self.identifiers);
+        let others = (self.ellipsoid.as_ref(), &self.accuracy);
+        write_ensemble(out, named, &self.members.as_slice(), others, level)
     }
 }
 
@@ -243,19 +197,24 @@ impl<'b, 'a> FramePart for &'b Frame<'a> {
 // An ensemble of this class that a node has in the place of a frame, after a comma.
 fn write_ensemble_of(out: &mut Vec<u8>, node: &Node<'_, '_>, class: Class, level: Level) -> Appended
     ensures { OnOk result (Writes (ReadsOne ReadsEnsemble class node.now.class (item node.now))
-        (λ e. 44 ∷ item_text (item_ensemble (norm_ensemble level e))) out.old.items out.new.items) }
+        (λ e. 44 ∷ ensemble_text level e) out.old.items out.new.items) }
 {
     let Some(found) = node.first(class) else {
         return Ok(());
     };
-    EnsembleFields {
-        name: found.text(),
-        members: &found.all(Class::Member),
-        ellipsoid: found.first(Class::Ellipsoid).as_ref(),
-        accuracy: found.one_number(Class::EnsembleAccuracy),
-        ids: &found,
-    }
-    .write(out, b",ENSEMBLE[\"", level)
+    append(out, b",")?;
+    let ellipsoid = found.first(Class::Ellipsoid);
+    let others = (
+        ellipsoid.as_ref(),
+        found.one_number(Class::EnsembleAccuracy),
+    );
+    write_ensemble(
+        out,
+        (found.text(), &found),
+        &found.all(Class::Member),
+        others,
+        level,
+    )
 }
 
 impl<'c, 'i, 'a> FramePart for &'c Node<'i, 'a> {

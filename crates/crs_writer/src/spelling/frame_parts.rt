@@ -5,86 +5,68 @@ ghost use Rattle.crs_decimal.specs.Plain.{plain};
 ghost use Rattle.crs_decimal.specs.Value.{Value};
 ghost use Rattle.crs_text.specs.Items.{End, More};
 ghost use Rattle.crs_text.specs.Written.{item_text, others_text};
-ghost use Rattle.crs_value.specs.DynamicValues.{DeformationModelParts};
-ghost use Rattle.crs_value.specs.Reads.{ReadsEllipsoid, ReadsMeridian};
-ghost use Rattle.crs_value.specs.ReadsDynamic.{ReadsDeformationModel, ReadsDynamic};
-ghost use Rattle.crs_value.specs.Values.{EllipsoidParts, UnitParts};
+ghost use Rattle.crs_value.specs.Values.{DeformationModelParts, EllipsoidParts, UnitParts};
+ghost use Rattle.crs_value.specs.Reads.{ReadsEllipsoid, ReadsMeridian, ReadsDeformationModel, ReadsDynamic};
 ghost use Rattle.crs_normal.specs.PartTexts.{deformation_model_text, dynamic_text, ellipsoid_text, meridian_text};
 ghost use Rattle.crs_normal.specs.SpelledDynamic.{item_deformation_model, norm_deformation_model};
 ghost use Rattle.crs_normal.specs.SpelledFrames.{greenwich, is_zero, item_meridian, norm_meridian};
-ghost use Rattle.crs_normal.specs.SpelledItems.{each, number_item, opt};
-ghost use Rattle.crs_normal.specs.SpelledUnits.{item_ident, item_unit, norm_length, set_idents};
-ghost use Rattle.crs_nodes.specs.Cursor.{item};
+ghost use Rattle.crs_normal.specs.SpelledItems.{each, number_item, opt, item_ident, item_unit, norm_length, set_idents};
 ghost use Rattle.crs_nodes.specs.Found.{SaysIfAny};
 ghost use Rattle.crs_leaves.specs.Direct.{Writes};
 ghost use Rattle.crs_leaves.specs.Openings.{named_node};
 
+use crate::members::ReadAs;
 use crate::parts::{
     Appended, IdentsPart, NumberPart, Part, Spell, UnitPart, write_number_node, write_optional,
 };
-use crate::spelling::unit::{NumberFields, write_length, write_named};
+use crate::spelling::common::{write_length, write_measured, write_named};
 use crs_leaves::{append, open_text};
 use crs_nodes::Node;
 use crs_shape::Class;
 use crs_value::{DeformationModel, Dynamic, Ellipsoid, Level, Meridian, UnitKind};
 
-// The parts of an ellipsoid.
-#[derive(Drop)]
-struct EllipsoidFields<'n, A, F, U, I> {
-    name: &'n [u8],
-    axis: A,
-    flattening: F,
-    unit: Option<U>,
-    ids: I,
-}
-
-impl<'n, A: NumberPart, F: NumberPart, U: UnitPart, I: IdentsPart> EllipsoidFields<'n, A, F, U, I> {
-    // After an opening.
-    #[tactic(auto, using(crate::proofs::FlatLemmas::flat_rules))]
-    fn write(self, out: &mut Vec<u8>, opening: &[u8], level: Level) -> Appended
-        ensures { OnOk result ((e : EllipsoidParts) → e.name ≡ self.entry.name.now →
-            A.Says self.entry.axis e.semi_major_axis → F.Says self.entry.flattening e.inverse_flattening →
-            SaysIfAny U.Says self.entry.unit e.unit → I.Says self.entry.ids e.identifiers →
-            out.new.items ≡ out.old.items ++ named_node opening.now e.name
-            (More (number_item e.semi_major_axis) (More (number_item e.inverse_flattening)
-            (opt item_unit (Some (norm_length level e.unit)) (each item_ident (set_idents level e.identifiers) End))))) }
-    {
-        open_text(out, opening, self.name)?;
-        self.axis.open(out, b",")?;
-        self.flattening.open(out, b",")?;
-        write_length(out, self.unit, level)?;
-        self.ids.put(out, level)?;
-        append(out, b"]")
-    }
+// After an opening; the measures are the semi-major axis, the inverse flattening and the unit.
+#[tactic(auto, using(crate::proofs::FlatLemmas::flat_rules))]
+fn write_ellipsoid<N: NumberPart, U: UnitPart, I: IdentsPart>(
+    out: &mut Vec<u8>,
+    opening: &[u8],
+    named: (&[u8], I),
+    measures: (N, N, Option<U>),
+    level: Level,
+) -> Appended
+    ensures { OnOk result ((e : EllipsoidParts) → e.name ≡ named.entry.0.now →
+        N.Says measures.0 e.semi_major_axis → N.Says measures.1 e.inverse_flattening →
+        SaysIfAny U.Says measures.2 e.unit → I.Says named.entry.1 e.identifiers →
+        out.new.items ≡ out.old.items ++ named_node opening.now e.name
+        (More (number_item e.semi_major_axis) (More (number_item e.inverse_flattening)
+        (opt item_unit (Some (norm_length level e.unit)) (each item_ident (set_idents level e.identifiers) End))))) }
+{
+    open_text(out, opening, named.0)?;
+    measures.0.open(out, b",")?;
+    measures.1.open(out, b",")?;
+    write_length(out, measures.2, level)?;
+    named.1.put(out, level)?;
+    append(out, b"]")
 }
 
 impl Spell for Ellipsoid<'_> {
     ghost spelling = { ellipsoid_text };
 
     fn spell(&self, out: &mut Vec<u8>, level: Level) -> Appended {
-        EllipsoidFields {
-            name: self.name,
-            axis: &self.semi_major_axis,
-            flattening: &self.inverse_flattening,
-            unit: self.unit.as_ref(),
-            ids: &self.identifiers,
-        }
-        .write(out, b"ELLIPSOID[\"", level)
+        let unit = self.unit.as_ref();
+        let measures = (&self.semi_major_axis, &self.inverse_flattening, unit);
+        let named = (self.name, &self.identifiers);
+        write_ellipsoid(out, b"ELLIPSOID[\"", named, measures, level)
     }
 }
 
-impl<'c, 'i, 'a> Part<Ellipsoid<'a>> for &'c Node<'i, 'a> {
-    ghost Says = { λ n e. ReadsEllipsoid n.now.class (item n.now) e };
+impl<'a> ReadAs<'a> for Ellipsoid<'a> {
+    ghost Reads = { ReadsEllipsoid };
 
-    fn put(&self, out: &mut Vec<u8>, level: Level) -> Appended {
-        EllipsoidFields {
-            name: self.text(),
-            axis: self.nth_number(0),
-            flattening: self.nth_number(1),
-            unit: self.first(Class::LengthUnit).as_ref(),
-            ids: *self,
-        }
-        .write(out, b",ELLIPSOID[\"", level)
+    fn write_of(node: &Node<'_, 'a>, out: &mut Vec<u8>, level: Level) -> Appended {
+        let unit = node.first(Class::LengthUnit);
+        let measures = (node.nth_number(0), node.nth_number(1), unit.as_ref());
+        write_ellipsoid(out, b"ELLIPSOID[\"", (node.text(), node), measures, level)
     }
 }
 
@@ -100,31 +82,25 @@ impl Spell for Meridian<'_> {
     ghost spelling = { meridian_text };
 
     fn spell(&self, out: &mut Vec<u8>, level: Level) -> Appended {
-        NumberFields {
-            name: self.name,
-            number: &self.longitude,
-            asked: UnitKind::Angle,
-            unit: unit_said(&self.longitude, self.unit.as_ref()),
-            ids: &self.identifiers,
-        }
-        .write(out, b"PRIMEM[\"", level)
+        let named = (self.name, &self.identifiers);
+        let unit = unit_said(&self.longitude, self.unit.as_ref());
+        let measure = (&self.longitude, UnitKind::Angle, unit);
+        write_measured(out, b"PRIMEM[\"", named, measure, level)
     }
 }
 
-impl<'c, 'i, 'a> Part<Meridian<'a>> for &'c Node<'i, 'a> {
-    ghost Says = { λ n m. ReadsMeridian n.now.class (item n.now) m };
+impl<'a> ReadAs<'a> for Meridian<'a> {
+    ghost Reads = { ReadsMeridian };
 
-    fn put(&self, out: &mut Vec<u8>, level: Level) -> Appended {
-        let unit = self.first(Class::AngleUnit);
-        let longitude = self.number();
-        NumberFields {
-            name: self.text(),
-            number: longitude,
-            asked: UnitKind::Angle,
-            unit: unit_said(longitude, unit.as_ref()),
-            ids: *self,
-        }
-        .write(out, b",PRIMEM[\"", level)
+    fn write_of(node: &Node<'_, 'a>, out: &mut Vec<u8>, level: Level) -> Appended {
+        let unit = node.first(Class::AngleUnit);
+        let longitude = node.number();
+        let measure = (
+            longitude,
+            UnitKind::Angle,
+            unit_said(longitude, unit.as_ref()),
+        );
+        write_measured(out, b"PRIMEM[\"", (node.text(), node), measure, level)
     }
 }
 
@@ -157,11 +133,11 @@ impl Spell for DeformationModel<'_> {
     }
 }
 
-impl<'c, 'i, 'a> Part<DeformationModel<'a>> for &'c Node<'i, 'a> {
-    ghost Says = { λ n m. ReadsDeformationModel n.now.class (item n.now) m };
+impl<'a> ReadAs<'a> for DeformationModel<'a> {
+    ghost Reads = { ReadsDeformationModel };
 
-    fn put(&self, out: &mut Vec<u8>, level: Level) -> Appended {
-        write_named(out, b",MODEL[\"", self.text(), *self, level)
+    fn write_of(node: &Node<'_, 'a>, out: &mut Vec<u8>, level: Level) -> Appended {
+        write_named(out, b"MODEL[\"", node.text(), node, level)
     }
 }
 
@@ -187,22 +163,17 @@ impl Spell for Dynamic<'_> {
     ghost spelling = { dynamic_text };
 
     fn spell(&self, out: &mut Vec<u8>, level: Level) -> Appended {
-        write_dynamic(
-            out,
-            b"DYNAMIC[FRAMEEPOCH[",
-            &self.epoch,
-            self.model.as_ref(),
-            level,
-        )
+        let model = self.model.as_ref();
+        write_dynamic(out, b"DYNAMIC[FRAMEEPOCH[", &self.epoch, model, level)
     }
 }
 
-impl<'c, 'i, 'a> Part<Dynamic<'a>> for &'c Node<'i, 'a> {
-    ghost Says = { λ n d. ReadsDynamic n.now.class (item n.now) d };
+impl<'a> ReadAs<'a> for Dynamic<'a> {
+    ghost Reads = { ReadsDynamic };
 
-    fn put(&self, out: &mut Vec<u8>, level: Level) -> Appended {
-        let epoch = self.one_number(Class::FrameEpoch);
-        let model = self.first(Class::DeformationModel);
-        write_dynamic(out, b",DYNAMIC[FRAMEEPOCH[", epoch, model.as_ref(), level)
+    fn write_of(node: &Node<'_, 'a>, out: &mut Vec<u8>, level: Level) -> Appended {
+        let epoch = node.one_number(Class::FrameEpoch);
+        let model = node.first(Class::DeformationModel);
+        write_dynamic(out, b"DYNAMIC[FRAMEEPOCH[", epoch, model.as_ref(), level)
     }
 }

@@ -1,28 +1,109 @@
 //! Coordinate systems: their axes are in order of position.
-ghost use Rattle.std.specs.Prelude.{◌≡◌, ◌∷◌, ◌++◌, [], IfOk, OnOk, Option, length};
+ghost use Rattle.std.specs.Prelude.{◌≡◌, ◌∷◌, ◌++◌, [], ℕ, IfOk, List, OnOk, Option, codes, length};
 ghost use Rattle.std.specs.Option.{option_copied};
-ghost use Rattle.crs_text.specs.Items.{End};
+ghost use Rattle.crs_decimal.specs.Value.{Value};
+ghost use Rattle.crs_text.specs.Items.{End, More};
 ghost use Rattle.crs_text.specs.Written.{item_text, others_text};
-ghost use Rattle.crs_shape.specs.Words.{SpellsWord, system_word};
+ghost use Rattle.crs_shape.specs.Words.{SpellsWord, direction_word, system_word};
+ghost use Rattle.crs_shape.specs.declared.direction.Direction.{Direction};
 ghost use Rattle.crs_shape.specs.declared.system_type.SystemType.{SystemType};
+ghost use Rattle.crs_shape.specs.declared.unit_kind.UnitKind.{UnitKind};
+ghost use Rattle.crs_shape.specs.declared.unit_kind.UnitKind.TheVariants as kinds;
 ghost use Rattle.crs_value.specs.Reading.{ReadsFirst, ReadsIfAny};
-ghost use Rattle.crs_value.specs.Reads.{ReadsAxis, ReadsSystem, ReadsType, ReadsUnit};
-ghost use Rattle.crs_value.specs.Values.{AxisParts, SystemParts, UnitParts};
-ghost use Rattle.crs_matching.specs.SameSystems.{own_or};
-ghost use Rattle.crs_normal.specs.SpelledItems.{each};
-ghost use Rattle.crs_normal.specs.SpelledSystems.{axes_from, axis_at, item_axis, item_head, norm_axis, norm_system};
-ghost use Rattle.crs_normal.specs.SpelledSystems.{system_items, with_axis};
+ghost use Rattle.crs_value.specs.Reads.{ReadsAxis, ReadsAxisMeridian, ReadsSystem, ReadsType, ReadsUnit};
+ghost use Rattle.crs_value.specs.Values.{AxisMeridianParts, AxisParts, IdentParts, SystemParts, UnitParts};
+ghost use Rattle.crs_matching.specs.SameParts.{own_or};
+ghost use Rattle.crs_normal.specs.PartTexts.{axis_meridian_text, axis_text};
+ghost use Rattle.crs_normal.specs.SpelledItems.{each, number_node, opt, word_item, item_ident, item_unit, norm_units, set_idents};
+ghost use Rattle.crs_normal.specs.SpelledSystems.{axes_from, axis_at, item_axis, item_axis_meridian, item_head, norm_axis};
+ghost use Rattle.crs_normal.specs.SpelledSystems.{norm_axis_meridians, norm_system, system_items, with_axis};
 ghost use Rattle.crs_nodes.specs.Cursor.{args, item};
 ghost use Rattle.crs_nodes.specs.Found.{SaysIfAny};
 ghost use Rattle.crs_leaves.specs.Direct.{Writes};
+ghost use Rattle.crs_leaves.specs.Openings.{named_node, numbered_node};
 
-use crate::parts::{Appended, IdentsPart, NumberPart};
-use crate::spelling::axis::AxisFields;
-use crs_leaves::{append, append_item, axes, is_at};
+use crate::members::ReadAs;
+use crate::parts::{
+    Appended, IdentsPart, NumberPart, Part, Spell, UnitPart, write_optional, write_optional_number,
+};
+use crate::spelling::common::write_optional_unit;
+use crs_leaves::{append, append_item, axes, is_at, open_text};
 use crs_nodes::{Node, copied};
 use crs_shape::Class;
-use crs_value::{Axis, Level, System, SystemType};
+use crs_value::{Axis, AxisMeridian, Direction, Level, System, SystemType, UnitKind};
 use std::alloc::AllocError;
+
+// With its unit, if there is one.
+#[tactic(auto, using(crate::proofs::FlatLemmas::along_rules))]
+fn write_axis_meridian<N: NumberPart, U: UnitPart>(
+    out: &mut Vec<u8>,
+    longitude: N,
+    unit: Option<U>,
+    level: Level,
+) -> Appended
+    ensures { OnOk result ((l : Value) (u : Option UnitParts) → N.Says longitude l → SaysIfAny U.Says unit u → out.new.items
+        ≡ out.old.items ++ numbered_node (codes "MERIDIAN[") l (opt item_unit (norm_units level kinds.Angle u) End)) }
+{
+    longitude.open(out, b"MERIDIAN[")?;
+    write_optional_unit(out, UnitKind::Angle, unit, level)?;
+    append(out, b"]")
+}
+
+impl Spell for AxisMeridian<'_> {
+    ghost spelling = { axis_meridian_text };
+
+    fn spell(&self, out: &mut Vec<u8>, level: Level) -> Appended {
+        write_axis_meridian(out, &self.longitude, Some(&self.unit), level)
+    }
+}
+
+impl<'a> ReadAs<'a> for AxisMeridian<'a> {
+    ghost Reads = { ReadsAxisMeridian };
+
+    fn write_of(node: &Node<'_, 'a>, out: &mut Vec<u8>, level: Level) -> Appended {
+        let unit = node.first(Class::AngleUnit);
+        write_axis_meridian(out, node.number(), unit.as_ref(), level)
+    }
+}
+
+// `along` is the direction, and the meridian along which the axis runs; `measure` the order, the kind of unit that is asked,
+// and the unit.
+fn write_axis<'a, M: Part<AxisMeridian<'a>>, N: NumberPart, U: UnitPart, I: IdentsPart>(
+    out: &mut Vec<u8>,
+    named: (&[u8], I),
+    along: (Direction, Option<M>),
+    measure: (Option<N>, UnitKind, Option<U>),
+    level: Level,
+) -> Appended
+    ensures { OnOk result ((n : List ℕ) (d : Direction) (m : Option AxisMeridianParts) (o : Option Value) (k : UnitKind)
+        (u : Option UnitParts) (is : List IdentParts) → n ≡ named.entry.0.now → d ≡ along.0 →
+        SaysIfAny M.Says along.1 m → SaysIfAny N.Says measure.0 o → k ≡ measure.1 →
+        SaysIfAny U.Says measure.2 u → I.Says named.entry.1 is →
+        out.new.items ≡ out.old.items ++ named_node (codes "AXIS[\"") n
+        (More (word_item (direction_word d)) (opt item_axis_meridian (norm_axis_meridians level m)
+        (opt (number_node (codes "ORDER")) o (opt item_unit (norm_units level k u)
+        (each item_ident (set_idents level is) End)))))) }
+{
+    open_text(out, b"AXIS[\"", named.0)?;
+    append_item(out, along.0.word().as_bytes())?;
+    write_optional::<AxisMeridian<'a>, M>(out, along.1, level)?;
+    write_optional_number(out, b",ORDER[", measure.0)?;
+    write_optional_unit(out, measure.1, measure.2, level)?;
+    named.1.put(out, level)?;
+    append(out, b"]")
+}
+
+// By itself: with its own order and unit, of which `UNIT` is a kind of its own.
+impl Spell for Axis<'_> {
+    ghost spelling = { axis_text };
+
+    #[tactic(auto, using(crate::proofs::FlatLemmas::value_rules))]
+    fn spell(&self, out: &mut Vec<u8>, level: Level) -> Appended {
+        let along = (self.direction, self.meridian.as_ref());
+        let measure = (self.order.as_ref(), UnitKind::Plain, self.unit.as_ref());
+        write_axis(out, (self.name, &self.identifiers), along, measure, level)
+    }
+}
 
 // The type of an axis's system, and the axis's position.
 #[derive(Drop)]
@@ -127,16 +208,11 @@ fn write_axis_in<'a>(
     ensures { OnOk result (out.new.items
         ≡ out.old.items ++ 44 ∷ item_text (item_axis (norm_axis level system.now position axis.now))) }
 {
-    AxisFields {
-        name: axis.name,
-        direction: axis.direction,
-        meridian: axis.meridian.as_ref(),
-        order: Some(position),
-        asked: system.system_type.asked_kind(axis.direction),
-        unit: system.unit_of(axis),
-        ids: &axis.identifiers,
-    }
-    .write(out, b",AXIS[\"", level)
+    append(out, b",")?;
+    let asked = system.system_type.asked_kind(axis.direction);
+    let along = (axis.direction, axis.meridian.as_ref());
+    let measure = (Some(position), asked, system.unit_of(axis));
+    write_axis(out, (axis.name, &axis.identifiers), along, measure, level)
 }
 
 impl<'b, 'a> SystemPart for &'b System<'a> {
@@ -226,17 +302,14 @@ fn write_axis_of<'i, 'a>(
     if let Some(bytes) = copied::axis(axis, seat.position, level) {
         return append_item(out, bytes);
     }
+    append(out, b",")?;
     let direction = axis.direction();
-    AxisFields {
-        name: axis.text(),
-        direction,
-        meridian: axis.first(Class::AxisMeridian).as_ref(),
-        order: Some(seat.position),
-        asked: seat.system_type.asked_kind(direction),
-        unit: unit_of(crs, axis).as_ref(),
-        ids: axis,
-    }
-    .write(out, b",AXIS[\"", level)
+    let asked = seat.system_type.asked_kind(direction);
+    let meridian = axis.first(Class::AxisMeridian);
+    let unit = unit_of(crs, axis);
+    let along = (direction, meridian.as_ref());
+    let measure = (Some(seat.position), asked, unit.as_ref());
+    write_axis(out, (axis.text(), axis), along, measure, level)
 }
 
 impl<'c, 'i, 'a> SystemPart for &'c Node<'i, 'a> {

@@ -12,7 +12,7 @@ returns-in-None c =
     let all : c.parts.result.1.now ≡ c.args.usages.now = search rules in
     on_ok_weaker c.gather_all.result (λ e. record {
       texts = texts;
-      spelled = subst (λ usages. AreSpellingsOf Spells usages texts) all (c.are_spelled.ensures c.args.level);
+      spelled = subst (λ usages. AreSpellingsOf Spells usages texts) all (c.are_spelled.ensures.spelled c.args.level);
       all_put = e c.parts.result.1.now refl;
     }) c.gather_all.ensures
 
@@ -27,7 +27,7 @@ returns-in_ok-gather-in-Some c =
       texts = map text (bare ∷ rest);
       spelled = subst (λ usages. AreSpellingsOf Spells usages (map text (bare ∷ rest))) both (
         only-spelling Spells _ _ text (c.laws.ensures.form c.args.level) (c.laws.ensures.written c.args.level) bare c.laws.ensures.value,
-        c.are_spelled.ensures c.args.level,
+        c.are_spelled.ensures.spelled c.args.level,
       );
       all_put = e rest refl ∙ ap (λ keys. put_all (λ bytes. bytes) keys (map text rest)) (c.in_ok-gather-in-Some.ensures bare refl);
     }) c.gather_all-in-Some.ensures

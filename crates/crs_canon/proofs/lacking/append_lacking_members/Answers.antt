@@ -9,6 +9,6 @@ returns g c =
     let others = c.args.others.now in
     lacking-appended (g.T.Canonical.IsSpelling c.args.level) c.texts_are_in_order.ensures.ascend c.texts_are_in_order.ensures.members
     these others _ _ _ _ _ _ c.append_lacking.result (search rules) (search rules)
-    (record { texts = map text these; spelled = c.are_spelled.ensures c.args.level; all_put = c.in_ok-gather_all.ensures these refl })
-    (record { texts = map text others; spelled = c.are_spelled-2.ensures c.args.level; all_put = c.in_ok-gather_all-2.ensures others refl })
+    (record { texts = map text these; spelled = c.are_spelled.ensures.spelled c.args.level; all_put = c.in_ok-gather_all.ensures these refl })
+    (record { texts = map text others; spelled = c.are_spelled-2.ensures.spelled c.args.level; all_put = c.in_ok-gather_all-2.ensures others refl })
     c.append_lacking.ensures

@@ -12,6 +12,6 @@ returns c =
     let others = c.args.others.now in
     lacking-appended (IsSpelledParameter level) c.texts_are_in_order.ensures.ascend c.texts_are_in_order.ensures.members
     (unpaired these others) (unpaired others these) _ _ _ _ _ _ c.append_lacking.result (search rules) (search rules)
-    (put-unpaired level these others _ _ (c.are_spelled.ensures level) c.in_ok-gather_unpaired.ensures)
-    (put-unpaired level others these _ _ (c.are_spelled-2.ensures level) c.in_ok-gather_unpaired-2.ensures)
+    (put-unpaired level these others _ _ (c.are_spelled.ensures.spelled level) c.in_ok-gather_unpaired.ensures)
+    (put-unpaired level others these _ _ (c.are_spelled-2.ensures.spelled level) c.in_ok-gather_unpaired-2.ensures)
     c.append_lacking.ensures

@@ -1,5 +1,5 @@
 use Rattle.std.proofs.Common.{◌≡◌, ℕ, List, length, false}
-use Rattle.crs_catalogue.specs.GroupCutting.{IsCutTo}
+use Rattle.crs_catalogue.specs.GroupReading.{IsCutTo}
 use Rattle.crs_streams.specs.Prelude.{HasGiven}
 use Rattle.crs_catalogue.proofs.running.read_into.Given as goal
 

@@ -1,5 +1,5 @@
 use Rattle.std.proofs.Common.{◌≡◌, rules, ℕ, List, IfOk}
-use Rattle.crs_catalogue.specs.GroupCutting.{IsCutTo, IsLedgerFor}
+use Rattle.crs_catalogue.specs.GroupReading.{IsCutTo, IsLedgerFor}
 use Rattle.crs_catalogue.proofs.GroupCutLemmas.{cut-fresh}
 use Rattle.crs_catalogue.proofs.GroupRunLemmas.{kept, read-fits, whole-ledger}
 use Rattle.crs_catalogue.proofs.running.read_ledger.Goals as goal

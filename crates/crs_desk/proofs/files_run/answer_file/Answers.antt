@@ -10,4 +10,4 @@ pub returns-clause-answered : goal.returns-clause-answered
 returns-clause-answered g c =
     file-failed c.args.task c.args.prefix.now (g.I.Input.Read.remaining c.in-Some.input)
     (g.I.Inputs.known c.args.files.now c.args.name.now) c.args.sink.now c.answer_input.new.sink c.in-Err.fault
-    (search rules) (search rules) c.in-Err.ensures.fault
+    (search rules) (search rules) (search rules) c.in-Err.ensures.fault

@@ -1,7 +1,7 @@
 use Rattle.std.proofs.Common.{◌≡◌, rules}
 use Rattle.std.proofs.lemmas.Result.{IfErr-weaker, IfOk-weaker}
 use Rattle.crs_streams.specs.declared.fault.RunFault.TheVariants.{Memory}
-use Rattle.crs_desk.proofs.LinesRunLemmas.{end-first, lines-answered, lines-fault, none-begun}
+use Rattle.crs_desk.proofs.LinesRunLemmas.{end-first, failures-told, lines-answered, lines-fault, none-begun}
 use Rattle.crs_desk.proofs.lines_run.run_lines.Goals as goal
 
 pub returns-in_err-room-clause-fault : goal.returns-in_err-room-clause-fault
@@ -20,3 +20,13 @@ returns-clause-fault g c =
 pub returns-clause-past_failure : goal.returns-clause-past_failure
 returns-clause-past_failure g c =
     end-first c.lines_are_cut.ensures c.finish.new.sink c.finish.result c.in_ok-read_through.ensures.ok c.finish.ensures.written c.finish.ensures.fault
+
+pub returns-clause-read_failed : goal.returns-clause-read_failed
+returns-clause-read_failed g c =
+    (failures-told (g.C.TextCommand.Output c.args.command.now) c.args.source.now _ c.args.sink.now _ c.finish.result
+    (returns-clause-answered g c) (returns-clause-fault g c)).0
+
+pub returns-clause-write_failed : goal.returns-clause-write_failed
+returns-clause-write_failed g c =
+    (failures-told (g.C.TextCommand.Output c.args.command.now) c.args.source.now _ c.args.sink.now _ c.finish.result
+    (returns-clause-answered g c) (returns-clause-fault g c)).1

@@ -5,4 +5,4 @@ use Rattle.crs_explain.proofs.differences.difference_pieces.Given as goal
 
 abbrev pub invariant-loop-difference : goal.invariant-loop-difference
 invariant-loop-difference l =
-    l.pieces ++ flat_map part_pieces (drop l.difference-index l.difference-items) ≡ flat_map part_pieces l.difference-items
+    l.pieces ++ flat_map part_pieces (drop l.difference-index l.differences) ≡ flat_map part_pieces l.differences

@@ -1,24 +1,29 @@
-use Rattle.std.proofs.Common.{◌≡◌, ◌<◌, ℕ, inl, inr, subst, ◌∙◌, arith}
+use Rattle.std.proofs.Common.{◌<◌, ◌≤◌, ℕ, inl, inr, subst, arith}
+use Rattle.std.proofs.lemmas.Bool.{cases_eq}
 use Rattle.std.proofs.lemmas.Result.{IfOk-weaker}
 use Rattle.crs_shape.specs.Prelude.{IsShapeNumber}
-use Rattle.crs_explain.specs.ExpectedClasses.{IsShapeExpected}
+use Rattle.crs_explain.specs.Expected.{IsShapeExpected}
 use Rattle.crs_explain.proofs.expected.in_items.Goals as goal
 
--- a number of another refusal is none of a fault of shape
-no_shape : (n m : ℕ) → IsShapeNumber n → n ≡ m → 20 < m → ⊥
-no_shape n m (inl e) f high = omega (arith, e, f, high)
-no_shape n m (inr (inl e)) f high = omega (arith, e, f, high)
-no_shape n m (inr (inr e)) f high = omega (arith, e, f, high)
+shape_number : (n : ℕ) → 11 ≤ n → n < 14 → IsShapeNumber n
+shape_number n low high = elim (cases_eq n 11) [
+  | inl is ↦ inl is
+  | inr other ↦ elim (cases_eq n 12) [
+    | inl is ↦ inr (inl is)
+    | inr another ↦ inr (inr (omega (arith, low, high, other, another)))
+  ]
+]
 
-pub returns-then-is_of_shape : goal.returns-then-is_of_shape
-returns-then-is_of_shape c =
+pub returns-in-11-to-13 : goal.returns-in-11-to-13
+returns-in-11-to-13 c =
     let number = c.number-number.ensures.value in
-    let shape : IsShapeNumber c.number-number.result = c.is_of_shape.ensures.0 c.if-is_of_shape.true in
+    let low : 11 ≤ c.number-number.result = omega (arith, c.in-11-to-13) in
+    let high : c.number-number.result < 14 = omega (arith, c.in-11-to-13) in
     IfOk-weaker c.shape_expected.result _ _
     (λ found is. record {
       shape = λ _. subst (λ at. IsShapeExpected c.args.text.now at c.args.items.now found) c.place-place.ensures is;
-      word = λ e. absurd (no_shape c.number-number.result 21 shape (number ∙ e) (omega arith));
-      axes = λ e. absurd (no_shape c.number-number.result 25 shape (number ∙ e) (omega arith));
-      other = λ no _ _. absurd (no (rw number at shape));
+      word = λ e. absurd (omega (arith, number, e, high));
+      axes = λ e. absurd (omega (arith, number, e, high));
+      other = λ no _ _. absurd (no (rw number at (shape_number c.number-number.result low high)));
     })
     c.shape_expected.ensures

@@ -1,6 +1,6 @@
 use Rattle.std.proofs.Common.{◌≡◌, ◌++◌, drop}
 use Rattle.std.specs.List.{flat_map}
-use Rattle.crs_explain.specs.ExpectedClasses.{class_names}
+use Rattle.crs_explain.specs.Expected.{class_names}
 use Rattle.crs_explain.proofs.names.push_names.Given as goal
 
 abbrev pub invariant-loop-class : goal.invariant-loop-class

@@ -1,4 +1,4 @@
-use Rattle.crs_matching.specs.SameUnits.{kind_as}
+use Rattle.crs_matching.specs.SameParts.{kind_as}
 use Rattle.crs_matching.specs.SamenessLaws.{equal-by, by, ◌⊗◌, in-words}
 use Rattle.crs_matching.proofs.laws.same_unit_is_equivalence.Goals as goal
 

@@ -1,5 +1,5 @@
 use Rattle.crs_decimal.specs.Prelude.{SameNumber, exact}
-use Rattle.crs_matching.specs.SameUnits.{SameValue}
+use Rattle.crs_matching.specs.SameParts.{SameValue}
 use Rattle.crs_matching.specs.SamenessLaws.{by}
 use Rattle.crs_matching.proofs.laws.same_value_is_equivalence.Goals as goal
 

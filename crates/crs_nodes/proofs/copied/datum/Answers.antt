@@ -1,6 +1,10 @@
 use Rattle.std.proofs.Common.{rules}
 use Rattle.crs_nodes.proofs.CopiedDatumLemmas.{datum-copied}
+use Rattle.crs_nodes.specs.Copied.{IsPlainDatum}
+use Rattle.crs_nodes.specs.Cursor.{item}
 use Rattle.crs_nodes.proofs.copied.datum.Goals as goal
 
 pub returns : goal.returns
-returns c = search (rules, datum-copied)
+returns c =
+    let form : IsPlainDatum c.args.level (item c.args.node.now) = search rules in
+    search (rules, datum-copied)

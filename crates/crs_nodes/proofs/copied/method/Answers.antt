@@ -1,6 +1,10 @@
 use Rattle.std.proofs.Common.{rules}
 use Rattle.crs_nodes.proofs.CopiedLemmas.{method-copied}
+use Rattle.crs_nodes.specs.Copied.{IsPlainMethod}
+use Rattle.crs_nodes.specs.Cursor.{item}
 use Rattle.crs_nodes.proofs.copied.method.Goals as goal
 
 pub returns : goal.returns
-returns c = search (rules, method-copied)
+returns c =
+    let form : IsPlainMethod c.args.level (item c.args.node.now) = search rules in
+    search (rules, method-copied)

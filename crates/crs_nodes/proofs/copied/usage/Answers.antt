@@ -1,6 +1,10 @@
 use Rattle.std.proofs.Common.{rules}
 use Rattle.crs_nodes.proofs.CopiedUsageLemmas.{usage-copied}
+use Rattle.crs_nodes.specs.Copied.{IsPlainUsage}
+use Rattle.crs_nodes.specs.Cursor.{item}
 use Rattle.crs_nodes.proofs.copied.usage.Goals as goal
 
 pub returns : goal.returns
-returns c = search (rules, usage-copied c.args.level)
+returns c =
+    let form : IsPlainUsage (item c.args.node.now) = search rules in
+    search (rules, usage-copied c.args.level)

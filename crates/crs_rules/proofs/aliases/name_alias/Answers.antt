@@ -8,11 +8,11 @@ use Rattle.crs_rules.proofs.aliases.name_alias.Goals as goal
 pub returns-in-None : goal.returns-in-None
 returns-in-None c =
     rw (← c.names.view_is)
-    (none-there digest_of_name (is_name_alias c.args.class c.args.name.now) _ c.names.inside.firsts _
-    (names-have c.args.class c.args.name.now _) c.names.invariant (c.in-None.ensures ∙ ap (place_of c.names.inside.firsts) c.name_digest.ensures))
+    (none-there digest_of_name (is_name_alias c.args.class c.args.name.now) _ c.names.inside.firsts.entries _
+    (names-have c.args.class c.args.name.now _) c.names.invariant (c.in-None.ensures ∙ ap (place_of c.names.inside.firsts.entries) c.name_digest.ensures))
 
 pub returns-in-Some : goal.returns-in-Some
 returns-in-Some c =
     simp (c.name_alias_among-in-Some.ensures, c.rest_of.ensures, c.as_slice-in-Some.ensures.value, ← c.names.view_is)
-    (from-first digest_of_name (is_name_alias c.args.class c.args.name.now) _ c.names.inside.firsts _ _
-    (names-have c.args.class c.args.name.now _) c.names.invariant (c.in-Some.ensures ∙ ap (place_of c.names.inside.firsts) c.name_digest.ensures))
+    (from-first digest_of_name (is_name_alias c.args.class c.args.name.now) _ c.names.inside.firsts.entries _ _
+    (names-have c.args.class c.args.name.now _) c.names.invariant (c.in-Some.ensures ∙ ap (place_of c.names.inside.firsts.entries) c.name_digest.ensures))

@@ -3,7 +3,7 @@ use Rattle.crs_value.specs.declared.values.level.Level.{Level}
 use Rattle.crs_writer.specs.Prelude.{IsCanonicalOf}
 use Rattle.crs_canon.specs.MainTheorem.{SpellSame}
 use Rattle.crs_rules.specs.Rules.{RulesParts}
-use Rattle.crs_rules.specs.Under.{IsForm}
+use Rattle.crs_rules.specs.Rewritten.{IsForm}
 use Rattle.crs_rules.proofs.laws.same_texts_have_one_form.Goals as goal
 
 pub returns : goal.returns

@@ -1,5 +1,5 @@
 use Rattle.std.proofs.Common.{subst}
-use Rattle.crs_rules.specs.Under.{IsForm}
+use Rattle.crs_rules.specs.Rewritten.{IsForm}
 use Rattle.crs_rules_file.proofs.OneLemmas.{Sharp, over-one}
 use Rattle.crs_rules_file.proofs.OrderLemmas.{order-of-lines}
 use Rattle.crs_rules_file.specs.RulesFile.{ReadsFile, RefusesFile, start}

@@ -1,4 +1,4 @@
-use Rattle.std.proofs.Common.{◌≡◌, ℕ, Bool, true, false, Ok, take, drop, ◌+◌, refl, sym, ap, ◌∙◌, arith, rules}
+use Rattle.std.proofs.Common.{◌≡◌, ℕ, Bool, true, false, Ok, take, drop, ◌+◌, sym, ap, ◌∙◌, arith, rules}
 use Rattle.crs_text.specs.Tokens.{comma, opening, closing}
 use Rattle.crs_text.specs.Scan.{IsSingleAt}
 use Rattle.crs_text.specs.declared.items.ItemKind.TheVariants as kinds

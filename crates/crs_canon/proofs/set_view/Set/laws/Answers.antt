@@ -10,5 +10,5 @@ returns-clause-equal g c level =
     subst (λ a. HaveOneTextWhereSame Same Spells a c.args.other.now) c.self.view_is
     (subst (λ b. HaveOneTextWhereSame Same Spells c.self.inside.members.now b) c.other.view_is
     (by-members Same Spells _ _ c.texts_are_in_order.ensures.one
-    (λ member has. c.kind_has_law.ensures member has level _ _ c.are_values.ensures c.are_values-2.ensures)
-    (λ member has. c.kind_has_law-2.ensures member has level _ _ c.are_values.ensures c.are_values-2.ensures)))
+    (λ member has. c.kind_has_law.ensures member has level _ _ c.are_spelled.ensures.values c.are_spelled-2.ensures.values)
+    (λ member has. c.kind_has_law-2.ensures member has level _ _ c.are_spelled.ensures.values c.are_spelled-2.ensures.values)))

@@ -17,4 +17,4 @@ returns g c =
     MatchResult-weaker c.append_members.result (c.append_members.ensures members
     (whole _ (commas members) _ _ c.as_slice.ensures.value (c.in_ok-write_set.ensures.writes values refl) c.new-text.ensures.items))
     (λ x e. subst (λ vs. AppendsSpelling (IsSetText Spells vs) c.args.out.now.items c.append_members.new.out.items) c.self.view_is
-    (set-text Spells law.ascend law.members values texts _ _ (c.are_spelled.ensures c.args.level) e)) (λ y e. e)
+    (set-text Spells law.ascend law.members values texts _ _ (c.are_spelled.ensures.spelled c.args.level) e)) (λ y e. e)

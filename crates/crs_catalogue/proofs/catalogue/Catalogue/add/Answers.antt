@@ -3,7 +3,7 @@ use Rattle.crs_writer.specs.Prelude.{IsCanonicalOf}
 use Rattle.crs_placed.specs.declared.placed.Placed.TheVariants.{Blank}
 use Rattle.crs_catalogue.proofs.CatalogueLemmas.{blank-added, canonical-forms, is-black, lines-added, lines-result, put-result, refuse-result}
 use Rattle.crs_catalogue.proofs.KnownLemmas.{joined-put}
-use Rattle.crs_catalogue.specs.Partition.{ShareWhereSame}
+use Rattle.crs_catalogue.specs.GroupTexts.{ShareWhereSame}
 use Rattle.crs_catalogue.proofs.catalogue.Catalogue.add.Goals as goal
 
 pub returns-then-is_blank-clause-catalogue : goal.returns-then-is_blank-clause-catalogue

@@ -1,5 +1,5 @@
 use Rattle.std.proofs.Common.{refl, sym, ◌∙◌}
-use Rattle.crs_rules.specs.Under.{IsForm}
+use Rattle.crs_rules.specs.Rewritten.{IsForm}
 use Rattle.crs_catalogue.proofs.CatalogueLemmas.{blank-added, is-black, put-result, refuse-result, rules-forms}
 use Rattle.crs_catalogue.specs.UnderRules.{ShareWhereSameUnder}
 use Rattle.crs_catalogue.proofs.catalogue.Catalogue.add_under.Goals as goal

@@ -1,8 +1,8 @@
 use Rattle.std.proofs.Common.{[], refl}
 use Rattle.crs_writer.specs.Prelude.{IsCanonicalOf}
-use Rattle.crs_rules.specs.Under.{IsForm}
+use Rattle.crs_rules.specs.Rewritten.{IsForm}
 use Rattle.crs_placed.specs.Catalogue.{CatalogueParts, canons}
-use Rattle.crs_catalogue.specs.Partition.{ShareWhereSame}
+use Rattle.crs_catalogue.specs.GroupTexts.{ShareWhereSame}
 use Rattle.crs_catalogue.specs.UnderRules.{ShareWhereSameUnder}
 use Rattle.crs_catalogue.proofs.CatalogueLemmas.{by-parts, none-added}
 use Rattle.crs_catalogue.proofs.KnownLemmas.{none-known}

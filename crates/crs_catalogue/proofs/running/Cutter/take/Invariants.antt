@@ -1,5 +1,5 @@
 use Rattle.std.proofs.Common.{◌≡◌, ◌+◌, ◌≤◌, ◌++◌, ℕ, List, length}
-use Rattle.crs_catalogue.specs.GroupCutting.{IsCutTo}
+use Rattle.crs_catalogue.specs.GroupReading.{IsCutTo}
 use Rattle.crs_catalogue.proofs.running.Cutter.take.Given as goal
 
 abbrev pub invariant-loop-line : goal.invariant-loop-line

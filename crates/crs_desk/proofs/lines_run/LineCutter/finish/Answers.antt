@@ -1,5 +1,6 @@
 use Rattle.std.proofs.Common.{◌≡◌, ap, rules, subst, sym, true}
 use Rattle.std.proofs.lemmas.Result.{IfErr-weaker}
+use Rattle.crs_desk.specs.declared.lines_run.LineCutter.TheInside.{Inside}
 use Rattle.crs_desk.specs.LineCutting.{CutterParts, IsPutOut, IsWrittenOut, WriterParts}
 use Rattle.crs_desk.proofs.LineCutLemmas.{end-sent, end-starved, put-cut}
 use Rattle.crs_desk.proofs.lines_run.LineCutter.finish.Goals as goal
@@ -20,7 +21,7 @@ returns-in_err-send-clause-fault g c =
 pub returns-clause-written : goal.returns-clause-written
 returns-clause-written g c before bytes cut =
     let Output = g.C.TextCommand.Output c.args.command.now in
-    subst (IsWrittenOut Output before bytes c.send.new.sink) (sym c.status.ensures)
+    subst (IsWrittenOut Output before bytes c.send.new.sink) (sym (ap (λ (k : Inside). k.writer.status) c.self-inside.view_is))
     (end-sent (subst (λ (w : WriterParts). IsPutOut Output true before bytes w c.args.sink.now)
     (sym (ap (λ (k : CutterParts). k.writer) c.self.view_is)) (c.in_ok-end_last.ensures.put before c.args.sink.now bytes cut))
     c.in_ok-send.ensures.sent)

@@ -1,11 +1,7 @@
 use Rattle.crs_text.specs.Prelude.{arguments}
 use Rattle.crs_shape.specs.declared.class.Class.TheVariants as class
 use Rattle.crs_value.specs.Cursor.{item}
-use Rattle.crs_value.specs.BadDynamic.{BadDynamic}
-use Rattle.crs_value.specs.BadOrder.{BadOrder}
-use Rattle.crs_value.specs.BadUnit.{BadUnit}
-use Rattle.crs_value.specs.Break.{AnyOf}
-use Rattle.crs_value.specs.Checks.{OfAxes}
+use Rattle.crs_value.specs.Checks.{BadDynamic, BadOrder, BadUnit, AnyOf, OfAxes}
 use Rattle.crs_value.specs.Reading.{those}
 use Rattle.crs_value.proofs.checked.LeastLemmas.{either-is}
 use Rattle.crs_value.proofs.checks.crs.of_axes.Goals as goal

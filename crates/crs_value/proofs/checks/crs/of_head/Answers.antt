@@ -3,11 +3,7 @@ use Rattle.crs_text.specs.Prelude.{arguments}
 use Rattle.crs_shape.specs.declared.class.Class.TheVariants as class
 use Rattle.crs_shape.specs.Prelude.{dimensions_of}
 use Rattle.crs_value.specs.Cursor.{item}
-use Rattle.crs_value.specs.AxisCount.{AxisCount}
-use Rattle.crs_value.specs.BadSystem.{BadSystem}
-use Rattle.crs_value.specs.Break.{AnyOf, IsLeast}
-use Rattle.crs_value.specs.Checks.{OfHead, once}
-use Rattle.crs_value.specs.RepeatedPart.{RepeatsAny}
+use Rattle.crs_value.specs.Checks.{AxisCount, BadSystem, AnyOf, IsLeast, OfHead, once, RepeatsAny}
 use Rattle.crs_value.specs.Reading.{item_at, those}
 use Rattle.crs_value.proofs.found.ArgumentLemmas.{first-shaped}
 use Rattle.crs_value.proofs.checked.CheckLemmas.{none-of, only-of}

@@ -1,8 +1,7 @@
 use Rattle.std.proofs.Common.{take, drop}
 use Rattle.crs_text.specs.Prelude.{arguments}
 use Rattle.crs_shape.specs.declared.class.Class.TheVariants as class
-use Rattle.crs_value.specs.BadValue.{NotAbove, IsNegative}
-use Rattle.crs_value.specs.Break.{AnyOf}
+use Rattle.crs_value.specs.Checks.{NotAbove, IsNegative, AnyOf}
 use Rattle.crs_value.specs.Reading.{item_at, those}
 use Rattle.crs_value.proofs.found.ArgumentLemmas.{first-shaped}
 use Rattle.crs_value.proofs.checked.CheckLemmas.{later-shaped, any-first, any-later}

@@ -3,6 +3,7 @@ use Rattle.crs_shape.specs.declared.class.Class.TheVariants as class
 use Rattle.crs_value.specs.Cursor.{item}
 use Rattle.crs_value.proofs.found.ArgumentLemmas.{first-sound}
 use Rattle.crs_value.proofs.found.FrameLemmas.{one-there}
+use Rattle.crs_value.proofs.found.NodeLemmas.{some-there}
 use Rattle.crs_value.proofs.values.compound.read_horizontal.Goals as goal
 
 pub read-requires-clause-sound : goal.read-requires-clause-sound
@@ -11,10 +12,10 @@ read-requires-clause-sound c = first-sound _ class.CompoundCrs class.GeodeticCrs
 pub read-requires-in-Some-first-clause-sound : goal.read-requires-in-Some-first-clause-sound
 read-requires-in-Some-first-clause-sound c = first-sound _ class.CompoundCrs class.GeographicCrs _ c.in-Some-first.id c.requires.sound c.in-Some-first.ensures
 
-pub unreachable-requires : goal.unreachable-requires
-unreachable-requires c =
-    one-there c.slots_count.ensures.least class.CompoundCrs (class.GeodeticCrs ∷ class.GeographicCrs ∷ class.ProjectedCrs ∷ []) (item c.args.node.now) c.requires.sound.shaped
-    (omega arith) (c.in_default.ensures, (c.in_default-first.ensures, (c.in_default-first-2.ensures, tt)))
+pub unwrap-id-requires : goal.unwrap-id-requires
+unwrap-id-requires c =
+    some-there c.first-3.result (λ none. one-there c.slots_count.ensures.least class.CompoundCrs (class.GeodeticCrs ∷ class.GeographicCrs ∷ class.ProjectedCrs ∷ [])
+    (item c.args.node.now) c.requires.sound.shaped (omega arith) (c.in_default.ensures, (c.in_default-first.ensures, (rw none at c.first-3.ensures, tt))))
 
 pub read-requires-2-clause-sound : goal.read-requires-2-clause-sound
-read-requires-2-clause-sound c = first-sound _ class.CompoundCrs class.ProjectedCrs _ c.in-Some-first-2.id c.requires.sound c.in-Some-first-2.ensures
+read-requires-2-clause-sound c = first-sound _ class.CompoundCrs class.ProjectedCrs _ c.unwrap-id.result c.requires.sound (rw c.unwrap-id.ensures at c.first-3.ensures)

@@ -2,15 +2,16 @@ use Rattle.std.proofs.Common.{[], ◌∷◌}
 use Rattle.crs_value.specs.Cursor.{item}
 use Rattle.crs_value.proofs.found.ArgumentLemmas.{first-sound}
 use Rattle.crs_value.proofs.found.FrameLemmas.{one-there}
+use Rattle.crs_value.proofs.found.NodeLemmas.{some-there}
 use Rattle.crs_value.proofs.values.frame.read_frame.Goals as goal
 
 pub read-requires-clause-sound : goal.read-requires-clause-sound
 read-requires-clause-sound c = first-sound _ c.args.node.now.class c.args.frame _ c.in-Some.id c.requires.sound c.in-Some.ensures
 
-pub unreachable-requires : goal.unreachable-requires
-unreachable-requires c =
-    one-there c.slots_count.ensures.least c.args.node.now.class (c.args.frame ∷ c.args.ensemble ∷ []) (item c.args.node.now) c.requires.sound.shaped c.requires.there
-    (c.in_default.ensures, (c.in_default-first.ensures, tt))
+pub unwrap-id-requires : goal.unwrap-id-requires
+unwrap-id-requires c =
+    some-there c.first-2.result (λ none. one-there c.slots_count.ensures.least c.args.node.now.class (c.args.frame ∷ c.args.ensemble ∷ []) (item c.args.node.now)
+    c.requires.sound.shaped c.requires.there (c.in_default.ensures, (rw none at c.first-2.ensures, tt)))
 
 pub read-requires-2-clause-sound : goal.read-requires-2-clause-sound
-read-requires-2-clause-sound c = first-sound _ c.args.node.now.class c.args.ensemble _ c.in-Some-first.id c.requires.sound c.in-Some-first.ensures
+read-requires-2-clause-sound c = first-sound _ c.args.node.now.class c.args.ensemble _ c.unwrap-id.result c.requires.sound (rw c.unwrap-id.ensures at c.first-2.ensures)

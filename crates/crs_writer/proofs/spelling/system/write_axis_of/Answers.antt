@@ -16,11 +16,11 @@ returns-in-Some c = on_ok_weaker c.append_item.result
     (λ e s a type shared r. e ∙ ap (λ (x : List ℕ). c.args.out.now.items ++ 44 ∷ x) (c.in-Some.ensures s a r)) c.append_item.ensures
 
 pub returns : goal.returns
-returns c = on_ok_weaker c.write.result (λ w s a type shared r.
+returns c = on_ok_weaker c.write_axis.result (λ w s a type shared r.
     let direction = c.direction-direction.ensures a.direction r.direction in
-    placed c.args.level s c.args.seat.position a _ _
+    placed c.args.level s c.args.seat.position a _ _ _ c.in_ok-append.ensures
     (w _ _ _ (Some (whole_value c.args.seat.position)) _ _ _ (c.text.ensures a.name r.name) direction
-    (first-said ReadsAxisMeridian c.args.axis.now class.AxisMeridian _ _ _ c.first.ensures c.as_ref.ensures.value r.meridian) refl
-    (ap (λ t. asked_kind t a.direction) type ∙ ap (λ d. asked_kind c.args.seat.system_type d) direction ∙ sym c.asked_kind.ensures)
-    (through (λ (n : Node) u. ReadsUnit n.class (item n) u) _ _ _ c.as_ref-2.ensures.value (c.unit_of.ensures a.unit s.unit r.unit shared))
-    r.identifiers)) c.write.ensures
+    (first-said ReadsAxisMeridian c.args.axis.now class.AxisMeridian _ _ _ c.first-meridian.ensures c.as_ref.ensures.value r.meridian) refl
+    (ap (λ t. asked_kind t a.direction) type ∙ ap (λ d. asked_kind c.args.seat.system_type d) direction ∙ sym c.asked_kind-asked.ensures)
+    (through (λ (n : Node) u. ReadsUnit n.class (item n) u) _ _ _ c.as_ref-2.ensures.value (c.unit_of-unit.ensures a.unit s.unit r.unit shared))
+    r.identifiers)) c.write_axis.ensures

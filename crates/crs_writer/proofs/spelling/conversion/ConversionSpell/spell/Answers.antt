@@ -5,4 +5,4 @@ use Rattle.crs_writer.proofs.spelling.conversion.ConversionSpell.spell.Goals as 
 
 pub returns : goal.returns
 returns c =
-    spelled c.write.result (conversion_text c.args.level) _ _ _ _ c.self.view_is c.write.ensures (λ w. w _ refl refl (sym c.as_slice.ensures) refl)
+    spelled c.write_conversion.result (conversion_text c.args.level) _ _ _ _ c.self.view_is c.write_conversion.ensures (λ w. w _ refl refl (sym c.as_slice-parameters.ensures) refl)

@@ -9,7 +9,7 @@ pub returns-in-Some : goal.returns-in-Some
 returns-in-Some c = copy-writes c.append.result _ _ _ _ _ c.in-Some.ensures c.append.ensures
 
 pub returns : goal.returns
-returns c = written c.write.result _ _ _ c.write.ensures (λ w p r.
+returns c = written c.write_measured.result _ _ _ c.write_measured.ensures (λ w p r.
     w p.name p.value p.unit p.identifiers (c.text.ensures p.name r.name) (c.number.ensures p.value r.value)
-    (through (λ (n : Node) u. ReadsUnit n.class (item n) u) _ _ _ c.as_ref.ensures.value (c.parameter_unit.ensures p.unit r.unit))
+    (through (λ (n : Node) u. ReadsUnit n.class (item n) u) _ _ _ c.as_ref.ensures.value (c.parameter_unit-unit.ensures p.unit r.unit))
     r.identifiers)

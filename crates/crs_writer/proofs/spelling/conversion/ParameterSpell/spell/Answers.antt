@@ -5,4 +5,4 @@ use Rattle.crs_writer.proofs.spelling.conversion.ParameterSpell.spell.Goals as g
 
 pub returns : goal.returns
 returns c =
-    spelled c.write.result (parameter_text c.args.level) _ _ _ _ c.self.view_is c.write.ensures (λ w. w _ _ _ _ refl refl (copied _ _ c.as_ref.ensures.value) refl)
+    spelled c.write_measured.result (parameter_text c.args.level) _ _ _ _ c.self.view_is c.write_measured.ensures (λ w. w _ _ _ _ refl refl (copied _ _ c.as_ref.ensures.value) refl)

@@ -5,7 +5,7 @@ use Rattle.crs_writer.proofs.FlatLemmas.{written}
 use Rattle.crs_writer.proofs.spelling.crs.VerticalReadAs.write_of.Goals as goal
 
 pub returns : goal.returns
-returns c = written c.write.result _ _ _ c.write.ensures (λ w v r.
+returns c = written c.write_vertical.result _ _ _ c.write_vertical.ensures (λ w v r.
     w v (c.text.ensures v.name r.name)
-    (first-said ReadsDynamic c.args.node.now class.Dynamic _ _ _ c.first.ensures c.as_ref.ensures.value r.dynamic)
-    r.frame r.system (all-said ReadsNamed class.GeoidModel _ _ _ _ c.all.ensures.class c.all.ensures.all r.geoid_models) r.tail)
+    (first-said ReadsDynamic c.args.node.now class.Dynamic _ _ _ c.first-dynamic.ensures c.as_ref.ensures.value r.dynamic)
+    r.frame r.system (all-said ReadsNamed class.GeoidModel _ _ _ _ c.all-models.ensures.class c.all-models.ensures.all r.geoid_models) r.tail)

@@ -1,2 +1,0 @@
--- When deformation models are the same.
-pub use Rattle.crs_matching.specs.SameIdents.{SameNamed as SameDeformationModel}

@@ -1,6 +1,0 @@
-use Rattle.crs_value.specs.Reading.{item_at}
-use Rattle.crs_value.proofs.checked.ComponentLemmas.{plane-test}
-use Rattle.crs_value.proofs.checks.component.is_not_plane.Goals as goal
-
-pub returns : goal.returns
-returns c = plane-test c.denotes_one.ensures (item_at c.args.items.now c.args.cs) c.number.result c.is_whole.result c.number.ensures c.is_whole.ensures

@@ -1,0 +1,10 @@
+use Rattle.std.proofs.Common.{refl}
+use Rattle.crs_shape.specs.Prelude.{dimensions_of}
+use Rattle.crs_value.specs.Reading.{item_at}
+use Rattle.crs_value.proofs.checked.SystemLemmas.{system-none}
+use Rattle.crs_value.proofs.checks.crs.bad_system.Goals as goal
+
+pub returns-then-is_allowed : goal.returns-then-is_allowed
+returns-then-is_allowed c =
+    system-none c.denotes_one.ensures (dimensions_of c.args.class) (item_at c.args.items.now c.args.cs) c.in_ok-system_type.system_type c.args.dimension.now
+    c.in_ok-system_type.ensures c.requires.dimension (c.if-is_allowed.ensures.0 refl)

@@ -1,8 +1,0 @@
-use Rattle.std.proofs.Common.{refl}
-use Rattle.crs_value.specs.Reading.{item_at}
-use Rattle.crs_value.proofs.checked.SystemLemmas.{count-none}
-use Rattle.crs_value.proofs.checks.system.bad_count.Goals as goal
-
-pub returns-then-is_whole : goal.returns-then-is_whole
-returns-then-is_whole c =
-    count-none c.denotes_one.ensures c.args.axes (item_at c.args.items.now c.args.cs) c.args.dimension.now c.requires.dimension (c.if-is_whole.ensures.0 refl)

@@ -1,9 +1,0 @@
-use Rattle.crs_value.specs.Cursor.{item}
-use Rattle.crs_value.specs.Reading.{item_at}
-use Rattle.crs_value.proofs.checked.UnitLemmas.{asking-first}
-use Rattle.crs_value.proofs.checks.unit.Sharing.fits_as.Goals as goal
-
-pub loop-at-init : goal.loop-at-init
-loop-at-init c =
-    let crs = c.args.self.now.crs in
-    asking-first crs.items.now crs.class (item_at crs.items.now c.args.self.now.cs) (item crs) c.args.kind c.first-at.result c.requires.shaped c.first-at.ensures

@@ -1,0 +1,6 @@
+use Rattle.std.specs.Fmt.{digits}
+use Rattle.crs_writer.proofs.spelling.common.write_metre.Goals as goal
+
+pub returns : goal.returns
+unfolding digits
+returns c = c.append.ensures

@@ -1,6 +1,0 @@
-use Rattle.std.specs.Fmt.{digits}
-use Rattle.crs_writer.proofs.spelling.unit.write_metre.Goals as goal
-
-pub returns : goal.returns
-unfolding digits
-returns c = c.append.ensures
