@@ -15,7 +15,7 @@ use Rattle.crs_shape.specs.UnitKinds.{asked_kind}
 use Rattle.crs_value.specs.declared.judging.quiet.Axes.{Axes}
 use Rattle.crs_value.specs.declared.judging.quiet.Seen.{Seen}
 use Rattle.crs_value.specs.declared.judging.quiet.Layout.{Layout}
-use Rattle.crs_value.specs.Checks.{orders_in, units_in, Asks, Fits, BadOwnUnit, IsLeast, once, BadSystems, RepeatsAny}
+use Rattle.crs_value.specs.Checks.{BadOrder, orders_in, units_in, Asks, Fits, BadOwnUnit, IsLeast, once, BadSystems, RepeatsAny}
 use Rattle.crs_value.specs.FoundArguments.{AreInOrder, HasPlace}
 use Rattle.crs_value.specs.Judged.{Walked}
 use Rattle.crs_value.specs.Reading.{Each, item_at, ahead, those, Holds, ReadsFirst}
@@ -79,9 +79,10 @@ pub record IsSeen (of : SystemType) (axes : Axes) (before : List Item) : Type 0 
 
 -- ---- from the node `CS` on
 
--- no axis has an order, or the orders are those from 1 on, one after another
-abbrev pub AreOrdered : Axes → Type 0
-AreOrdered axes = (axes.ordered ≡ true) ⊎ (axes.orderless ≡ true)
+-- the orders of axes are those from 1 on, one after another, or no axis has one, or else they break no check
+abbrev pub AreOrdered : Axes → List Item → Type 0
+AreOrdered axes list =
+    (axes.ordered ≡ true) ⊎ (axes.orderless ≡ true) ⊎ IsLeast (BadOrder list) None
 
 -- the units fit: each axis has its own, or none has one, and the shared one fits what all ask for
 abbrev pub UnitsFit : Item → Axes → Option ℕ → Type 0

@@ -152,7 +152,7 @@ system-shaped tree c item layout cs shaped laid at only =
 pub laid-quiet : DenotesOne → Symmetric → Transitive → (tree : Item) (c : Class) (items : Siblings) (layout : Layout) (cs : ℕ) (of : SystemType) (axes : Axes) (shared : Option ℕ) →
     IsLaid tree c items layout → layout.system ≡ Some cs → those c class.CoordinateSystem (here tree cs) ≡ item_at tree cs ∷ [] → HasType (item_at tree cs) of →
     IsSeen of axes (those c class.Axis (ahead tree layout.axes)) → those c class.AxisUnit (ahead tree layout.unit) ≡ the_one tree shared →
-    ((list : List Item) → length list ≡ axes.count → IsLeast (OfHead (dimensions_of c) list (item_at tree cs)) None) → AreOrdered axes → UnitsFit tree axes shared →
+    ((list : List Item) → length list ≡ axes.count → IsLeast (OfHead (dimensions_of c) list (item_at tree cs)) None) → AreOrdered axes (those c class.Axis items) → UnitsFit tree axes shared →
     IsLeast (RepeatsAny c (ahead tree layout.tail) once) None → IsQuiet c items
 laid-quiet law symmetric transitive tree c items layout cs of axes shared laid at only typed noted unit head ordered fit repeats = record {
   repeats = λ f h. repeats f (repeats-back c once items (ahead tree layout.tail) laid.single f h);

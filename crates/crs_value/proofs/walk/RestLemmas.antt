@@ -57,10 +57,11 @@ any-none B [] h f k = k
 any-none B (item ∷ items) h f (inl k) = h.0 f k
 any-none B (item ∷ items) h f (inr k) = any-none B items h.1 f k
 
-pub ordered-none : DenotesOne → Symmetric → Transitive → (of : SystemType) (seen : Axes) (axes : List Item) → IsSeen of seen axes → AreOrdered seen → IsLeast (BadOrder axes) None
+pub ordered-none : DenotesOne → Symmetric → Transitive → (of : SystemType) (seen : Axes) (axes : List Item) → IsSeen of seen axes → AreOrdered seen axes → IsLeast (BadOrder axes) None
 ordered-none law symmetric transitive of seen axes s (inl e) f h = placed-none law symmetric transitive axes (s.placed e) f h
-ordered-none law symmetric transitive of seen axes s (inr e) f (inl h) = some-has axes (s.none e) h.0
-ordered-none law symmetric transitive of seen axes s (inr e) f (inr h) = none-has axes (s.none e) (length axes) [] f h.1
+ordered-none law symmetric transitive of seen axes s (inr (inl e)) f (inl h) = some-has axes (s.none e) h.0
+ordered-none law symmetric transitive of seen axes s (inr (inl e)) f (inr h) = none-has axes (s.none e) (length axes) [] f h.1
+ordered-none law symmetric transitive of seen axes s (inr (inr none)) f h = none f h
 
 -- ---- units
 

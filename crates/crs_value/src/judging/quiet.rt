@@ -11,9 +11,11 @@ ghost use Rattle.crs_value.specs.Reading.{item_at, is_a, ahead, those, Holds};
 ghost use Rattle.crs_value.specs.Reads.{HasType};
 ghost use Rattle.crs_value.specs.Seen.{rank, the_one, AreOrdered, Climbs, Has, IsBehindName, IsHeld, IsLaid, IsNoted, IsQuiet, IsSeen, IsShaped, UnitsFit};
 
-use crate::checks::axes::{fits, same_kind};
+use crate::checks::axes::{bad_order, fits, same_kind};
 use crate::checks::crs::type_of;
 use crate::reading::arguments::{later, same_place};
+use crate::reading::cursor::Cursor;
+use crate::reading::firsts::firsts_of;
 use crate::reading::node::has_whole;
 use crs_decimal::laws;
 use crs_shape::{Class, Direction, SystemType, UnitKind, stands_as};
@@ -231,11 +233,15 @@ fn head_fits(
     has_whole(items, cs, Class::CoordinateSystem, dimension)
 }
 
-// Whether the orders of the axes fit one another.
-fn is_ordered(axes: Axes) -> bool
-    ensures { IsTrue result → AreOrdered axes }
+// Whether the orders of a CRS's axes fit one another. Mostly each is the place of its axis, or there is none.
+fn is_ordered(items: &Items<'_>, id: ItemId, class: Class, axes: Axes) -> bool
+    requires has { HasId items.now id }
+    requires shaped { Shaped class (item_at items.now id) }
+    ensures { IsTrue result → AreOrdered axes (those class Class.Axis (arguments (item_at items.now id))) }
 {
-    axes.ordered || axes.orderless
+    axes.ordered
+        || axes.orderless
+        || bad_order(&Cursor { items, id, class }, &firsts_of(items, id, class)).is_none()
 }
 
 // Whether a unit fits where all axes ask for this kind, if they do.
@@ -337,7 +343,7 @@ pub(crate) fn is_quiet(items: &Items<'_>, id: ItemId, class: Class, layout: Layo
     if !head_fits(items, cs, class, system_type, axes.count) {
         return false;
     }
-    if !is_ordered(axes) {
+    if !is_ordered(items, id, class, axes) {
         return false;
     }
     if !units_fit(items, axes, shared) {
