@@ -238,11 +238,6 @@ impl<'b> Guesses<'b> {
         Guesses { places: None }
     }
 
-    /// Whether there are any.
-    pub fn are_known(self) -> bool {
-        self.places.is_some()
-    }
-
     /// The guesses for the other list's members.
     pub fn turned(self) -> Guesses<'b> {
         Guesses {
