@@ -110,7 +110,8 @@ fn split_fraction(bytes: &[u8], before: Mantissa) -> Run
     }
 }
 
-// whether a minus is before the exponent's digits, and those, if nothing but an exponent is here, or nothing at all
+// Whether a minus is before the digits of an exponent, and these, no digits where nothing is here; None where anything
+// else is.
 fn split_exponent(bytes: &[u8]) -> Option<(bool, &[u8])>
     ensures { MatchOption result
         (¬ (IsExponentWhole bytes.now))
