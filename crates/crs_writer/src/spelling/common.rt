@@ -49,11 +49,12 @@ fn write_ident(
         i.version ≡ option_copied version.entry → i.citation ≡ option_copied references.entry.0 →
         i.uri ≡ option_copied references.entry.1 → out.new.items ≡ out.old.items ++ item_text (item_ident i)) }
 {
+    let (citation, uri) = references;
     open_text(out, b"ID[\"", authority)?;
     write_code(out, code)?;
     write_version(out, version)?;
-    write_optional_text(out, b",CITATION[\"", references.0)?;
-    write_optional_text(out, b",URI[\"", references.1)?;
+    write_optional_text(out, b",CITATION[\"", citation)?;
+    write_optional_text(out, b",URI[\"", uri)?;
     append(out, b"]")
 }
 
@@ -266,9 +267,11 @@ pub(crate) fn write_measured<N: NumberPart, U: UnitPart, I: IdentsPart>(
         I.Says named.entry.1 is → out.new.items ≡ out.old.items ++ named_node opening.now n (More (number_item v)
         (opt item_unit (norm_units level measure.1 u) (each item_ident (set_idents level is) End)))) }
 {
-    open_text(out, opening, named.0)?;
-    measure.0.open(out, b",")?;
-    write_optional_unit(out, measure.1, measure.2, level)?;
-    named.1.put(out, level)?;
+    let (name, ids) = named;
+    let (number, asked, unit) = measure;
+    open_text(out, opening, name)?;
+    number.open(out, b",")?;
+    write_optional_unit(out, asked, unit, level)?;
+    ids.put(out, level)?;
     append(out, b"]")
 }

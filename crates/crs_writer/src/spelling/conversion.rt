@@ -67,10 +67,11 @@ fn write_conversion<'a, M: Part<Method<'a>>, P: MembersPart<Parameter<'a>>, I: I
         P.Say parameters.now x.parameters → I.Says named.entry.1 x.identifiers →
         out.new.items ≡ out.old.items ++ conversion_text level x) }
 {
-    open_text(out, b"CONVERSION[\"", named.0)?;
+    let (name, ids) = named;
+    open_text(out, b"CONVERSION[\"", name)?;
     method.put(out, level)?;
     write_set::<Parameter<'a>, P>(out, parameters, level)?;
-    named.1.put(out, level)?;
+    ids.put(out, level)?;
     append(out, b"]")
 }
 

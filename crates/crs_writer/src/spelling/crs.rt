@@ -74,13 +74,15 @@ fn write_geodetic<
         (opt item_meridian (norm_meridian level m)
         (system_items (norm_system level s) (tail_items (norm_tail level t)))))))) }
 {
+    let (name, tail) = named;
+    let (dynamic, frame, meridian) = datum;
     let opening = geodetic_opening(system.system_type());
-    open_text(out, opening.as_bytes(), named.0)?;
-    write_optional::<Dynamic<'a>, D>(out, datum.0, level)?;
-    datum.1.put_geodetic(out, level)?;
-    write_meridian::<M>(out, datum.2, level)?;
+    open_text(out, opening.as_bytes(), name)?;
+    write_optional::<Dynamic<'a>, D>(out, dynamic, level)?;
+    frame.put_geodetic(out, level)?;
+    write_meridian::<M>(out, meridian, level)?;
     write_system(out, system, level)?;
-    named.1.put(out, level)?;
+    tail.put(out, level)?;
     append(out, b"]")
 }
 
@@ -128,12 +130,14 @@ fn write_base<
         (More (item_frame (codes "DATUM") (norm_frame level f)) (opt item_meridian (norm_meridian level m)
         (opt item_unit (norm_units level kinds.Angle u) (each item_ident (set_idents level is) End)))))) }
 {
-    open_text(out, opening, named.0)?;
-    write_optional::<Dynamic<'a>, D>(out, datum.0, level)?;
-    datum.1.put_geodetic(out, level)?;
-    write_meridian::<M>(out, datum.2, level)?;
-    write_optional_unit(out, UnitKind::Angle, datum.3, level)?;
-    named.1.put(out, level)?;
+    let (name, ids) = named;
+    let (dynamic, frame, meridian, unit) = datum;
+    open_text(out, opening, name)?;
+    write_optional::<Dynamic<'a>, D>(out, dynamic, level)?;
+    frame.put_geodetic(out, level)?;
+    write_meridian::<M>(out, meridian, level)?;
+    write_optional_unit(out, UnitKind::Angle, unit, level)?;
+    ids.put(out, level)?;
     append(out, b"]")
 }
 
@@ -176,11 +180,13 @@ fn write_projected<'a, B: Part<Base<'a>>, C: Part<Conversion<'a>>, S: SystemPart
         C.Says derivation.1 p.conversion → S.Says system p.system → T.Says named.entry.1 p.tail →
         out.new.items ≡ out.old.items ++ projected_text level p) }
 {
-    open_text(out, b"PROJCRS[\"", named.0)?;
-    derivation.0.put(out, level)?;
-    derivation.1.put(out, level)?;
+    let (name, tail) = named;
+    let (base, conversion) = derivation;
+    open_text(out, b"PROJCRS[\"", name)?;
+    base.put(out, level)?;
+    conversion.put(out, level)?;
     write_system(out, system, level)?;
-    named.1.put(out, level)?;
+    tail.put(out, level)?;
     append(out, b"]")
 }
 
@@ -230,12 +236,14 @@ fn write_vertical<
         F.SaysVertical datum.1 v.frame → S.Says datum.2 v.system → G.Say models.now v.geoid_models →
         T.Says named.entry.1 v.tail → out.new.items ≡ out.old.items ++ vertical_text level v) }
 {
-    open_text(out, b"VERTCRS[\"", named.0)?;
-    write_optional::<Dynamic<'a>, D>(out, datum.0, level)?;
-    datum.1.put_vertical(out, level)?;
-    write_system(out, datum.2, level)?;
+    let (name, tail) = named;
+    let (dynamic, frame, system) = datum;
+    open_text(out, b"VERTCRS[\"", name)?;
+    write_optional::<Dynamic<'a>, D>(out, dynamic, level)?;
+    frame.put_vertical(out, level)?;
+    write_system(out, system, level)?;
     write_set::<GeoidModel<'a>, G>(out, models, level)?;
-    named.1.put(out, level)?;
+    tail.put(out, level)?;
     append(out, b"]")
 }
 
@@ -300,10 +308,12 @@ fn write_compound<'a, H: Part<Horizontal<'a>>, V: Part<Vertical<'a>>, T: TailPar
         V.Says components.1 p.vertical → T.Says named.entry.1 p.tail →
         out.new.items ≡ out.old.items ++ compound_text level p) }
 {
-    open_text(out, b"COMPOUNDCRS[\"", named.0)?;
-    components.0.put(out, level)?;
-    components.1.put(out, level)?;
-    named.1.put(out, level)?;
+    let (name, tail) = named;
+    let (horizontal, vertical) = components;
+    open_text(out, b"COMPOUNDCRS[\"", name)?;
+    horizontal.put(out, level)?;
+    vertical.put(out, level)?;
+    tail.put(out, level)?;
     append(out, b"]")
 }
 

@@ -57,11 +57,13 @@ fn write_datum<'a, E: Part<Ellipsoid<'a>>, N: NumberPart, I: IdentsPart>(
         SaysIfAny N.Says parts.entry.2 d.anchor_epoch → I.Says named.entry.1 d.identifiers →
         out.new.items ≡ out.old.items ++ datum_node level opening.now d) }
 {
-    open_text(out, opening, named.0)?;
-    write_optional::<Ellipsoid<'a>, E>(out, parts.0, level)?;
-    write_optional_text(out, b",ANCHOR[\"", parts.1)?;
-    write_optional_number(out, b",ANCHOREPOCH[", parts.2)?;
-    named.1.put(out, level)?;
+    let (name, ids) = named;
+    let (ellipsoid, anchor, epoch) = parts;
+    open_text(out, opening, name)?;
+    write_optional::<Ellipsoid<'a>, E>(out, ellipsoid, level)?;
+    write_optional_text(out, b",ANCHOR[\"", anchor)?;
+    write_optional_number(out, b",ANCHOREPOCH[", epoch)?;
+    ids.put(out, level)?;
     append(out, b"]")
 }
 
@@ -128,11 +130,13 @@ fn write_ensemble<
         M.Say members.now e.members → SaysIfAny E.Says others.0 e.ellipsoid → N.Says others.1 e.accuracy →
         I.Says named.entry.1 e.identifiers → out.new.items ≡ out.old.items ++ ensemble_text level e) }
 {
-    open_text(out, b"ENSEMBLE[\"", named.0)?;
+    let (name, ids) = named;
+    let (ellipsoid, accuracy) = others;
+    open_text(out, b"ENSEMBLE[\"", name)?;
     write_set::<Member<'a>, M>(out, members, level)?;
-    write_optional::<Ellipsoid<'a>, E>(out, others.0, level)?;
-    write_number_node(out, b",ENSEMBLEACCURACY[", others.1)?;
-    named.1.put(out, level)?;
+    write_optional::<Ellipsoid<'a>, E>(out, ellipsoid, level)?;
+    write_number_node(out, b",ENSEMBLEACCURACY[", accuracy)?;
+    ids.put(out, level)?;
     append(out, b"]")
 }
 

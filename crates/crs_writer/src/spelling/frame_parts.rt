@@ -41,11 +41,13 @@ fn write_ellipsoid<N: NumberPart, U: UnitPart, I: IdentsPart>(
         (More (number_item e.semi_major_axis) (More (number_item e.inverse_flattening)
         (opt item_unit (Some (norm_length level e.unit)) (each item_ident (set_idents level e.identifiers) End))))) }
 {
-    open_text(out, opening, named.0)?;
-    measures.0.open(out, b",")?;
-    measures.1.open(out, b",")?;
-    write_length(out, measures.2, level)?;
-    named.1.put(out, level)?;
+    let (name, ids) = named;
+    let (semi_major_axis, inverse_flattening, unit) = measures;
+    open_text(out, opening, name)?;
+    semi_major_axis.open(out, b",")?;
+    inverse_flattening.open(out, b",")?;
+    write_length(out, unit, level)?;
+    ids.put(out, level)?;
     append(out, b"]")
 }
 

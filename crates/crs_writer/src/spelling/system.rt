@@ -84,12 +84,15 @@ fn write_axis<'a, M: Part<AxisMeridian<'a>>, N: NumberPart, U: UnitPart, I: Iden
         (opt (number_node (codes "ORDER")) o (opt item_unit (norm_units level k u)
         (each item_ident (set_idents level is) End)))))) }
 {
-    open_text(out, b"AXIS[\"", named.0)?;
-    append_item(out, along.0.word().as_bytes())?;
-    write_optional::<AxisMeridian<'a>, M>(out, along.1, level)?;
-    write_optional_number(out, b",ORDER[", measure.0)?;
-    write_optional_unit(out, measure.1, measure.2, level)?;
-    named.1.put(out, level)?;
+    let (name, ids) = named;
+    let (direction, meridian) = along;
+    let (order, asked, unit) = measure;
+    open_text(out, b"AXIS[\"", name)?;
+    append_item(out, direction.word().as_bytes())?;
+    write_optional::<AxisMeridian<'a>, M>(out, meridian, level)?;
+    write_optional_number(out, b",ORDER[", order)?;
+    write_optional_unit(out, asked, unit, level)?;
+    ids.put(out, level)?;
     append(out, b"]")
 }
 

@@ -1,6 +1,6 @@
 //! Usages and their extents, and the ends of CRSs: usages, identifiers and remark.
 ghost use Rattle.std.specs.Prelude.{◌≡◌, ◌++◌, ◌<◌, ℕ, List, OnOk, Option, Some, codes, length, slice_set, ◌↔◌};
-ghost use Rattle.std.specs.Prelude.{IsFalse, map};
+ghost use Rattle.std.specs.Prelude.{IsFalse};
 ghost use Rattle.std.specs.Option.{option_copied, option_map};
 ghost use Rattle.crs_decimal.specs.Value.{Value};
 ghost use Rattle.crs_text.specs.Items.{End, More, Siblings};
@@ -10,16 +10,15 @@ ghost use Rattle.crs_value.specs.Reading.{ReadsIfAny};
 ghost use Rattle.crs_value.specs.Reads.{ReadsBox, ReadsExtent, ReadsUsage, LacksUsage, ReadsTail, ReadsTextOf};
 ghost use Rattle.crs_value.specs.Values.{BoxParts, ExtentParts, UnitParts, IdentParts, TailParts};
 ghost use Rattle.crs_value.specs.declared.values.level.Level.TheVariants as levels;
-ghost use Rattle.crs_matching.specs.SameParts.{usages_of, with_bare};
+ghost use Rattle.crs_matching.specs.SameParts.{usages_of};
 ghost use Rattle.crs_normal.specs.PartTexts.{box_text, extent_text, usage_text};
 ghost use Rattle.crs_normal.specs.SpelledItems.{node_from, number_item, opt, text_node, each, item_unit, norm_length, item_ident, set_idents};
-ghost use Rattle.crs_normal.specs.SpelledUsages.{item_box, item_extent, norm_extent, item_usage, norm_tail, norm_usage};
+ghost use Rattle.crs_normal.specs.SpelledUsages.{item_box, item_extent, norm_extent, item_usage, norm_tail};
 ghost use Rattle.crs_normal.specs.SpelledUsages.{set_usages, tail_items};
 ghost use Rattle.crs_nodes.specs.Cursor.{item};
 ghost use Rattle.crs_nodes.specs.Found.{SaysIfAny};
 ghost use Rattle.crs_leaves.specs.Direct.{Writes};
 ghost use Rattle.crs_leaves.specs.Openings.{enclosed, numbered_node};
-ghost use Rattle.crs_writer.specs.Members.{set_text};
 
 use crate::members::ReadAs;
 use crate::parts::{Appended, IdentsPart, NumberPart, Part, Spell, UnitPart, write_optional};
@@ -36,10 +35,12 @@ fn write_box<N: NumberPart>(out: &mut Vec<u8>, south_west: (N, N), north_east: (
         N.Says north_east.0 n → N.Says north_east.1 e → out.new.items ≡ out.old.items ++ numbered_node (codes "BBOX[") s
         (More (number_item w) (More (number_item n) (More (number_item e) End)))) }
 {
-    south_west.0.open(out, b"BBOX[")?;
-    south_west.1.open(out, b",")?;
-    north_east.0.open(out, b",")?;
-    north_east.1.open(out, b",")?;
+    let (south, west) = south_west;
+    let (north, east) = north_east;
+    south.open(out, b"BBOX[")?;
+    west.open(out, b",")?;
+    north.open(out, b",")?;
+    east.open(out, b",")?;
     append(out, b"]")
 }
 
@@ -73,8 +74,9 @@ fn write_extent<N: NumberPart, U: UnitPart>(
         SaysIfAny U.Says unit u → out.new.items ≡ out.old.items ++ numbered_node (codes "VERTICALEXTENT[") l
         (More (number_item h) (opt item_unit (Some (norm_length level u)) End))) }
 {
-    limits.0.open(out, b"VERTICALEXTENT[")?;
-    limits.1.open(out, b",")?;
+    let (minimum, maximum) = limits;
+    minimum.open(out, b"VERTICALEXTENT[")?;
+    maximum.open(out, b",")?;
     write_length(out, unit, level)?;
     append(out, b"]")
 }
@@ -195,31 +197,17 @@ fn write_end<I: IdentsPart>(
 
 // ---- of a value
 
-// The bare parts are together one usage more.
-fn write_usage_set<'a>(
-    out: &mut Vec<u8>,
-    bare: Option<&Usage<'a>>,
-    usages: &[Usage<'a>],
-) -> Appended
-    ensures { OnOk result (out.new.items ≡ out.old.items ++ set_text
-        (map (λ u. item_text (item_usage (norm_usage u))) (with_bare (option_copied bare.entry) usages.now))) }
-{
-    match bare {
-        None => write_set::<Usage<'a>, _>(out, &usages, Level::Full),
-        Some(bare) => write_set_with::<Usage<'a>, _, _>(out, &bare, &usages, Level::Full),
-    }
-}
-
+// The usages that the level keeps; the bare parts are together one usage more.
 #[tactic(auto, using(crate::proofs::WrittenLemmas::written_rules))]
-fn write_usages(out: &mut Vec<u8>, tail: &Tail<'_>, level: Level) -> Appended
+fn write_usages<'a>(out: &mut Vec<u8>, tail: &Tail<'a>, level: Level) -> Appended
     ensures { OnOk result (out.new.items
         ≡ out.old.items ++ others_text (each item_usage (set_usages level (usages_of tail.now)) End)) }
 {
-    write_usage_set(
-        out,
-        level.kept_one(tail.bare_parts.as_ref()),
-        level.kept(tail.usages.as_slice()),
-    )
+    let usages = level.kept(tail.usages.as_slice());
+    match level.kept_one(tail.bare_parts.as_ref()) {
+        None => write_set::<Usage<'a>, _>(out, &usages, Level::Full),
+        Some(bare) => write_set_with::<Usage<'a>, _, _>(out, &bare, &usages, Level::Full),
+    }
 }
 
 impl<'b, 'a> TailPart for &'b Tail<'a> {
