@@ -12,7 +12,8 @@ from support import ROOT
 sys.path.insert(0, str(ROOT / "tools"))
 import checks_at_once
 
-ALL = len(os.sched_getaffinity(0))
+# One more than the processors.
+ALL = len(os.sched_getaffinity(0)) + 1
 ROOMY = {"memory.max": "max", "cpu.max": "max 100000"}
 
 
@@ -21,8 +22,8 @@ ROOMY = {"memory.max": "max", "cpu.max": "max 100000"}
     [
         ({}, ALL),
         (ROOMY, ALL),
-        ({**ROOMY, "cpu.max": "100000 100000"}, 1),
-        ({"cpu/cpu.cfs_quota_us": "50000", "cpu/cpu.cfs_period_us": "100000"}, 1),
+        ({**ROOMY, "cpu.max": "100000 100000"}, 2),
+        ({"cpu/cpu.cfs_quota_us": "50000", "cpu/cpu.cfs_period_us": "100000"}, 2),
         ({"cpu/cpu.cfs_quota_us": "-1", "cpu/cpu.cfs_period_us": "100000"}, ALL),
         ({**ROOMY, "memory.max": "7999999999"}, 1),
         ({"memory/memory.limit_in_bytes": "2000000000"}, 1),

@@ -1,6 +1,9 @@
 #!/usr/bin/env python3
-"""Prints how many checks of the prover may run at once on this machine, with one job each: as many as there are processors
-to use, where each check has four gigabytes of free memory, and at least one.
+"""Prints how many checks of the prover may run at once on this machine, with one job each: one more than there are
+processors to use, where each check has four gigabytes of free memory, and at least one.
+
+Before and after each proof rt sums the files of the crate and of all below it, which takes no more than one processor for all
+checks: the one more is for these.
 
 ./test hands the number to rt as RT_JOBS. rt by itself gives a check up to four jobs, which together take 30 % more processor
 time than one, and has a crate as large as crs_value run alone.
@@ -46,7 +49,7 @@ def free_bytes() -> int:
 
 
 def checks_at_once() -> int:
-    return max(min(processors(), free_bytes() // CHECK_BYTES), 1)
+    return max(min(processors() + 1, free_bytes() // CHECK_BYTES), 1)
 
 
 if __name__ == "__main__":

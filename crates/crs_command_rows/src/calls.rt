@@ -2,9 +2,10 @@
 use self::Outcome::{Groups, Status};
 use crs_desk::{
     CanonText, CheckText, ExplainText, Level, Manner as Form, OfLine, PairAnswer, RunFault, Sink,
-    Source, Stream, Summary, Told, run_canon, run_check, run_group, run_lines, run_same, run_text,
+    Source, Stream, Summary, Told, run_canon, run_check, run_lines, run_same, run_text,
     write_answer,
 };
+use crs_group::run_group;
 use crs_suite::{Manner, Page, Pieces, Row, split_line};
 use std::alloc::Global;
 

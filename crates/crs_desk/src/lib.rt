@@ -1,11 +1,11 @@
 //! The program's commands, over any reader and any writer.
 #![tactic(auto)]
 
+pub use crs_catalogue::{Listing, PLAIN, Summary};
 pub use crs_command_line::{
     ExplainOptions, GroupFlags, LineWord, LineWords, Request, RequestFault, Task, request,
 };
 pub use crs_explain::StepWord;
-pub use crs_group::{Listing, PLAIN, Summary, run_group, run_group_listing, run_group_under};
 pub use crs_rules::Rules;
 pub use crs_rules_file::{RulesFault, RulesReader, RulesRefusal};
 pub use crs_runs::{

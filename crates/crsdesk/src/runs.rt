@@ -9,9 +9,9 @@ use crs_desk::{
     CanonText, CheckText, ExplainOptions, ExplainText, ExplainedForms, FileTask, Filling, ForText,
     GroupFlags, Level, LineWord, Listing, Manner, OfLine, PLAIN, PairAnswer, Request, Rules,
     RulesFault, RulesReader, RunFault, SameForms, Sink, Source, Stream, Summary, Task, Told, Under,
-    read_text, run_canon, run_check, run_files, run_group_listing, run_lines, run_same, run_text,
-    write_answer,
+    read_text, run_canon, run_check, run_files, run_lines, run_same, run_text, write_answer,
 };
+use crs_group::run_group_listing;
 use std::path::Path;
 
 // The answer of a run with these words over standard input, taken as one text or line by line, and standard output.
