@@ -6,7 +6,7 @@ ghost use Rattle.std.specs.Option.{option_copied, option_map};
 ghost use Rattle.crs_placed.specs.Catalogue.{canons};
 ghost use Rattle.crs_placed.specs.Putting.{IsJoined, IsNew, group_of};
 
-use crs_canon::Canon;
+use crs_writer::Canon;
 use indexmap::IndexMap;
 use std::alloc::{AllocError, Global};
 use std::marker::Model;

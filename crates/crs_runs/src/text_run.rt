@@ -12,7 +12,7 @@ ghost use Rattle.crs_runs.specs.Pieces.{IsWholeHeld};
 use crate::answer::{Answer, ForText, TextCommand, write_answer};
 use crate::text::{read_pieces, read_text};
 use crate::{Level, RunFault, Sink, Source};
-use crs_canon::canon;
+use crs_answer::canon;
 use crs_streams::append_refusal;
 use crs_text::{Fault, Feeder, Refusal, laws, read_items};
 use crs_value::{Kind, kind_of};
