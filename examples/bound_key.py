@@ -18,6 +18,7 @@ from typing import List, Tuple
 
 import crsdesk
 import pyproj
+from pyproj.exceptions import CRSError
 
 
 def canonical(text: str) -> str:
@@ -56,7 +57,7 @@ def main(names: List[str]) -> int:
         try:
             with open(name, encoding="utf-8") as file:
                 print("\n".join(key(file.read())))
-        except ValueError as error:
+        except (ValueError, OSError, CRSError) as error:
             print(f"{name}: {error}", file=sys.stderr)
             status = 1
     return status

@@ -1,5 +1,5 @@
 #!/usr/bin/env python3
-"""Fills the column definition_12_063 of a GeoPackage with WKT2, by PROJ's program projinfo.
+"""Fills the column definition_12_063 of a GeoPackage with WKT2, in the layout of 2015, by PROJ's program projinfo.
 
     fill_wkt2.py FILE.gpkg
 
@@ -12,9 +12,11 @@ undefined; what PROJ says of one that stays undefined goes to standard error.
 The status is 0 where no entry stays undefined but those that have neither definition nor code, else 1; 2 for a fault,
 with a line on standard error and the file as it was.
 """
+import os
 import sqlite3
 import subprocess
 import sys
+import urllib.parse
 from typing import List, Optional, Tuple
 
 UNDEFINED = "undefined"
@@ -83,12 +85,13 @@ def main(words: List[str]) -> int:
         print(__doc__, file=sys.stderr)
         return 2
     try:
-        file = sqlite3.connect(f"file:{words[0]}?mode=rw", uri=True, isolation_level=None)
+        place = urllib.parse.quote(os.path.abspath(words[0]))
+        file = sqlite3.connect(f"file:{place}?mode=rw", uri=True, isolation_level=None)
         file.execute("BEGIN IMMEDIATE")
         make_column(file)
         is_full = fill(file)
         file.execute("COMMIT")
-    except (sqlite3.Error, OSError) as error:
+    except (sqlite3.Error, OSError, UnicodeError) as error:
         print(f"fill_wkt2.py: {words[0]}: {error}", file=sys.stderr)
         return 2
     return 0 if is_full else 1

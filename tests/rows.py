@@ -23,7 +23,7 @@ a line '# REASON' or more, and then, each in its own line and as far as needed:
     output-full      standard output is a device on which a write fails
     output-closed    standard output is a pipe that nobody reads
     status N         the exit status
-    error TEXT       a line of standard error, with its LF; none: standard error isn't compared
+    error TEXT       a line of standard error, with its LF; none: with status 2 it isn't compared, else nothing is written
     error-none       nothing is written on standard error
 
 In place of words and a status a case may have one call of the library, for a program that makes it (test_growths.py):

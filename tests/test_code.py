@@ -4,6 +4,7 @@ from __future__ import annotations
 import ast
 import os
 import pathlib
+import re
 from typing import Iterator, List
 
 import pytest
@@ -73,10 +74,11 @@ def test_modes() -> None:
 
 
 def public_names() -> Iterator[str]:
-    exported = (SOURCES / "__init__.py").read_text(encoding="utf-8")
-    for file in ("_crs.py", "_difference.py", "_refused.py"):
+    (exported,) = re.findall(r"__all__ = (\[.*?\])", (SOURCES / "__init__.py").read_text(encoding="utf-8"), re.S)
+    names = ast.literal_eval(exported)
+    for file in ("_crs.py", "_difference.py", "_refused.py", "_rules.py"):
         for node in ast.parse((SOURCES / file).read_text(encoding="utf-8")).body:
-            if isinstance(node, (ast.ClassDef, ast.FunctionDef)) and node.name in exported:
+            if isinstance(node, (ast.ClassDef, ast.FunctionDef)) and node.name in names:
                 yield f"{file}:{node.name}"
 
 

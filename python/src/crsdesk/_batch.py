@@ -7,7 +7,7 @@ from typing import Any, Iterable, Iterator, List, Sequence, Union
 
 import numpy
 
-from ._library import LOADED, NO_ROOM, OK, out_of_memory, refusal_name
+from ._library import LOADED, NO_ROOM, OK, refusal_name, unanswered
 from ._refused import Refused
 
 # struct crsdesk_entry.
@@ -65,7 +65,7 @@ def spellings_of(texts: Sequence[bytes], level: int) -> List[Union[bytes, Refuse
         given = whole, _size(len(whole)), ctypes.c_void_p(left.ctypes.data), _size(len(left)), ctypes.c_uint32(level)
         code = _canon_each(*given, out, _size(room), ctypes.byref(done))
         if code not in (OK, NO_ROOM):
-            raise out_of_memory()
+            raise unanswered(code)
         if not done.value:
             room *= 2
         found += answers_of(left[: done.value], out)

@@ -145,10 +145,10 @@ def form_of(text: Text, level: Level, rules: Rules) -> str:
     asked = rules_of(rules, text)
     assert asked is not None
     if not isinstance(text, Crs):
-        return asked.form(bytes_of(text), number_of(level))
+        return asked._form(bytes_of(text), number_of(level))
     if text.rules is not None:
         return text.canonical(level)
-    return text._with_bound(asked.form(text.text, number_of(level)))
+    return text._with_bound(asked._form(text.text, number_of(level)))
 
 
 def rules_of(rules: Optional[Rules], *texts: Text) -> Optional[Rules]:
@@ -220,7 +220,7 @@ def compared(first: Text, second: Text, level: int, rules: Optional[Rules]) -> T
     if asked is None:
         return bytes_of(first), bytes_of(second)
     under = asked
-    one, other = each_of(lambda text: under.form(bytes_of(text), level), first, second)
+    one, other = each_of(lambda text: under._form(bytes_of(text), level), first, second)
     return one.encode(), other.encode()
 
 
@@ -337,7 +337,7 @@ class Crs:
     def _form_at(self, level: int) -> str:
         """Its form without rules, or under them, without transformations."""
         if self._rules is not None:
-            return self._rules.form(self._text, level)
+            return self._rules._form(self._text, level)
         return canon_bytes(self._text, level).decode()
 
     @property

@@ -176,15 +176,18 @@ def fault(code: int, found: Places, first: bytes, second: Optional[bytes] = None
     number, place = found.refusal.number, found.refusal.place
     _kept.append(found)
     if code not in (REFUSED, SECOND_REFUSED):
-        return out_of_memory()
+        return unanswered(code)
     if second is None:
         return Refused(first, number, refusal_name(number), place)
     which, text = ("first", first) if code == REFUSED else ("second", second)
     return Refused(text, number, refusal_name(number), place, which)
 
 
-def out_of_memory() -> MemoryError:
-    return MemoryError("crsdesk: memory was refused; the same call may be made again")
+def unanswered(code: int) -> Exception:
+    """What to raise for a code that is neither OK nor a refusal."""
+    if code == NO_MEMORY:
+        return MemoryError("crsdesk: memory was refused; the same call may be made again")
+    return RuntimeError(f"crsdesk: the library answered with the unknown code {code}")
 
 
 class HeldRules:
@@ -204,7 +207,7 @@ class HeldRules:
         in the line; then the rules are as before."""
         told = LOADED.crsdesk_rules_add(self._room, file, len(file))
         if told.code not in (OK, REFUSED):
-            raise out_of_memory()
+            raise unanswered(told.code)
         return (told.line, told.number, told.place) if told.code else None
 
     def form(self, text: bytes, level: int) -> bytes:
@@ -214,7 +217,7 @@ class HeldRules:
             number, place = told.refusal.number, told.refusal.place
             raise Refused(text, number, refusal_name(number), place)
         if told.code:
-            raise out_of_memory()
+            raise unanswered(told.code)
         pieces: List[bytes] = []
         start = 0
         while start < told.length:
@@ -336,7 +339,7 @@ def explained(text: bytes, number: int, place: int) -> Optional[Told]:
     code, pieces = pieces_from(found, lambda *rooms: _refusal_pieces(text, len(text), *rooms, ctypes.byref(where)))
     _kept.append(found)
     if code not in (OK, REFUSED):
-        raise out_of_memory()
+        raise unanswered(code)
     if code == OK or (where.refusal.number, where.refusal.place) != (number, place):
         return None
     piece, line, _, at_place, *sentences = pieces[:7]

@@ -96,15 +96,16 @@ class Rules:
                 raise RulesRefused(line, number, place, piece, paths[index] if paths else None)
         return held
 
-    def form(self, text: bytes, level: int) -> str:
+    def _form(self, text: bytes, level: int) -> str:
         """The form of a text, at the level of this number of the library's."""
         try:
             held = self._held.pop()
         except IndexError:
             held = self._read()
-        answer = held.form(text, level).decode()
-        self._held.append(held)
-        return answer
+        try:
+            return held.form(text, level).decode()
+        finally:
+            self._held.append(held)
 
     def __eq__(self, other: object) -> bool:
         if not isinstance(other, Rules):
