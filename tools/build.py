@@ -18,9 +18,9 @@ The program is crates/crsdesk/out/crsdesk. FOLDER, which is out/prefix where non
 
 Both libraries show the calls of the header, and no other name, and the shared object each with the version that it came
 with (crates/crs_c/symbols.map). Before they are made, a C program compares the sizes and the fields of the header's
-structs with the library's own (crates/crs_c/layout.c). It takes a C compiler, cc, and ld, objcopy, nm and strip. With
---over-gate the crates below are taken as rt ci has proved them and left them, so the gate proves them once, and the
-library's own check has one job, as each of the gate.
+structs with the library's own (crates/crs_c/layout.c). It takes a C compiler, cc, and ar, ld, objcopy, nm and strip.
+With --over-gate the crates below are taken as rt ci has proved them and left them, so the gate proves them once, and
+the library's own check has one job, as each of the gate.
 
 The status is 0 where what was asked for is there, of the sources as they are; else 2, with a line on standard error.
 """
