@@ -29,3 +29,9 @@ direction_within d = tag_below (rowss the_type.parts) (the_type.to d)
 pub keyword-spells : AreSpelled → (k keyword : Keyword) → keyword ≡ k → (word : List ℕ) → keyword_of word ≡ Some keyword → SpellsWord word (spelling_of k)
 keyword-spells law k keyword is word e =
     sym ((bytes_eq-Decides (str_to_ascii_lowercase (spelling_of k)) (str_to_ascii_lowercase word)).0 ((law k word).1 (e ∙ ap Some is)))
+
+-- a word that is one keyword spells no other
+pub keyword-alone : AreSpelled → (k keyword : Keyword) → ¬ (keyword ≡ k) → (word : List ℕ) → keyword_of word ≡ Some keyword → ¬ (SpellsWord word (spelling_of k))
+keyword-alone law k keyword other word e spells =
+    let is : Some keyword ≡ Some k = sym e ∙ (law k word).0 ((bytes_eq-Decides (str_to_ascii_lowercase (spelling_of k)) (str_to_ascii_lowercase word)).1 (sym spells)) in
+    other (cc)

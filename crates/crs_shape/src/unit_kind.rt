@@ -1,5 +1,5 @@
 //! The kinds of unit.
-ghost use Rattle.std.specs.Prelude.{◌≡◌, ℕ, IfSome, List, Some};
+ghost use Rattle.std.specs.Prelude.{◌≡◌, ℕ, List, Some};
 ghost use Rattle.crs_text.specs.Keywords.{keyword_of};
 ghost use Rattle.crs_shape.specs.Choice.{IsReading};
 ghost use Rattle.crs_shape.specs.UnitKinds.{kind_as};
@@ -64,7 +64,7 @@ impl UnitKind {
     /// The kind that a keyword says; None where it is none of units. It needs no look at the keyword's bytes, as `read`
     /// does. ISO 19162:2019, "Units".
     pub fn of(keyword: Keyword) -> Option<UnitKind>
-        ensures { IfSome result (λ kind. (word : List ℕ) → keyword_of word ≡ Some keyword → SpellsWord word (unit_word kind)) }
+        ensures { (word : List ℕ) → keyword_of word ≡ Some keyword → IsReading (λ kind. SpellsWord word (unit_word kind)) result }
     {
         laws::keywords_are_spelled();
         match keyword {

@@ -1,5 +1,6 @@
 use Rattle.crs_text.specs.declared.keyword.Keyword.TheVariants as keyword
-use Rattle.crs_shape.proofs.WordLemmas.{keyword-spells}
+use Rattle.crs_shape.specs.declared.unit_kind.UnitKind.TheVariants as kinds
+use Rattle.crs_shape.proofs.WordLemmas.{keyword-alone, keyword-spells}
 use Rattle.crs_shape.proofs.unit_kind.UnitKind.of.Goals as goal
 
 pub returns-in-LengthUnit : goal.returns-in-LengthUnit
@@ -13,3 +14,9 @@ returns-in-ScaleUnit c = keyword-spells c.keywords_are_spelled.ensures keyword.S
 
 pub returns-in-PlainUnit : goal.returns-in-PlainUnit
 returns-in-PlainUnit c = keyword-spells c.keywords_are_spelled.ensures keyword.PlainUnit c.args.keyword c.in-PlainUnit.is
+
+pub returns-in_default : goal.returns-in_default
+returns-in_default c word e kinds.Length = keyword-alone c.keywords_are_spelled.ensures keyword.LengthUnit c.args.keyword c.in_default.not-LengthUnit word e
+returns-in_default c word e kinds.Angle = keyword-alone c.keywords_are_spelled.ensures keyword.AngleUnit c.args.keyword c.in_default.not-AngleUnit word e
+returns-in_default c word e kinds.Scale = keyword-alone c.keywords_are_spelled.ensures keyword.ScaleUnit c.args.keyword c.in_default.not-ScaleUnit word e
+returns-in_default c word e kinds.Plain = keyword-alone c.keywords_are_spelled.ensures keyword.PlainUnit c.args.keyword c.in_default.not-PlainUnit word e
