@@ -26,5 +26,5 @@ pub use near::nearest;
 pub use seeking::{Sought, stands_as};
 pub use slot::Slot;
 pub use system_type::SystemType;
-pub use table::{class_of, keyword_names, slots};
+pub use table::{class_of, slots};
 pub use unit_kind::UnitKind;

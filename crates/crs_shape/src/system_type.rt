@@ -106,7 +106,8 @@ impl SystemType {
         }
     }
 
-    /// The same of a dimension as it is read, which may not be whole.
+    /// Whether a CRS of this class may have a coordinate system of this type and dimension, the dimension given as a
+    /// decimal; one that isn't whole is never allowed. ISO 19162:2019, "Coordinate system".
     pub fn is_allowed(self, class: Class, dimension: &Decimal) -> bool
         ensures { IsTrue result ↔ IsOneOf dimension.now (dimensions_of class self) }
     {

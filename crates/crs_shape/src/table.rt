@@ -7,7 +7,7 @@ ghost use Rattle.crs_shape.specs.Slots.{shown, slots_of, class_named, is_class};
 
 use crate::bit_set::{BitSet, set};
 use crate::class::Class;
-use crate::keyword::{classes_by, has_keyword, rivals_of};
+use crate::keyword::{classes_by, rivals_of};
 use crate::rows::{every_class, row, rows};
 use crate::slot::Slot;
 use crs_text::{Keyword, laws};
@@ -87,16 +87,6 @@ pub(crate) fn is_clear(parent: Class, class: Class) -> bool
     ensures { IsTrue result → IsClear parent class }
 {
     is_part(parent, class) && first_part(parent, rivals_of(class)).is_none()
-}
-
-/// Whether this keyword names that class in a parent of this class; a cheaper test than `class_of` where the
-/// keyword is none of that class. Profile.
-pub fn keyword_names(parent: Class, keyword: &[u8], class: Class) -> bool
-    ensures { result ≡ is_class class (class_named parent keyword.now) }
-{
-    laws::keywords_are_spelled();
-    let keyword = Keyword::of(keyword);
-    has_keyword(class, keyword) && is_class(class_by(parent, keyword), class)
 }
 
 pub(crate) fn is_class(named: Option<Class>, class: Class) -> bool
