@@ -134,7 +134,7 @@ impl<'a> Items<'a> {
         }
     }
 
-    /// The number of items in it, itself included.
+    /// The number of items in an item, itself included.
     pub fn size(&self, id: ItemId) -> usize
         requires { HasId self.now id }
         ensures { result ≡ size_of (first_of (here self.now id)) }
@@ -171,7 +171,8 @@ impl<'a> Items<'a> {
     }
 
     /// The bytes of a node, from its keyword to its closing delimiter, if they are its written form: it and all nodes in
-    /// it have square delimiters, and there is no white space but in quoted texts. `None` for other items. Profile.
+    /// it have square delimiters, and there is no white space but in quoted texts. `None` for other items; it may be
+    /// answered for a written form too. Profile.
     pub fn written(&self, id: ItemId) -> Option<&'a [u8]>
         requires { HasId self.now id }
         ensures { IfSome result (λ bytes. bytes.now ≡ item_text (first_of (here self.now id))) }

@@ -124,7 +124,8 @@ pub enum Keyword {
 const SMALL: u8 = 0x20;
 
 // The keywords with their bytes, in capitals, by how many these are; within a length the frequent ones go first.
-// The bytes are here alone: a macro makes each table from these rows.
+// A macro makes each table from these rows. Those of `suspects` have the bytes again, which the prover holds against the
+// same spellings (`AreSuspects`).
 macro_rules! keywords {
     ($table:ident, $asked:expr) => {
         $table! {
