@@ -8,7 +8,7 @@ use Rattle.crs_text.specs.Keywords.{keyword_of}
 use Rattle.crs_text.specs.State.{Frame, State, wants, worded, after, start, run}
 use Rattle.crs_text.specs.Table.{Flat, item_kind, leaf_row}
 use Rattle.crs_text.specs.declared.items.ItemKind.TheVariants.{Word, Node}
-use Rattle.crs_text.specs.declared.table.Position.TheVariants.{BeforeItem, AfterWord, AfterItem}
+use Rattle.crs_text.specs.declared.table.Progress.TheVariants.{BeforeItem, AfterWord, AfterItem}
 use Rattle.crs_text.specs.declared.table.Row.{Row}
 use Rattle.crs_text.specs.declared.table.Open.{Open}
 
@@ -77,24 +77,24 @@ opens_of (f ∷ fs) = open_of f fs (suc (length f.before)) ∷ opens_of fs
 
 -- the table of a state
 abbrev pub flat : State → Flat
-flat (wants []) = record { rows = []; opens = []; position = BeforeItem }
+flat (wants []) = record { rows = []; opens = []; progress = BeforeItem }
 flat (wants (f ∷ fs)) =
     record {
       rows = rows_of_frames (f ∷ fs);
       opens = open_of f fs (length f.before) ∷ opens_of fs;
-      position = BeforeItem;
+      progress = BeforeItem;
     }
 flat (worded place raw fs) =
     record {
       rows = rows_of_frames fs ++ leaf_row Word place raw (length fs) ∷ [];
       opens = opens_of fs;
-      position = AfterWord;
+      progress = AfterWord;
     }
 flat (after item fs) =
     record {
       rows = rows_of_frames fs ++ rows (length fs) item;
       opens = opens_of fs;
-      position = AfterItem;
+      progress = AfterItem;
     }
 
 -- these tokens are viable, and this is their table

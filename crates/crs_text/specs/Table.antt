@@ -8,8 +8,8 @@ use Rattle.crs_text.specs.Items.{keyword_at}
 use Rattle.crs_text.specs.State.{same_square}
 use Rattle.crs_text.specs.declared.items.ItemKind.{ItemKind}
 use Rattle.crs_text.specs.declared.items.ItemKind.TheVariants.{Number, Text, Word, Node}
-use Rattle.crs_text.specs.declared.table.Position.{Position}
-use Rattle.crs_text.specs.declared.table.Position.TheVariants.{BeforeItem, AfterWord, AfterItem}
+use Rattle.crs_text.specs.declared.table.Progress.{Progress}
+use Rattle.crs_text.specs.declared.table.Progress.TheVariants.{BeforeItem, AfterWord, AfterItem}
 use Rattle.crs_text.specs.declared.table.Opened.{Opened}
 use Rattle.crs_text.specs.declared.table.Opened.TheVariants.{Taken, TooDeep, Refused}
 use Rattle.crs_text.specs.declared.table.Row.{Row}
@@ -19,7 +19,7 @@ use Rattle.crs_text.specs.declared.table.Open.{Open}
 pub record Flat : Type 0 where
   pub rows : List Row
   pub opens : List Open
-  pub position : Position
+  pub progress : Progress
 
 -- an open node, in place of one that isn't there
 abbrev pub no_open : Open
@@ -76,18 +76,18 @@ is_word Word = true
 is_word Node = false
 
 -- an item may begin; at the start a word alone
-abbrev pub may_begin : Position → List Open → ItemKind → Bool
+abbrev pub may_begin : Progress → List Open → ItemKind → Bool
 may_begin BeforeItem [] kind = is_word kind
 may_begin BeforeItem (o ∷ os) kind = true
 may_begin AfterWord os kind = false
 may_begin AfterItem os kind = false
 
 -- where an item of this kind leads: a word may begin a node yet, the others are complete
-abbrev pub position_after : ItemKind → Position
-position_after Number = AfterItem
-position_after Text = AfterItem
-position_after Word = AfterWord
-position_after Node = AfterItem
+abbrev pub progress_after : ItemKind → Progress
+progress_after Number = AfterItem
+progress_after Text = AfterItem
+progress_after Word = AfterWord
+progress_after Node = AfterItem
 
 -- one argument more in the last opened node
 abbrev pub counted : List Open → List Open
@@ -99,7 +99,7 @@ abbrev pub with_first : Flat → ItemKind → Bool → ℕ → List ℕ → Flat
 with_first f kind square place raw = record {
   rows = f.rows ++ first_row kind square place raw (length f.opens) ∷ [];
   opens = counted f.opens;
-  position = position_after kind;
+  progress = progress_after kind;
 }
 
 -- the table with a row for a single item
@@ -109,10 +109,10 @@ with_leaf f kind place raw = with_first f kind false place raw
 -- the table after a number, a text or a word; none where it isn't allowed
 abbrev pub flat_single : Flat → ItemKind → ℕ → List ℕ → Option Flat
 flat_single f kind place raw =
-    if may_begin f.position f.opens kind then Some (with_leaf f kind place raw) else None
+    if may_begin f.progress f.opens kind then Some (with_leaf f kind place raw) else None
 
 -- an item has come within an open node
-abbrev pub may_go_on : Position → List Open → Bool
+abbrev pub may_go_on : Progress → List Open → Bool
 may_go_on BeforeItem os = false
 may_go_on AfterWord [] = false
 may_go_on AfterWord (o ∷ os) = true
@@ -122,12 +122,12 @@ may_go_on AfterItem (o ∷ os) = true
 -- the table after a comma; none where it isn't allowed
 abbrev pub flat_comma : Flat → Option Flat
 flat_comma f =
-    if may_go_on f.position f.opens
-    then Some (record { rows = f.rows; opens = f.opens; position = BeforeItem })
+    if may_go_on f.progress f.opens
+    then Some (record { rows = f.rows; opens = f.opens; progress = BeforeItem })
     else None
 
 -- whether a word has come, which may begin a node
-abbrev pub is_after_word : Position → Bool
+abbrev pub is_after_word : Progress → Bool
 is_after_word BeforeItem = false
 is_after_word AfterWord = true
 is_after_word AfterItem = false
@@ -137,7 +137,7 @@ abbrev pub with_opened : Flat → ℕ → Bool → Flat
 with_opened f row square = record {
   rows = f.rows;
   opens = record { row = row; square = square; count = 0 } ∷ f.opens;
-  position = BeforeItem;
+  progress = BeforeItem;
 }
 
 -- the last word becomes a node
@@ -157,7 +157,7 @@ with_open f square =
 -- the table after an opening delimiter; none where it isn't allowed, or is one too many
 abbrev pub flat_open : Flat → Bool → Option Flat
 flat_open f square =
-    if is_after_word f.position && nat_lt (length f.opens) 12 then Some (with_open f square)
+    if is_after_word f.progress && nat_lt (length f.opens) 12 then Some (with_open f square)
     else None
 
 -- whether the last opened delimiter is of this kind
@@ -180,13 +180,13 @@ with_close f place = closed f.opens
             size = length f.rows - o.row;
           });
       opens = os;
-      position = AfterItem;
+      progress = AfterItem;
     }
 
 -- the table after a closing delimiter; none where it isn't allowed
 abbrev pub flat_close : Flat → ℕ → Bool → Option Flat
 flat_close f place square =
-    if may_go_on f.position f.opens && has_square f.opens square then Some (with_close f place)
+    if may_go_on f.progress f.opens && has_square f.opens square then Some (with_close f place)
     else None
 
 -- the table after one token more; none where it isn't allowed
@@ -205,20 +205,20 @@ IsStep (Some next) taken before behind = (taken ≡ true) × (behind ≡ next)
 abbrev pub IsOpened : Flat → Bool → Opened → Flat → Type 0
 IsOpened before square Taken behind = flat_open before square ≡ Some behind
 IsOpened before square TooDeep behind =
-    (before.position ≡ AfterWord) × (length before.opens ≡ 12) × (behind ≡ before)
-IsOpened before square Refused behind = (before.position ≡ AfterWord → ⊥) × (behind ≡ before)
+    (before.progress ≡ AfterWord) × (length before.opens ≡ 12) × (behind ≡ before)
+IsOpened before square Refused behind = (before.progress ≡ AfterWord → ⊥) × (behind ≡ before)
 
 -- the table takes a word and then a square delimiter
 abbrev pub IsNodeBegun : Flat → ℕ → List ℕ → Flat → Type 0
 IsNodeBegun before place raw behind =
-    (before.position ≡ BeforeItem) × (length before.opens < 12)
+    (before.progress ≡ BeforeItem) × (length before.opens < 12)
     × (behind ≡ with_opened (with_first before Node true place raw) (length before.rows) true)
 
 -- the tokens are those of one whole node
 abbrev pub is_whole : Flat → Bool
-is_whole f = whole f.position f.opens
+is_whole f = whole f.progress f.opens
   where
-    whole : Position → List Open → Bool
+    whole : Progress → List Open → Bool
     whole BeforeItem os = false
     whole AfterWord os = false
     whole AfterItem [] = true
@@ -233,4 +233,4 @@ AreRoomy n (o ∷ os) = (o.row + o.count < n) × AreRoomy n os
 -- row
 pub record IsRoomy (f : Flat) : Type 0 where
   pub opens : AreRoomy (length f.rows) f.opens
-  pub word : f.position ≡ AfterWord → 0 < length f.rows
+  pub word : f.progress ≡ AfterWord → 0 < length f.rows

@@ -18,7 +18,7 @@ const LIMIT: usize = 12;
 
 /// Where the tokens so far have led.
 #[derive(Clone, Copy)]
-pub(crate) enum Position {
+pub(crate) enum Progress {
     /// At the start, after an opening delimiter or a comma.
     BeforeItem,
     /// After a word, which may begin a node.
@@ -67,7 +67,7 @@ pub(crate) struct Table {
     rows: Vec<Row>,
     opens: [Open; 12],
     depth: usize,
-    position: Position,
+    progress: Progress,
 }
 
 impl Model for Table {
@@ -76,7 +76,7 @@ impl Model for Table {
 
     ghost Value = { Flat };
 
-    ghost view = { λ t. record { rows = t.rows.items; opens = held t.depth t.opens; position = t.position } };
+    ghost view = { λ t. record { rows = t.rows.items; opens = held t.depth t.opens; progress = t.progress } };
 
     ghost invariant = { λ t. (t.depth ≤ 12)
         × IsRoomy (view t) };
@@ -96,14 +96,14 @@ impl Table {
                 count: 0,
             }; 12],
             depth: 0,
-            position: Position::BeforeItem,
+            progress: Progress::BeforeItem,
         }
     }
 
     fn may_begin(&self, kind: ItemKind) -> bool
-        ensures { result ≡ may_begin self.now.position self.now.opens kind }
+        ensures { result ≡ may_begin self.now.progress self.now.opens kind }
     {
-        self.position == Position::BeforeItem && (self.depth > 0 || kind == ItemKind::Word)
+        self.progress == Progress::BeforeItem && (self.depth > 0 || kind == ItemKind::Word)
     }
 
     // A number, a text, a word, or a node by its word and its delimiter.
@@ -136,9 +136,9 @@ impl Table {
         if depth > 0 {
             self.opens[depth - 1].count += 1;
         }
-        self.position = match kind {
-            ItemKind::Word => Position::AfterWord,
-            ItemKind::Number | ItemKind::Text | ItemKind::Node => Position::AfterItem,
+        self.progress = match kind {
+            ItemKind::Word => Progress::AfterWord,
+            ItemKind::Number | ItemKind::Text | ItemKind::Node => Progress::AfterItem,
         };
         Ok(())
     }
@@ -164,9 +164,9 @@ impl Table {
     }
 
     fn may_go_on(&self) -> bool
-        ensures { result ≡ may_go_on self.now.position self.now.opens }
+        ensures { result ≡ may_go_on self.now.progress self.now.opens }
     {
-        self.position != Position::BeforeItem && self.depth > 0
+        self.progress != Progress::BeforeItem && self.depth > 0
     }
 
     /// A comma: whether it is allowed.
@@ -177,7 +177,7 @@ impl Table {
         if !self.may_go_on() {
             return false;
         }
-        self.position = Position::BeforeItem;
+        self.progress = Progress::BeforeItem;
         true
     }
 
@@ -194,7 +194,7 @@ impl Table {
         open.count = 0;
         open.square = square;
         self.depth += 1;
-        self.position = Position::BeforeItem;
+        self.progress = Progress::BeforeItem;
     }
 
     /// An opening delimiter: the last word becomes a node.
@@ -203,7 +203,7 @@ impl Table {
     pub(crate) fn open(&mut self, square: bool) -> Opened
         ensures { IsOpened self.old square result self.new }
     {
-        if self.position != Position::AfterWord {
+        if self.progress != Progress::AfterWord {
             return Opened::Refused;
         }
         if self.depth == LIMIT {
@@ -234,7 +234,7 @@ impl Table {
         ensures { IfOk result (λ taken. MatchBool taken (IsNodeBegun self.old place raw.now self.new)
             (self.new ≡ self.old)) }
     {
-        if self.position != Position::BeforeItem || self.depth == LIMIT {
+        if self.progress != Progress::BeforeItem || self.depth == LIMIT {
             return Ok(false);
         }
         let row = self.rows.len();
@@ -244,7 +244,7 @@ impl Table {
     }
 
     fn may_close(&self, square: bool) -> bool
-        ensures { result ≡ (may_go_on self.now.position self.now.opens && has_square self.now.opens square) }
+        ensures { result ≡ (may_go_on self.now.progress self.now.opens && has_square self.now.opens square) }
     {
         self.may_go_on() && self.opens[self.depth - 1].square == square
     }
@@ -264,7 +264,7 @@ impl Table {
         row.count = top.count;
         row.size = size;
         self.depth -= 1;
-        self.position = Position::AfterItem;
+        self.progress = Progress::AfterItem;
         true
     }
 
@@ -272,7 +272,7 @@ impl Table {
     pub(crate) fn is_whole(&self) -> bool
         ensures { result ≡ is_whole self.now }
     {
-        matches!(self.position, Position::AfterItem) && self.depth == 0
+        matches!(self.progress, Progress::AfterItem) && self.depth == 0
     }
 
     /// A table equal to this one.

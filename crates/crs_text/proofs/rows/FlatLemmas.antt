@@ -13,8 +13,8 @@ use Rattle.crs_text.specs.Rows.{node_rows, rows, rows_of_items, rows_before, ope
 use Rattle.crs_text.specs.declared.items.ItemKind.TheVariants.{Word, Node}
 use Rattle.crs_text.specs.declared.table.Row.{Row}
 use Rattle.crs_text.specs.declared.table.Open.{Open}
-use Rattle.crs_text.specs.declared.table.Position.{Position}
-use Rattle.crs_text.specs.declared.table.Position.TheVariants.{BeforeItem, AfterWord, AfterItem}
+use Rattle.crs_text.specs.declared.table.Progress.{Progress}
+use Rattle.crs_text.specs.declared.table.Progress.TheVariants.{BeforeItem, AfterWord, AfterItem}
 use Rattle.crs_text.proofs.rows.TableLemmas.{length-counted}
 
 pub length-opens_of : (fs : List Frame) → length (opens_of fs) ≡ length fs
@@ -57,34 +57,34 @@ leaf-rows number place raw f fs = rw (add-one, length-opens_of)
 leaf-rows kind place raw f fs = rw (add-one, length-opens_of)
 
 -- the table of a state after a complete item, which may be a word alone
-abbrev flat_behind : Item → List Frame → Position → Flat
-flat_behind item fs position = record { rows = rows_of_frames fs ++ rows (length fs) item; opens = opens_of fs; position = position }
+abbrev flat_behind : Item → List Frame → Progress → Flat
+flat_behind item fs progress = record { rows = rows_of_frames fs ++ rows (length fs) item; opens = opens_of fs; progress = progress }
 
-flat-comma : (item : Item) (fs : List Frame) (position : Position) → position ≢ BeforeItem → flat_comma (flat_behind item fs position) ≡ option_map flat (behind_item item fs comma)
+flat-comma : (item : Item) (fs : List Frame) (progress : Progress) → progress ≢ BeforeItem → flat_comma (flat_behind item fs progress) ≡ option_map flat (behind_item item fs comma)
 flat-comma item fs BeforeItem h = absurd (h refl)
 flat-comma item (f ∷ fs) AfterWord h = rw (comma-rows f fs item) refl
 flat-comma item (f ∷ fs) AfterItem h = rw (comma-rows f fs item) refl
-flat-comma item [] position h = refl
+flat-comma item [] progress h = refl
 
-close-flat : (f : Frame) (fs : List Frame) (item : Item) (place : ℕ) (square : Bool) (position : Position) →
+close-flat : (f : Frame) (fs : List Frame) (item : Item) (place : ℕ) (square : Bool) (progress : Progress) →
     (b : Bool) → same_square square f.square ≡ b →
-    (if b then Some (with_close (flat_behind item (f ∷ fs) position) place) else None) ≡
+    (if b then Some (with_close (flat_behind item (f ∷ fs) progress) place) else None) ≡
     option_map flat (only_if b (after (gather f.place f.keyword f.square f.before item End place) fs))
-close-flat f fs item place square position false e = refl
-close-flat f fs item place square position true e = ap (λ rs. Some (record { rows = rs; opens = opens_of fs; position = AfterItem })) (close-rows f fs item place)
+close-flat f fs item place square progress false e = refl
+close-flat f fs item place square progress true e = ap (λ rs. Some (record { rows = rs; opens = opens_of fs; progress = AfterItem })) (close-rows f fs item place)
 
-flat-close : (item : Item) (fs : List Frame) (position : Position) (place : ℕ) (square : Bool) → position ≢ BeforeItem →
-    flat_close (flat_behind item fs position) place square ≡ option_map flat (behind_item item fs (closing place square))
+flat-close : (item : Item) (fs : List Frame) (progress : Progress) (place : ℕ) (square : Bool) → progress ≢ BeforeItem →
+    flat_close (flat_behind item fs progress) place square ≡ option_map flat (behind_item item fs (closing place square))
 flat-close item fs BeforeItem place square h = absurd (h refl)
 flat-close item (f ∷ fs) AfterWord place square h = close-flat f fs item place square AfterWord (same_square square f.square) refl
 flat-close item (f ∷ fs) AfterItem place square h = close-flat f fs item place square AfterItem (same_square square f.square) refl
-flat-close item [] position place square h = refl
+flat-close item [] progress place square h = refl
 
 -- the last row, of a word, becomes that of a node
-last_opened : (A : List Row) (r : Row) (os : List Open) (position : Position) (square : Bool) →
-    with_open (record { rows = A ++ r ∷ []; opens = os; position = position }) square ≡
-    record { rows = A ++ record r { kind = Node; square = square } ∷ []; opens = record { row = length A; square = square; count = 0 } ∷ os; position = BeforeItem }
-last_opened A r os position square =
+last_opened : (A : List Row) (r : Row) (os : List Open) (progress : Progress) (square : Bool) →
+    with_open (record { rows = A ++ r ∷ []; opens = os; progress = progress }) square ≡
+    record { rows = A ++ record r { kind = Node; square = square } ∷ []; opens = record { row = length A; square = square; count = 0 } ∷ os; progress = BeforeItem }
+last_opened A r os progress square =
     let len : length (A ++ r ∷ []) - 1 ≡ length A = omega (arith, length-append A (r ∷ [])) in
     rw (len, get_or-append_seam A r [] no_row, set-append_seam A r [])
 

@@ -8,8 +8,8 @@ use Rattle.crs_text.specs.State.{State, wants, worded, after, start, step, run}
 use Rattle.crs_text.specs.Table.{Flat, flat_step, IsOpened, is_whole}
 use Rattle.crs_text.specs.Rows.{flat, Shows}
 use Rattle.crs_text.specs.declared.table.Opened.TheVariants.{TooDeep, Refused}
-use Rattle.crs_text.specs.declared.table.Position.{Position}
-use Rattle.crs_text.specs.declared.table.Position.TheVariants.{BeforeItem, AfterWord, AfterItem}
+use Rattle.crs_text.specs.declared.table.Progress.{Progress}
+use Rattle.crs_text.specs.declared.table.Progress.TheVariants.{BeforeItem, AfterWord, AfterItem}
 use Rattle.crs_text.proofs.tokens.ViableLemmas.{viable_from_run, whole_from_run, run_from_whole}
 use Rattle.crs_text.proofs.tokens.AllowedLemmas.{deep_from_word, worded_from_deep, not_viable_from_none}
 use Rattle.crs_text.proofs.rows.FlatLemmas.{flat-step}
@@ -44,10 +44,10 @@ pub not_viable_from_shows : (ts : List Token) (f : Flat) (t : Token) → Shows t
 not_viable_from_shows ts f t h e = not_viable_from_none ts h.0 t h.1 (mapped-none (step 12 h.0 t) (sym (step-flat ts f t h) ∙ e))
 
 -- an opening delimiter after a word is allowed, but for the depth
-pub deep_from_shows : (ts : List Token) (f : Flat) (square : Bool) → Shows ts f → f.position ≡ AfterWord → IsViableAtAnyDepth (ts ++ opening square ∷ [])
-deep_from_shows ts f square h is_word = go h.0 h.1 (sym (ap (λ f. f.position) h.2) ∙ is_word)
+pub deep_from_shows : (ts : List Token) (f : Flat) (square : Bool) → Shows ts f → f.progress ≡ AfterWord → IsViableAtAnyDepth (ts ++ opening square ∷ [])
+deep_from_shows ts f square h is_word = go h.0 h.1 (sym (ap (λ f. f.progress) h.2) ∙ is_word)
   where
-    go : (s : State) → run 12 start ts ≡ Some s → (flat s).position ≡ AfterWord → IsViableAtAnyDepth (ts ++ opening square ∷ [])
+    go : (s : State) → run 12 start ts ≡ Some s → (flat s).progress ≡ AfterWord → IsViableAtAnyDepth (ts ++ opening square ∷ [])
     go (worded place raw fs) r e = deep_from_word ts place raw fs square r
     go (wants []) r e = cc
     go s r e = cc
@@ -56,15 +56,15 @@ pub none_from_deep : (f g : Flat) (square : Bool) → IsOpened f square TooDeep 
 none_from_deep f g square o = rw (o.0, o.1) refl
 
 -- an opening delimiter that isn't allowed there at all
-pub refused_from_shows : (ts : List Token) (f : Flat) (square : Bool) → Shows ts f → f.position ≢ AfterWord → ¬ (IsViableAtAnyDepth (ts ++ opening square ∷ []))
+pub refused_from_shows : (ts : List Token) (f : Flat) (square : Bool) → Shows ts f → f.progress ≢ AfterWord → ¬ (IsViableAtAnyDepth (ts ++ opening square ∷ []))
 refused_from_shows ts f square h other v =
     let w = worded_from_deep ts h.0 square h.1 v in
-    other (ap (λ f. f.position) h.2 ∙ ap (λ s. (flat s).position) w.3)
+    other (ap (λ f. f.progress) h.2 ∙ ap (λ s. (flat s).progress) w.3)
 
 pub none_from_refused : (f g : Flat) (square : Bool) → IsOpened f square Refused g → flat_step f (opening square) ≡ None
-none_from_refused f g square o = go f.position refl
+none_from_refused f g square o = go f.progress refl
   where
-    go : (p : Position) → f.position ≡ p → flat_step f (opening square) ≡ None
+    go : (p : Progress) → f.progress ≡ p → flat_step f (opening square) ≡ None
     go BeforeItem e = rw e refl
     go AfterWord e = absurd (o.0 e)
     go AfterItem e = rw e refl

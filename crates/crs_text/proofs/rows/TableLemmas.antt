@@ -3,8 +3,8 @@ use Rattle.std.proofs.Common.{◌≡◌, ℕ, zero, suc, ◌+◌, ◌-◌, ◌�
 use Rattle.std.proofs.Math.ListN.{set, length-set}
 use Rattle.crs_text.specs.declared.table.Open.{Open}
 use Rattle.crs_text.specs.declared.table.Row.{Row}
-use Rattle.crs_text.specs.declared.table.Position.{Position}
-use Rattle.crs_text.specs.declared.table.Position.TheVariants.{BeforeItem, AfterWord}
+use Rattle.crs_text.specs.declared.table.Progress.{Progress}
+use Rattle.crs_text.specs.declared.table.Progress.TheVariants.{BeforeItem, AfterWord}
 use Rattle.crs_text.specs.Table.{IsRoomy, AreRoomy, counted, held, no_open}
 
 pub held-top : (depth : ℕ) (os : List Open) → 0 < depth → held depth os ≡ get_or os (depth - 1) no_open ∷ held (depth - 1) os
@@ -54,16 +54,16 @@ length-counted (o ∷ os) = refl
 pub ruleset begun_rules = (length-counted, length-held, length-append)
 
 -- the table still fits once its last row is that of an open node
-pub begun_keeps : (rows : List Row) (os : List Open) (depth row : ℕ) (square : Bool) (position : Position) → IsRoomy (record { rows = rows; opens = held depth os; position = position }) →
+pub begun_keeps : (rows : List Row) (os : List Open) (depth row : ℕ) (square : Bool) (progress : Progress) → IsRoomy (record { rows = rows; opens = held depth os; progress = progress }) →
     row + 1 ≡ length rows → depth < 12 → length os ≡ 12 →
-    (depth + 1 ≤ 12) × IsRoomy (record { rows = rows; opens = held (depth + 1) (set os depth (record { row = row; square = square; count = 0 })); position = BeforeItem })
-begun_keeps rows os depth row square position h last lt twelve =
+    (depth + 1 ≤ 12) × IsRoomy (record { rows = rows; opens = held (depth + 1) (set os depth (record { row = row; square = square; count = 0 })); progress = BeforeItem })
+begun_keeps rows os depth row square progress h last lt twelve =
     let fits : depth < length os = omega arith in
     (omega arith, record { opens = rw held-push (omega arith, h.opens); word = λ no. cc })
 
 -- the table still fits once a row is another
-pub row_keeps : (rows : List Row) (os : List Open) (depth at : ℕ) (row : Row) (position : Position) → IsRoomy (record { rows = rows; opens = held depth os; position = position }) →
-    IsRoomy (record { rows = set rows at row; opens = held depth os; position = position })
-row_keeps rows os depth at row position h =
+pub row_keeps : (rows : List Row) (os : List Open) (depth at : ℕ) (row : Row) (progress : Progress) → IsRoomy (record { rows = rows; opens = held depth os; progress = progress }) →
+    IsRoomy (record { rows = set rows at row; opens = held depth os; progress = progress })
+row_keeps rows os depth at row progress h =
     let same : length (set rows at row) ≡ length rows = length-set rows at row in
     record { opens = rw same h.opens; word = λ w. rw same (h.word w) }

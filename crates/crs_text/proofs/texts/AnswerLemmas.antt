@@ -10,8 +10,8 @@ use Rattle.crs_text.specs.Table.{Flat, flat_step, is_whole}
 use Rattle.crs_text.specs.Rows.{Shows, flat}
 use Rattle.crs_text.specs.declared.refusal.Reason.{Reason}
 use Rattle.crs_text.specs.declared.refusal.Reason.TheVariants.{Unexpected, UnexpectedEnd, TooDeep}
-use Rattle.crs_text.specs.declared.table.Position.{Position}
-use Rattle.crs_text.specs.declared.table.Position.TheVariants.{AfterWord}
+use Rattle.crs_text.specs.declared.table.Progress.{Progress}
+use Rattle.crs_text.specs.declared.table.Progress.TheVariants.{AfterWord}
 use Rattle.crs_text.specs.TextFault.{SpellsNode, reason_number, IsFlaw, IsStop, RefusesText}
 use Rattle.crs_text.proofs.tokens.FrontsLemmas.{fronts_more, forms_shorter}
 use Rattle.crs_text.proofs.rows.ShowsLemmas.{shows_start, viable_from_shows, shows_more, not_viable_from_shows, refused_from_shows, deep_from_shows, whole_from_shows, not_whole_from_shows}
@@ -28,14 +28,14 @@ abbrev pub IsMisplaced : ℕ → List Token → List ℕ → Type 0
 IsMisplaced total ts left = (r : Reason) × IsStop r total ts left 0
 
 misplaced : (total : ℕ) (ts : List Token) (left rest : List ℕ) (table : Flat) (t : Token) → Shows ts table → Forms total t left rest → flat_step table t ≡ None → IsMisplaced total ts left
-misplaced total ts left rest table (opening square) shows f none = by table.position refl
+misplaced total ts left rest table (opening square) shows f none = by table.progress refl
   where
     not : ¬ (IsViable (ts ++ opening square ∷ []))
     not = not_viable_from_shows ts table (opening square) shows none
 
-    by : (position : Position) → table.position ≡ position → IsMisplaced total ts left
+    by : (progress : Progress) → table.progress ≡ progress → IsMisplaced total ts left
     by AfterWord e = (TooDeep, (opening square, rest, f, (deep_from_shows ts table square shows e, not), refl))
-    by position e = (Unexpected, (opening square, rest, f, not, λ deep. refused_from_shows ts table square shows (λ is_word. let h = sym is_word ∙ e in cc) deep.0, refl))
+    by progress e = (Unexpected, (opening square, rest, f, not, λ deep. refused_from_shows ts table square shows (λ is_word. let h = sym is_word ∙ e in cc) deep.0, refl))
 misplaced total ts left rest table t shows f none = (Unexpected, (t, rest, f, not_viable_from_shows ts table t shows none, λ h. h, refl))
 
 -- ---- token by token
