@@ -5,13 +5,16 @@ ghost use Rattle.crs_text.specs.Position.{feeds, characters, BeginsLine, EndsLin
 use crate::lexing::{front_of, rest_of};
 use bstr::ByteSlice;
 
-/// Where a place of a text is: its line, counted from 1, and its column, which counts the line's characters from 1;
-/// and where the line's bytes begin and end, without the line feed, so that `&text[begin..end]` is the line. Profile.
+/// Where a place of a text is, and its line, `&text[begin..end]`. Profile.
 #[derive(Clone, Copy, Debug, PartialEq, Eq)]
 pub struct Position {
+    /// The line, counted from 1.
     pub line: usize,
+    /// The column, which counts the line's characters from 1.
     pub column: usize,
+    /// Where the line's bytes begin.
     pub begin: usize,
+    /// Where they end, without the line feed.
     pub end: usize,
 }
 
