@@ -1,6 +1,6 @@
 -- A bridge: items that lie in a source, and how many bytes their written form has, as their rows tell.
 use Rattle.std.specs.Prelude.{◌≡◌, ℕ, ◌+◌, Bool, true, List, [], ◌∷◌, ◌++◌, length}
-use Rattle.crs_text.specs.Tokens.{Token, spelling, Fronts}
+use Rattle.crs_text.specs.Tokens.{Token, Fronts}
 use Rattle.crs_text.specs.declared.items.ItemKind.{ItemKind}
 use Rattle.crs_text.specs.declared.items.ItemKind.TheVariants.{Number, Text, Word, Node}
 use Rattle.crs_text.specs.declared.table.Row.{Row}
@@ -15,11 +15,6 @@ pub record AreLaid (source : List ℕ) (ts : List Token) : Type 0 where
   pub left : List ℕ
   pub ends : EndsIn source bytes
   pub fronts : Fronts (length source) bytes ts left
-
--- the bytes of the tokens with nothing between them
-abbrev pub bytes_of : List Token → List ℕ
-bytes_of [] = []
-bytes_of (t ∷ ts) = spelling t ++ bytes_of ts
 
 -- how many bytes a written item has beside its raw ones and those of its arguments: two quotes, or two delimiters and
 -- a comma between each two of so many arguments

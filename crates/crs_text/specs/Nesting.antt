@@ -1,6 +1,6 @@
 -- A bridge: the places of the delimiters that are open, the last opened first.
-use Rattle.std.specs.Prelude.{◌≡◌, ℕ, ◌+◌, ◌≤◌, ◌⊎◌, Bool, Option, Some, None, List, []}
-use Rattle.std.specs.Prelude.{◌∷◌, ◌++◌, length, drop, MatchOption}
+use Rattle.std.specs.Prelude.{◌≡◌, ℕ, ◌+◌, ◌≤◌, ◌⊎◌, Bool, Option, List, []}
+use Rattle.std.specs.Prelude.{◌∷◌, length, drop, MatchOption}
 use Rattle.crs_text.specs.Tokens.{Token, single, comma, opening, closing, Forms, Fronts}
 use Rattle.crs_text.specs.Viable.{IsViable, opens}
 use Rattle.crs_text.specs.TextFault.{IsFlaw}
@@ -15,11 +15,6 @@ places_after at places comma = places
 places_after at places (opening square) = at ∷ places
 places_after at [] (closing place square) = []
 places_after at (last ∷ places) (closing place square) = places
-
--- the place of the innermost, if any is open
-abbrev pub innermost_of : List ℕ → Option ℕ
-innermost_of [] = None
-innermost_of (last ∷ places) = Some last
 
 -- a token of n bytes is at this place, and is counted
 pub record IsPassed (text : List ℕ) (at : ℕ) (before behind : List ℕ) (n : ℕ) : Type 0 where
@@ -36,11 +31,6 @@ IsHalted text at before behind =
     ⊎ ((square : Bool) × (rest : List ℕ) × Forms (length text) (opening square) (drop at text) rest
     × (length before ≡ 12)))
 
--- these are the places of the delimiters that are open after these first tokens of the text
-abbrev pub AreOpen : List ℕ → List ℕ → List Token → Type 0
-AreOpen text [] ts = opens ts ≡ []
-AreOpen text (place ∷ places) ts = (i : IsInnermost text ts place) × AreOpen text places i.outer
-
 -- after these viable tokens what is left begins at the place, or with a text whose UTF-8 is
 -- ill-formed there
 pub record LeadsTo (text : List ℕ) (place : ℕ) (before : List Token) (left : List ℕ) : Type 0 where
@@ -49,22 +39,6 @@ pub record LeadsTo (text : List ℕ) (place : ℕ) (before : List Token) (left :
   pub skip : ℕ
   pub is_place : place + length left ≡ length text + skip
   pub flaw : (skip ≡ 0) ⊎ IsFlaw NotUtf8 left skip
-
--- some of the tokens that lead to the place are passed, and more of them may come from here
-pub record IsAhead (text : List ℕ) (at : ℕ) (ts before : List Token) (left : List ℕ) : Type 0 where
-  pub more : List Token
-  pub parts : before ≡ ts ++ more
-  pub fronts : Fronts (length text) (drop at text) more left
-
--- these places are those of the delimiters that are open here,
--- no further on than the tokens that lead to the place
-pub record IsNested (text : List ℕ) (place at : ℕ) (places : List ℕ) : Type 0 where
-  pub tokens : List Token
-  pub fronts : Fronts (length text) text tokens (drop at text)
-  pub within : at ≤ length text
-  pub open_places : AreOpen text places tokens
-  pub ahead : (before : List Token) (left : List ℕ) → LeadsTo text place before left →
-      IsAhead text at tokens before left
 
 -- the answer for all tokens that lead to the place
 abbrev pub IsAnswered : List ℕ → ℕ → Option ℕ → Type 0

@@ -4,7 +4,7 @@ use Rattle.std.specs.Prelude.{Option, [], IsTrue}
 use Rattle.std.specs.Int.{w64, trailing_zeros}
 use Rattle.std.specs.Char.{is_ascii}
 use Rattle.crs_decimal.specs.Spelling.{Sign, sign_text, fraction_text, fraction_digits, AreDigits, is_digit, is_run_byte}
-use Rattle.crs_text.specs.Quoted.{StopsAt, is_plain, is_quote}
+use Rattle.crs_text.specs.Quoted.{StopsAt, is_plain}
 
 -- an ASCII byte that isn't a quote
 abbrev pub is_plain_ascii : ℕ → Bool
@@ -13,10 +13,6 @@ is_plain_ascii b = is_plain b && is_ascii b
 -- how many of sixteen lanes come before the first that is set
 abbrev pub first_set : ℕ → ℕ
 first_set lanes = if lanes == 0 then 16 else trailing_zeros w64 lanes
-
--- a quote comes first, and no other after it
-abbrev pub IsClosing : List ℕ → Type 0
-IsClosing bytes = (bytes ≡ 34 ∷ drop 1 bytes) × StopsAt is_quote (drop 1 bytes)
 
 -- a digit comes first, and then no byte of a number
 abbrev pub IsOneDigit : List ℕ → Type 0

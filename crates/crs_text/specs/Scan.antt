@@ -1,15 +1,14 @@
 -- A bridge: how far the scan has come.
 use Rattle.std.specs.Prelude.{◌≡◌, ℕ, ◌+◌, ◌<◌, ◌≤◌, List, [], length, drop, Some}
 use Rattle.std.specs.List.{prefix_len}
-use Rattle.crs_text.specs.Tokens.{Kind, Token, single, Forms, Fronts, is_white}
+use Rattle.crs_text.specs.Tokens.{Token, Forms, Fronts, is_white}
 use Rattle.crs_text.specs.TextFault.{reason_number, IsStop, SpellsNode}
-use Rattle.crs_text.specs.Table.{Flat, flat_step, item_kind}
+use Rattle.crs_text.specs.Table.{Flat, flat_step}
 use Rattle.crs_text.specs.Rows.{Shows, flat}
 use Rattle.crs_text.specs.State.{after}
 use Rattle.crs_text.specs.Items.{Item}
 use Rattle.crs_text.specs.Refusal.{RefusedAt}
 use Rattle.crs_text.specs.declared.refusal.Reason.{Reason}
-use Rattle.crs_text.specs.declared.items.ItemKind.{ItemKind}
 use Rattle.crs_text.specs.declared.fault.Fault.{Fault}
 use Rattle.crs_text.specs.declared.fault.Fault.TheVariants as faults
 
@@ -48,14 +47,6 @@ pub record IsStopped (text : List ℕ) (at : ℕ) (table : Flat) (refusal : Refu
 abbrev pub IsStoppedBy : List ℕ → ℕ → Flat → Fault → Type 0
 IsStoppedBy text at table (faults.Refused refusal) = IsStopped text at table refusal
 IsStoppedBy text at table (faults.Memory e) = Unit {0}
-
--- a single token of this kind is here, with these raw bytes and as many bytes in all as `size` says
-pub record IsSingleAt (text : List ℕ) (at : ℕ) (kind : ItemKind) (raw : List ℕ)
-    (size : ℕ) : Type 0 where
-  pub of_kind : Kind
-  pub is_kind : kind ≡ item_kind of_kind
-  pub forms : Forms (length text) (single of_kind at raw) (drop at text) (drop (at + size) text)
-  pub within : at + size ≤ length text
 
 -- the whole text is a node, and these are its rows
 abbrev pub IsScanned : List ℕ → Flat → Type 0

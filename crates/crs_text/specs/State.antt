@@ -1,6 +1,6 @@
 -- A bridge: how far a list of tokens has come towards a node:
 -- the nodes that are open, each with what came before in it.
-use Rattle.std.specs.Prelude.{ℕ, nat_lt, Bool, true, false, Option, Some, None, List, [], ◌∷◌, ◌++◌}
+use Rattle.std.specs.Prelude.{ℕ, nat_lt, Bool, true, false, Option, Some, None, List, [], ◌∷◌}
 use Rattle.std.specs.Prelude.{length}
 use Rattle.std.specs.Option.{option_and_then}
 use Rattle.std.specs.List.{fold}
@@ -84,20 +84,3 @@ move limit s t = option_and_then (λ n. step limit n t) s
 -- the state after these tokens, if each of them was allowed
 abbrev pub run : ℕ → State → List Token → Option State
 run limit s ts = fold (move limit) (Some s) ts
-
--- the tokens of complete arguments, the last first, each with a comma after it
-abbrev pub before_tokens : List Item → List Token
-before_tokens [] = []
-before_tokens (item ∷ before) = before_tokens before ++ (tokens item ++ comma ∷ [])
-
--- the tokens that lead into the open nodes
-abbrev pub frames_tokens : List Frame → List Token
-frames_tokens [] = []
-frames_tokens (f ∷ fs) =
-    frames_tokens fs ++ (single word f.place f.keyword ∷ opening f.square ∷ before_tokens f.before)
-
--- the tokens that lead to a state
-abbrev pub unread : State → List Token
-unread (wants fs) = frames_tokens fs
-unread (worded place raw fs) = frames_tokens fs ++ (single word place raw ∷ [])
-unread (after item fs) = frames_tokens fs ++ tokens item

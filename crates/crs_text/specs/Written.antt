@@ -1,5 +1,5 @@
 -- Written items: the text of an item without white space, and in square delimiters.
-use Rattle.std.specs.Prelude.{◌≡◌, ℕ, ◌+◌, ◌≤◌, true, List, [], ◌∷◌, ◌++◌, length}
+use Rattle.std.specs.Prelude.{ℕ, ◌+◌, ◌≤◌, true, List, [], ◌∷◌, ◌++◌, length}
 use Rattle.crs_text.specs.Tokens.{IsWord, IsSingle, single_spelling}
 use Rattle.crs_text.specs.Items.{Item, leaf, node, Siblings, End, More, depth, IsNode}
 use Rattle.crs_text.specs.TextFault.{SpellsNode}
@@ -27,26 +27,6 @@ abbrev mutual
   pub AreAllFormed : Siblings → Type 0
   AreAllFormed End = Unit {0}
   AreAllFormed (More item items) = AreFormed item × AreAllFormed items
-
-abbrev mutual
-  -- the items are equal but for places and the kind of delimiters
-  pub SameItem : Item → Item → Type 0
-  SameItem (leaf kind place raw) (leaf other_kind other_place other_raw) =
-      (kind ≡ other_kind) × (raw ≡ other_raw)
-  SameItem (leaf kind place raw)
-      (node other_place other_keyword other_square other_first rest other_close) = ⊥
-  SameItem (node place keyword square first others close) (leaf other_kind other_place other_raw) =
-      ⊥
-  SameItem (node place keyword square first others close)
-      (node other_place other_keyword other_square other_first rest other_close) =
-      (keyword ≡ other_keyword) × SameItem first other_first × SameItems others rest
-
-  -- the items are equal one by one, but for places and the kind of delimiters
-  pub SameItems : Siblings → Siblings → Type 0
-  SameItems End End = Unit {0}
-  SameItems End (More other rest) = ⊥
-  SameItems (More item items) End = ⊥
-  SameItems (More item items) (More other rest) = SameItem item other × SameItems items rest
 
 abbrev mutual
   -- the item as its written text has it from this place on, all delimiters square

@@ -14,15 +14,40 @@ use Rattle.crs_text.specs.TextFault.{IsFlaw, IsStop, RefusesText, SpellsNode}
 use Rattle.crs_text.specs.declared.refusal.Reason.{Reason}
 use Rattle.crs_text.specs.declared.refusal.Reason.TheVariants.{NotUtf8}
 use Rattle.crs_text.specs.declared.items.ItemKind.{ItemKind}
-use Rattle.crs_text.specs.Scan.{IsSingleAt}
 use Rattle.crs_text.specs.Innermost.{IsClosed, IsInnermost}
-use Rattle.crs_text.specs.Nesting.{places_after, innermost_of, IsPassed, IsHalted, AreOpen, LeadsTo, IsAhead, IsNested, IsAnswered}
+use Rattle.crs_text.specs.Nesting.{places_after, IsPassed, IsHalted, LeadsTo, IsAnswered}
 use Rattle.crs_text.proofs.tokens.TokenLemmas.{Forms-one}
 use Rattle.crs_text.proofs.tokens.FlawLemmas.{flaw_no_token}
 use Rattle.crs_text.proofs.tokens.FrontsLemmas.{fronts_dark, skip_white, front_token, front_none, fronts_more, forms_shorter}
 use Rattle.crs_text.proofs.tokens.AllowedLemmas.{allows_from_viable, opens-item}
 use Rattle.crs_text.proofs.tokens.ViableLemmas.{viable_front}
-use Rattle.crs_text.proofs.tokens.ScanLemmas.{after_white, fronts_short}
+use Rattle.crs_text.proofs.tokens.ScanLemmas.{after_white, fronts_short, IsSingleAt}
+
+-- the place of the innermost, if any is open
+abbrev pub innermost_of : List ℕ → Option ℕ
+innermost_of [] = None
+innermost_of (last ∷ places) = Some last
+
+-- these are the places of the delimiters that are open after these first tokens of the text
+abbrev pub AreOpen : List ℕ → List ℕ → List Token → Type 0
+AreOpen text [] ts = opens ts ≡ []
+AreOpen text (place ∷ places) ts = (i : IsInnermost text ts place) × AreOpen text places i.outer
+
+-- some of the tokens that lead to the place are passed, and more of them may come from here
+pub record IsAhead (text : List ℕ) (at : ℕ) (ts before : List Token) (left : List ℕ) : Type 0 where
+  pub more : List Token
+  pub parts : before ≡ ts ++ more
+  pub fronts : Fronts (length text) (drop at text) more left
+
+-- these places are those of the delimiters that are open here,
+-- no further on than the tokens that lead to the place
+pub record IsNested (text : List ℕ) (place at : ℕ) (places : List ℕ) : Type 0 where
+  pub tokens : List Token
+  pub fronts : Fronts (length text) text tokens (drop at text)
+  pub within : at ≤ length text
+  pub open_places : AreOpen text places tokens
+  pub ahead : (before : List Token) (left : List ℕ) → LeadsTo text place before left →
+      IsAhead text at tokens before left
 
 -- ---- the places, the last opened first
 

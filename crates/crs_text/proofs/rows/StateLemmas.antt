@@ -5,7 +5,24 @@ use Rattle.std.proofs.lemmas.List.{append-nil}
 use Rattle.std.proofs.lemmas.List.Sums.{fold-append}
 use Rattle.crs_text.specs.Tokens.{Kind, word, Token, single, comma, opening, closing}
 use Rattle.crs_text.specs.Items.{Item, leaf, Siblings, More, tokens, others_tokens}
-use Rattle.crs_text.specs.State.{Frame, State, wants, worded, after, start, gather, only_if, same_square, behind_leaf, behind_item, step, move, run, before_tokens, frames_tokens, unread}
+use Rattle.crs_text.specs.State.{Frame, State, wants, worded, after, start, gather, only_if, same_square, behind_leaf, behind_item, step, move, run}
+
+-- the tokens of complete arguments, the last first, each with a comma after it
+abbrev pub before_tokens : List Item → List Token
+before_tokens [] = []
+before_tokens (item ∷ before) = before_tokens before ++ (tokens item ++ comma ∷ [])
+
+-- the tokens that lead into the open nodes
+abbrev pub frames_tokens : List Frame → List Token
+frames_tokens [] = []
+frames_tokens (f ∷ fs) =
+    frames_tokens fs ++ (single word f.place f.keyword ∷ opening f.square ∷ before_tokens f.before)
+
+-- the tokens that lead to a state
+abbrev pub unread : State → List Token
+unread (wants fs) = frames_tokens fs
+unread (worded place raw fs) = frames_tokens fs ++ (single word place raw ∷ [])
+unread (after item fs) = frames_tokens fs ++ tokens item
 
 pub only_if-some : (b : Bool) (s n : State) → only_if b s ≡ Some n → (b ≡ true) × (s ≡ n)
 only_if-some true s n e = (refl, cc)

@@ -23,7 +23,7 @@ use Rattle.crs_text.specs.State.{start}
 use Rattle.crs_text.specs.Table.{Flat}
 use Rattle.crs_text.specs.Refusal.{RefusedAt}
 use Rattle.crs_text.specs.Lexing.{IsLexed}
-use Rattle.crs_text.specs.Scan.{IsReached, IsSingleAt, IsTaken, IsStoppedBy}
+use Rattle.crs_text.specs.Scan.{IsReached, IsTaken, IsStoppedBy}
 use Rattle.crs_text.specs.declared.fault.Fault.{Fault}
 use Rattle.crs_text.specs.declared.fault.Fault.TheVariants as faults
 use Rattle.crs_text.specs.declared.refusal.Reason.{Reason}
@@ -37,7 +37,7 @@ use Rattle.crs_text.proofs.tokens.Utf8Lemmas.{IsUtf8Front-shorter}
 use Rattle.crs_text.proofs.tokens.FlawLemmas.{shape_for, flaw_shape, flaw_no_token, flaw_one}
 use Rattle.crs_text.proofs.tokens.FrontsLemmas.{forms_some, at_once, dark_start, dark_word}
 use Rattle.crs_text.proofs.rows.ShowsLemmas.{shows_start, viable_from_shows, shows_more}
-use Rattle.crs_text.proofs.tokens.ScanLemmas.{reached_first, number_at, word_at, text_at, comma_at, opening_at, closing_at, after_white}
+use Rattle.crs_text.proofs.tokens.ScanLemmas.{reached_first, number_at, word_at, text_at, comma_at, opening_at, closing_at, after_white, IsSingleAt}
 use Rattle.crs_text.proofs.settled.StayLemmas.{refuses_from_settled, fronts_from_settled, stop_some, through_front, all_append, fronts_longer, taken_so_far}
 use Rattle.crs_text.proofs.tokens.LexedLemmas.{prefix_taken, quote_behind}
 

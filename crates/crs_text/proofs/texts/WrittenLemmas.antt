@@ -6,9 +6,29 @@ use Rattle.crs_text.specs.Tokens.{Kind, number, text, word, Token, single, comma
 use Rattle.crs_text.specs.Items.{Item, leaf, node, Siblings, End, More, tokens, others_tokens, depth, depths, IsNode}
 use Rattle.crs_text.specs.TextFault.{SpellsNode}
 use Rattle.crs_text.specs.Tree.{EachToken}
-use Rattle.crs_text.specs.Written.{item_text, others_text, AreFormed, AreAllFormed, SameItem, SameItems, at_place, at_places, WrittenSpells}
+use Rattle.crs_text.specs.Written.{item_text, others_text, AreFormed, AreAllFormed, at_place, at_places, WrittenSpells}
 use Rattle.crs_text.proofs.tokens.FrontsLemmas.{dark_start, dark_word, at_once}
 use Rattle.crs_text.proofs.tokens.ViableLemmas.{node_tokens}
+
+abbrev mutual
+  -- the items are equal but for places and the kind of delimiters
+  pub SameItem : Item → Item → Type 0
+  SameItem (leaf kind place raw) (leaf other_kind other_place other_raw) =
+      (kind ≡ other_kind) × (raw ≡ other_raw)
+  SameItem (leaf kind place raw)
+      (node other_place other_keyword other_square other_first rest other_close) = ⊥
+  SameItem (node place keyword square first others close) (leaf other_kind other_place other_raw) =
+      ⊥
+  SameItem (node place keyword square first others close)
+      (node other_place other_keyword other_square other_first rest other_close) =
+      (keyword ≡ other_keyword) × SameItem first other_first × SameItems others rest
+
+  -- the items are equal one by one, but for places and the kind of delimiters
+  pub SameItems : Siblings → Siblings → Type 0
+  SameItems End End = Unit {0}
+  SameItems End (More other rest) = ⊥
+  SameItems (More item items) End = ⊥
+  SameItems (More item items) (More other rest) = SameItem item other × SameItems items rest
 
 -- no token goes on into these bytes
 abbrev IsApart : List ℕ → Type 0

@@ -5,7 +5,7 @@ use Rattle.std.proofs.lemmas.List.{append-nil, length-append, nil_from_length}
 use Rattle.std.proofs.Math.Seq.{drop-cons}
 use Rattle.crs_text.specs.Tokens.{number, text, word, Token, single, opening, closing, spelling, IsAfterWhite, Forms, Fronts}
 use Rattle.crs_text.specs.Items.{Item, leaf, node, Siblings, End, More, tokens, others_tokens, count, first_of, here, HasId}
-use Rattle.crs_text.specs.Laid.{AreLaid, AreSquare, EndsIn, bytes_beside, bytes_of, bytes_of_rows}
+use Rattle.crs_text.specs.Laid.{AreLaid, AreSquare, EndsIn, bytes_beside, bytes_of_rows}
 use Rattle.crs_text.specs.Rows.{rows, rows_of_items, row_of}
 use Rattle.crs_text.specs.Tree.{StandsAt}
 use Rattle.crs_text.specs.Written.{item_text, others_text}
@@ -15,6 +15,11 @@ use Rattle.crs_text.proofs.tokens.FrontsLemmas.{at_once}
 use Rattle.crs_text.proofs.rows.IdLemmas.{lt_from_has, rows_here}
 use Rattle.crs_text.proofs.rows.StandLemmas.{cut_front, stands_at}
 use Rattle.crs_text.proofs.rows.TreeLemmas.{item_of}
+
+-- the bytes of the tokens with nothing between them
+abbrev pub bytes_of : List Token → List ℕ
+bytes_of [] = []
+bytes_of (t ∷ ts) = spelling t ++ bytes_of ts
 
 -- ---- some tokens of those that are laid
 

@@ -12,7 +12,7 @@ use Rattle.crs_text.specs.Rows.{Shows, flat}
 use Rattle.crs_text.specs.State.{start, after}
 use Rattle.crs_text.specs.Lexing.{IsLexed, StandsBefore}
 use Rattle.crs_text.specs.Refusal.{RefusedAt}
-use Rattle.crs_text.specs.Scan.{IsReached, IsPassed, IsTaken, IsStopped, IsStoppedBy, IsSingleAt}
+use Rattle.crs_text.specs.Scan.{IsReached, IsPassed, IsTaken, IsStopped, IsStoppedBy}
 use Rattle.crs_text.specs.declared.fault.Fault.{Fault}
 use Rattle.crs_text.specs.declared.fault.Fault.TheVariants as faults
 use Rattle.crs_text.specs.declared.refusal.Reason.{Reason}
@@ -25,6 +25,14 @@ use Rattle.crs_text.proofs.tokens.LexedLemmas.{prefix_taken, prefix_ends}
 use Rattle.crs_text.proofs.rows.FlatLemmas.{word_begun, delimiter_begun}
 use Rattle.crs_text.proofs.tokens.FrontsLemmas.{fronts_more, forms_shorter}
 use Rattle.crs_text.proofs.rows.ShowsLemmas.{shows_start, viable_from_shows, shows_more, not_viable_from_shows, deep_from_shows, none_from_deep, whole_from_shows, not_whole_from_shows}
+
+-- a single token of this kind is here, with these raw bytes and as many bytes in all as `size` says
+pub record IsSingleAt (text : List ℕ) (at : ℕ) (kind : ItemKind) (raw : List ℕ)
+    (size : ℕ) : Type 0 where
+  pub of_kind : Kind
+  pub is_kind : kind ≡ item_kind of_kind
+  pub forms : Forms (length text) (single of_kind at raw) (drop at text) (drop (at + size) text)
+  pub within : at + size ≤ length text
 
 -- ---- why nothing goes on
 

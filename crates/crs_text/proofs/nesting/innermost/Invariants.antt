@@ -1,6 +1,6 @@
 use Rattle.std.proofs.Common.{◌-◌, reverse}
-use Rattle.crs_text.specs.Nesting.{IsNested}
 use Rattle.crs_text.proofs.nesting.innermost.Given as goal
+use Rattle.crs_text.proofs.rows.NestingLemmas.{IsNested}
 
 abbrev pub invariant-loop-at : goal.invariant-loop-at
 invariant-loop-at l = IsNested l.text l.place l.at (reverse l.nest.items)

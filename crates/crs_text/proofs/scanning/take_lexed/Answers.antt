@@ -1,8 +1,7 @@
 use Rattle.std.proofs.Common.{◌≡◌, ℕ, Bool, true, false, Ok, take, drop, ◌+◌, sym, ap, ◌∙◌, arith, rules}
 use Rattle.crs_text.specs.Tokens.{comma, opening, closing}
-use Rattle.crs_text.specs.Scan.{IsSingleAt}
 use Rattle.crs_text.specs.declared.items.ItemKind.TheVariants as kinds
-use Rattle.crs_text.proofs.tokens.ScanLemmas.{number_at, text_at, word_at, comma_at, opening_at, closing_at, stop_flaw, stopped_token, stopped_too_deep, taken_by, stopped_by, single_taken, single_stopped}
+use Rattle.crs_text.proofs.tokens.ScanLemmas.{number_at, text_at, word_at, comma_at, opening_at, closing_at, stop_flaw, stopped_token, stopped_too_deep, taken_by, stopped_by, single_taken, single_stopped, IsSingleAt}
 use Rattle.crs_text.proofs.rows.ShowsLemmas.{refused_from_shows, none_from_refused}
 use Rattle.crs_text.proofs.scanning.take_lexed.Goals as goal
 use Rattle.crs_text.proofs.scanning.take_lexed.Goals.{in-Number+in_ok-map_err-in-Number, in-Text+in_ok-map_err-in-Text, in-Word+in_ok-map_err-in-Word, in-Comma, in-Closing, in-Opening+in-Taken, in-Opening+in-Refused}
