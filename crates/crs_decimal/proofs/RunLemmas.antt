@@ -2,7 +2,6 @@
 use Rattle.std.proofs.Common.{◌≡◌, ℕ, ◌<◌, ◌==◌, ◌||◌, inl, inr, Bool, true, List, [], ◌∷◌, ◌++◌, length, Option, Some, None, refl, arith}
 use Rattle.std.specs.List.{list_all}
 use Rattle.std.proofs.lemmas.Bool.{and_parts, and_from, or_cases, eqb-true}
-use Rattle.crs_decimal.specs.Plain.{IsSignNeeded, IsPlain, is_plain_byte}
 use Rattle.crs_decimal.specs.Spelling.{Sign, unsigned, plus, minus, sign_text, Exponent, Parts, fraction_text, exponent_text, parts_text, is_digit, AreDigits, fraction_digits, IsExponent, IsForm, HasForm, is_run_byte, IsRun}
 use Rattle.crs_decimal.proofs.SplitLemmas.{all_append, digits_parts}
 
@@ -53,16 +52,3 @@ form_is_run bs (p, h) =
     let d = digits_parts p.whole (fraction_digits p.fraction) h.1.digits in
     rw h.0 (text_run p.sign p.whole p.fraction (exponent_text p.exponent) d.0 h.1.some
     (parts_pass is_run_byte digit_is_run_byte refl p h.1 (sign_run p.sign) (exponent_run p.exponent h.1.exponent)))
-
--- ---- plain spellings
-
-digit_is_plain_byte : (d : ℕ) → is_digit d ≡ true → is_plain_byte d ≡ true
-digit_is_plain_byte d h = rw h refl
-
-sign_is_plain : (p : Parts) → IsSignNeeded p → list_all is_plain_byte (sign_text p.sign) ≡ true
-sign_is_plain p (inl e) = rw e refl
-sign_is_plain p (inr e) = rw e.0 refl
-
-pub plain_bytes_pass : (bs : List ℕ) → IsPlain bs → list_all is_plain_byte bs ≡ true
-plain_bytes_pass bs h =
-    rw h.spells.0 (parts_pass is_plain_byte digit_is_plain_byte refl h.parts h.spells.1 (sign_is_plain h.parts h.sign) (rw h.exponent))

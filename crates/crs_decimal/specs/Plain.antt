@@ -1,9 +1,9 @@
 -- The plain spelling: no exponent, no plus sign, no needless
 -- zero, no closing period, a zero before a leading period.
-use Rattle.std.specs.Prelude.{◌≡◌, ◌≢◌, ℕ, suc, ◌-◌, ◌⊎◌, ◌==◌, ◌||◌, Bool, if◌then◌else◌, List, []}
+use Rattle.std.specs.Prelude.{◌≡◌, ◌≢◌, ℕ, suc, ◌-◌, ◌⊎◌, if◌then◌else◌, List, []}
 use Rattle.std.specs.Prelude.{◌∷◌, ◌++◌, length}
 use Rattle.std.specs.Prelude.{take, drop, replicate, decimal, ℤ, pos, negsuc, Option, Some, None}
-use Rattle.crs_decimal.specs.Spelling.{unsigned, minus, Parts, SpellsNumber, is_digit, Denotes}
+use Rattle.crs_decimal.specs.Spelling.{unsigned, minus, Parts, SpellsNumber, Denotes}
 use Rattle.crs_decimal.specs.Value.{Value, exact}
 
 -- digits that begin with no zero, or one zero alone
@@ -42,10 +42,6 @@ pub record AppendsPlain (value : Value) (before after : List ℕ) : Type 0 where
   pub appended : after ≡ before ++ spelling
   pub is_plain : IsPlain spelling
   pub denotes : Denotes spelling (exact value)
-
--- the bytes that plain spellings consist of: 0-9 . -
-abbrev pub is_plain_byte : ℕ → Bool
-is_plain_byte b = is_digit b || b == 46 || b == 45
 
 -- digits with zeros before them where there are fewer than n
 abbrev pub padded : ℕ → List ℕ → List ℕ

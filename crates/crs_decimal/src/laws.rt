@@ -1,11 +1,10 @@
 //! Laws of the definitions, as contracts of functions that do nothing.
 
-ghost use Rattle.std.specs.Prelude.{◌≡◌, ℕ, ◌<◌, ◌≤◌, ◌↔◌, ◌⊎◌, IsTrue, List, None, length};
-ghost use Rattle.std.specs.List.{list_all};
+ghost use Rattle.std.specs.Prelude.{◌≡◌, ℕ, ◌<◌, ◌≤◌, ◌↔◌, ◌⊎◌, List, None, length};
 ghost use Rattle.crs_decimal.specs.Spelling.{IsInBounds, Denotes, Parts, SpellsNumber, HasForm, IsRun, AreDigits, mantissa};
 ghost use Rattle.crs_decimal.specs.Examples.{SpellingsDenote, SpellingsFail, ValuesArePlain};
 ghost use Rattle.crs_decimal.specs.Value.{Number, SameNumber, Value, IsNormal, exact};
-ghost use Rattle.crs_decimal.specs.Plain.{IsPlain, is_plain_byte, plain};
+ghost use Rattle.crs_decimal.specs.Plain.{IsPlain, plain};
 
 /// Bytes spell the parts of a number in one way at most.
 #[tactic(auto, using(crate::proofs::SplitLemmas::parts_one))]
@@ -72,12 +71,6 @@ pub fn plain_is_the_one()
     ensures only { (v : Value) (bytes : List ℕ) → IsNormal v → IsPlain bytes →
         Denotes bytes (exact v) → bytes ≡ plain v }
     ensures short { (v : Value) → IsNormal v → length (plain v) ≤ 79 }
-{}
-
-/// Plain spellings consist of digits, `.` and `-`.
-#[tactic(auto, using(crate::proofs::RunLemmas::plain_bytes_pass))]
-pub fn plain_bytes()
-    ensures { (bytes : List ℕ) → IsPlain bytes → IsTrue (list_all is_plain_byte bytes) }
 {}
 
 /// The definitions on a few spellings and values.
