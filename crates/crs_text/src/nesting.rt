@@ -8,7 +8,6 @@ ghost use Rattle.crs_text.specs.Innermost.{IsInnermost};
 ghost use Rattle.crs_text.specs.Nesting.{IsPassed, IsHalted, IsAnswered};
 
 use crate::lexing::{Lexed, rest_of, token_at};
-use crate::runs::white_length;
 use crate::scanning::after_white;
 use arrayvec::ArrayVec;
 
@@ -46,7 +45,7 @@ fn innermost(text: &[u8], place: usize) -> Option<usize>
 {
     let end = place.min(text.len());
     let mut nest = Nest::new();
-    let mut at = white_length(text);
+    let mut at = after_white(text, 0);
     while at < end {
         let lexed = token_at(rest_of(text, at));
         match pass(&mut nest, text, at, lexed) {

@@ -164,14 +164,6 @@ fn letter_lanes(block: u8x16) -> usize
     first_set(letters.simd_ge(u8x16::splat(26)).to_bitmask())
 }
 
-/// How many bytes of white space come first.
-#[inline(always)]
-pub(crate) fn white_length(left: &[u8]) -> usize
-    ensures { result ≡ prefix_len tokens.is_white left.now }
-{
-    left.iter().take_while(|b| is_white(**b)).count()
-}
-
 #[inline(always)]
 fn ends_word(byte: u8) -> bool
     ensures { IsTrue result → IsFalse (tokens.is_word_byte byte) }

@@ -1,20 +1,38 @@
 //! From a text to its items, in one pass: each token is found, and the table takes it or refuses it.
-ghost use Rattle.std.specs.Prelude.{◌≡◌, ◌+◌, ◌≤◌, ◌<◌, length, drop, true, MatchResult, IfSome, IsTrue};
+ghost use Rattle.std.specs.Prelude.{◌≡◌, ◌+◌, ◌≤◌, ◌<◌, ℕ, List, length, drop, true, MatchResult, IfSome, IsTrue};
 ghost use Rattle.std.specs.List.{prefix_len};
 ghost use Rattle.crs_text.specs.Tokens.{Forms, opening, is_letter, is_white};
 ghost use Rattle.crs_text.specs.Quoted.{BeginsWith};
 ghost use Rattle.crs_text.specs.TextFault.{IsTextFault, SpellsNode};
 ghost use Rattle.crs_text.specs.Scan.{IsReached, IsFurther, IsPassed, IsTaken, IsStoppedBy, IsScanned};
 ghost use Rattle.crs_text.specs.Lexing.{IsLexed};
+ghost use Rattle.crs_text.specs.Items.{keyword_at};
+ghost use Rattle.crs_text.specs.Table.{flat_single, IsStep};
 
 use crate::fault::Fault;
 use crate::items::{ItemKind, Items};
-use crate::keyword::front_keyword;
+use crate::keyword::{Keyword, front_keyword};
 use crate::lexing::{Lexed, front_of, plain_number, plain_text, rest_of, token_at};
 use crate::refusal::Reason;
-use crate::runs::{ByteKind, Digits, is_letter, is_white, letters_length, white_length};
+use crate::runs::{ByteKind, Digits, is_letter, is_white, letters_length};
 use crate::table::{Opened, Table};
 use std::alloc::Global;
+
+// A number, text or word: whether the table takes it.
+#[inline(always)]
+fn take_single(
+    table: &mut Table,
+    kind: ItemKind,
+    at: usize,
+    raw: &[u8],
+    keyword: Option<Keyword>,
+) -> Result<bool, Fault>
+    requires { keyword ≡ keyword_at kind raw.now }
+    ensures { MatchResult result (λ taken. IsStep (flat_single table.old kind at raw.now) taken table.old table.new)
+        (λ fault. (text : List ℕ) → IsStoppedBy text at table.old fault) }
+{
+    table.single(kind, at, raw, keyword).map_err(Fault::Memory)
+}
 
 /// What begins at this place, if it is a token that the table takes; `taken` is how many bytes it has.
 ///
@@ -37,19 +55,12 @@ pub(crate) fn take_lexed(
     let (was_taken, size) = match lexed {
         Lexed::Number { length } => {
             let raw = front_of(left, length);
-            (
-                table
-                    .single(ItemKind::Number, at, raw, None)
-                    .map_err(Fault::Memory)?,
-                length,
-            )
+            (take_single(table, ItemKind::Number, at, raw, None)?, length)
         }
         Lexed::Text { length } => {
             let raw = front_of(rest_of(left, 1), length);
             (
-                table
-                    .single(ItemKind::Text, at, raw, None)
-                    .map_err(Fault::Memory)?,
+                take_single(table, ItemKind::Text, at, raw, None)?,
                 length + 2,
             )
         }
@@ -57,9 +68,7 @@ pub(crate) fn take_lexed(
             let keyword = front_keyword(left, length);
             let raw = front_of(left, length);
             (
-                table
-                    .single(ItemKind::Word, at, raw, keyword)
-                    .map_err(Fault::Memory)?,
+                take_single(table, ItemKind::Word, at, raw, keyword)?,
                 length,
             )
         }
@@ -286,7 +295,7 @@ pub fn read_items<'a>(alloc: Global, text: &'a [u8]) -> Result<Items<'a>, Fault>
     ensures { MatchResult result (SpellsNode text.now) (IsTextFault text.now) }
 {
     let rows = Vec::with_capacity(alloc, text.len() / BYTES_A_ROW).map_err(Fault::Memory)?;
-    items_in(Table::new(rows), text, white_length(text))
+    items_in(Table::new(rows), text, after_white(text, 0))
 }
 
 /// The items of a text, of which the table shows those before this place.

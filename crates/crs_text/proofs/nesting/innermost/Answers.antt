@@ -4,11 +4,11 @@ use Rattle.crs_text.proofs.nesting.innermost.Goals as goal
 
 pub loop-at-init : goal.loop-at-init
 loop-at-init c =
-    rw (ap reverse c.new-nest.ensures) (nested_start c.args.text.now c.args.place c.white_length-at.result c.white_length-at.ensures)
+    rw (ap reverse c.new-nest.ensures) (nested_start c.args.text.now c.args.place c.after_white-at.result (omega (arith, c.after_white-at.ensures)))
 
 pub loop-at-preserved : goal.loop-at-preserved
 loop-at-preserved c =
-    rw c.after_white-at.ensures
+    rw c.after_white-at-in-Some.ensures
     (nested_next c.args.text.now c.args.place c.loop-at.at (reverse c.loop-at.nest.items) c.loop-at.invariant (omega (arith, c.loop-at-test.true, c.min-end.ensures)) (reverse c.pass.new.nest.items) c.in-Some.size _ c.in-Some.ensures refl)
 
 pub returns-in-None : goal.returns-in-None

@@ -4,7 +4,7 @@ use Rattle.crs_text.specs.declared.items.ItemKind.TheVariants as kinds
 use Rattle.crs_text.proofs.tokens.ScanLemmas.{number_at, text_at, word_at, comma_at, opening_at, closing_at, stop_flaw, stopped_token, stopped_too_deep, taken_by, stopped_by, single_taken, single_stopped, IsSingleAt}
 use Rattle.crs_text.proofs.rows.ShowsLemmas.{refused_from_shows, none_from_refused}
 use Rattle.crs_text.proofs.scanning.take_lexed.Goals as goal
-use Rattle.crs_text.proofs.scanning.take_lexed.Goals.{in-Number+in_ok-map_err-in-Number, in-Text+in_ok-map_err-in-Text, in-Word+in_ok-map_err-in-Word, in-Comma, in-Closing, in-Opening+in-Taken, in-Opening+in-Refused}
+use Rattle.crs_text.proofs.scanning.take_lexed.Goals.{in-Number+in_ok-take_single-in-Number, in-Text+in_ok-take_single-in-Text, in-Word+in_ok-take_single-in-Word, in-Comma, in-Closing, in-Opening+in-Taken, in-Opening+in-Refused}
 
 pub returns-in-TooDeep : goal.returns-in-TooDeep
 returns-in-TooDeep c =
@@ -22,6 +22,15 @@ returns-in-Flaw c =
       stop = λ ts shows. stop_flaw c.in-Flaw.reason _ ts _ c.in-Flaw.skip flaw;
     }
 
+pub returns-in_err-take_single-in-Number : goal.returns-in_err-take_single-in-Number
+returns-in_err-take_single-in-Number c = let stopped = c.in_err-take_single-in-Number.ensures c.args.text.now in search (rules, stopped)
+
+pub returns-in_err-take_single-in-Text : goal.returns-in_err-take_single-in-Text
+returns-in_err-take_single-in-Text c = let stopped = c.in_err-take_single-in-Text.ensures c.args.text.now in search (rules, stopped)
+
+pub returns-in_err-take_single-in-Word : goal.returns-in_err-take_single-in-Word
+returns-in_err-take_single-in-Word c = let stopped = c.in_err-take_single-in-Word.ensures c.args.text.now in search (rules, stopped)
+
 pub returns : goal.returns
 returns c =
     let text = c.args.text.now in
@@ -29,21 +38,21 @@ returns c =
     let before = c.args.table.now in
     let took = c.if-not-was_taken.false in
     elim c.match-lexed.branch [
-      | in-Number+in_ok-map_err-in-Number w ↦
-          let got : w.single.result ≡ Ok c.match-lexed.was_taken.0 = rw w.was_taken-is (search rules) in
+      | in-Number+in_ok-take_single-in-Number w ↦
+          let got : w.take_single.result ≡ Ok c.match-lexed.was_taken.0 = rw w.was_taken-is (search rules) in
           let raw = w.front_of-raw.ensures ∙ ap (take w.in-Number.length) c.rest_of-left.ensures in
           let here : IsSingleAt text at kinds.Number w.front_of-raw.result.now w.in-Number.length = rw raw (number_at text at c.requires.more w.in-Number.length (rw w.in-Number.is at c.requires.lexed)) in
-          rw (w.table-is, ap (λ (p : Bool × ℕ). p.1) w.was_taken-is) (single_taken text at w.in-Number.length before w.single.new.self c.match-lexed.was_taken.0 kinds.Number _ here (rw got at w.single.ensures.ok) c.if-not-was_taken.false)
-      | in-Text+in_ok-map_err-in-Text w ↦
-          let got : w.single-in-Text.result ≡ Ok c.match-lexed.was_taken.0 = rw w.was_taken-is (search rules) in
+          rw (w.table-is, ap (λ (p : Bool × ℕ). p.1) w.was_taken-is) (single_taken text at w.in-Number.length before w.take_single.new.table c.match-lexed.was_taken.0 kinds.Number _ here (rw got at w.take_single.ensures) c.if-not-was_taken.false)
+      | in-Text+in_ok-take_single-in-Text w ↦
+          let got : w.take_single-in-Text.result ≡ Ok c.match-lexed.was_taken.0 = rw w.was_taken-is (search rules) in
           let raw = w.front_of-raw-in-Text.ensures ∙ ap (take w.in-Text.length) (w.rest_of.ensures ∙ ap (drop 1) c.rest_of-left.ensures) in
           let here : IsSingleAt text at kinds.Text w.front_of-raw-in-Text.result.now (w.in-Text.length + 2) = rw raw (text_at text at c.requires.more w.in-Text.length (rw w.in-Text.is at c.requires.lexed)) in
-          rw (w.table-is, ap (λ (p : Bool × ℕ). p.1) w.was_taken-is) (single_taken text at (w.in-Text.length + 2) before w.single-in-Text.new.self c.match-lexed.was_taken.0 kinds.Text _ here (rw got at w.single-in-Text.ensures.ok) c.if-not-was_taken.false)
-      | in-Word+in_ok-map_err-in-Word w ↦
-          let got : w.single-in-Word.result ≡ Ok c.match-lexed.was_taken.0 = rw w.was_taken-is (search rules) in
+          rw (w.table-is, ap (λ (p : Bool × ℕ). p.1) w.was_taken-is) (single_taken text at (w.in-Text.length + 2) before w.take_single-in-Text.new.table c.match-lexed.was_taken.0 kinds.Text _ here (rw got at w.take_single-in-Text.ensures) c.if-not-was_taken.false)
+      | in-Word+in_ok-take_single-in-Word w ↦
+          let got : w.take_single-in-Word.result ≡ Ok c.match-lexed.was_taken.0 = rw w.was_taken-is (search rules) in
           let raw = w.front_of-raw-in-Word.ensures ∙ ap (take w.in-Word.length) c.rest_of-left.ensures in
           let here : IsSingleAt text at kinds.Word w.front_of-raw-in-Word.result.now w.in-Word.length = rw raw (word_at text at c.requires.more w.in-Word.length (rw w.in-Word.is at c.requires.lexed)) in
-          rw (w.table-is, ap (λ (p : Bool × ℕ). p.1) w.was_taken-is) (single_taken text at w.in-Word.length before w.single-in-Word.new.self c.match-lexed.was_taken.0 kinds.Word _ here (rw got at w.single-in-Word.ensures.ok) c.if-not-was_taken.false)
+          rw (w.table-is, ap (λ (p : Bool × ℕ). p.1) w.was_taken-is) (single_taken text at w.in-Word.length before w.take_single-in-Word.new.table c.match-lexed.was_taken.0 kinds.Word _ here (rw got at w.take_single-in-Word.ensures) c.if-not-was_taken.false)
       | in-Comma w ↦
           rw (w.table-is, ap (λ (p : Bool × ℕ). p.1) w.was_taken-is) (taken_by text at 1 before w.comma.new.self w.comma.result comma (omega (arith, c.requires.more)) (comma_at text at c.requires.more (rw w.in-Comma.is at c.requires.lexed)) w.comma.ensures (sym (ap (λ (p : Bool × ℕ). p.0) w.was_taken-is) ∙ took))
       | in-Closing w ↦
@@ -68,21 +77,21 @@ returns-then-not-was_taken c =
     let number = c.at-then-not-was_taken.ensures.number in
     let left_out = c.if-not-was_taken.true in
     elim c.match-lexed.branch [
-      | in-Number+in_ok-map_err-in-Number w ↦
-          let got : w.single.result ≡ Ok c.match-lexed.was_taken.0 = rw w.was_taken-is (search rules) in
+      | in-Number+in_ok-take_single-in-Number w ↦
+          let got : w.take_single.result ≡ Ok c.match-lexed.was_taken.0 = rw w.was_taken-is (search rules) in
           let raw = w.front_of-raw.ensures ∙ ap (take w.in-Number.length) c.rest_of-left.ensures in
           let here : IsSingleAt text at kinds.Number w.front_of-raw.result.now w.in-Number.length = rw raw (number_at text at c.requires.more w.in-Number.length (rw w.in-Number.is at c.requires.lexed)) in
-          single_stopped text at w.in-Number.length before w.single.new.self c.match-lexed.was_taken.0 kinds.Number _ here (rw got at w.single.ensures.ok) r place number c.if-not-was_taken.true
-      | in-Text+in_ok-map_err-in-Text w ↦
-          let got : w.single-in-Text.result ≡ Ok c.match-lexed.was_taken.0 = rw w.was_taken-is (search rules) in
+          single_stopped text at w.in-Number.length before w.take_single.new.table c.match-lexed.was_taken.0 kinds.Number _ here (rw got at w.take_single.ensures) r place number c.if-not-was_taken.true
+      | in-Text+in_ok-take_single-in-Text w ↦
+          let got : w.take_single-in-Text.result ≡ Ok c.match-lexed.was_taken.0 = rw w.was_taken-is (search rules) in
           let raw = w.front_of-raw-in-Text.ensures ∙ ap (take w.in-Text.length) (w.rest_of.ensures ∙ ap (drop 1) c.rest_of-left.ensures) in
           let here : IsSingleAt text at kinds.Text w.front_of-raw-in-Text.result.now (w.in-Text.length + 2) = rw raw (text_at text at c.requires.more w.in-Text.length (rw w.in-Text.is at c.requires.lexed)) in
-          single_stopped text at (w.in-Text.length + 2) before w.single-in-Text.new.self c.match-lexed.was_taken.0 kinds.Text _ here (rw got at w.single-in-Text.ensures.ok) r place number c.if-not-was_taken.true
-      | in-Word+in_ok-map_err-in-Word w ↦
-          let got : w.single-in-Word.result ≡ Ok c.match-lexed.was_taken.0 = rw w.was_taken-is (search rules) in
+          single_stopped text at (w.in-Text.length + 2) before w.take_single-in-Text.new.table c.match-lexed.was_taken.0 kinds.Text _ here (rw got at w.take_single-in-Text.ensures) r place number c.if-not-was_taken.true
+      | in-Word+in_ok-take_single-in-Word w ↦
+          let got : w.take_single-in-Word.result ≡ Ok c.match-lexed.was_taken.0 = rw w.was_taken-is (search rules) in
           let raw = w.front_of-raw-in-Word.ensures ∙ ap (take w.in-Word.length) c.rest_of-left.ensures in
           let here : IsSingleAt text at kinds.Word w.front_of-raw-in-Word.result.now w.in-Word.length = rw raw (word_at text at c.requires.more w.in-Word.length (rw w.in-Word.is at c.requires.lexed)) in
-          single_stopped text at w.in-Word.length before w.single-in-Word.new.self c.match-lexed.was_taken.0 kinds.Word _ here (rw got at w.single-in-Word.ensures.ok) r place number c.if-not-was_taken.true
+          single_stopped text at w.in-Word.length before w.take_single-in-Word.new.table c.match-lexed.was_taken.0 kinds.Word _ here (rw got at w.take_single-in-Word.ensures) r place number c.if-not-was_taken.true
       | in-Comma w ↦
           stopped_by text at 1 before w.comma.new.self w.comma.result comma r place number (comma_at text at c.requires.more (rw w.in-Comma.is at c.requires.lexed)) w.comma.ensures (sym (ap (λ (p : Bool × ℕ). p.0) w.was_taken-is) ∙ left_out) (λ ts shows deep. deep)
       | in-Closing w ↦
