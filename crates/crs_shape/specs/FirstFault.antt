@@ -1,19 +1,12 @@
 -- A bridge: the fault of shape that a walk over slots finds first.
-use Rattle.std.specs.Prelude.{◌≡◌, ℕ, Option, Some, None, List, if◌then◌else◌}
+use Rattle.std.specs.Prelude.{ℕ, Option, Some, None, List, if◌then◌else◌}
 use Rattle.crs_text.specs.Items.{Item, leaf, node, Siblings, End, More}
 use Rattle.crs_text.specs.Refusal.{RefusedAt}
 use Rattle.crs_shape.specs.declared.class.Class.{Class}
 use Rattle.crs_shape.specs.Keywords.{is_keyword}
 use Rattle.crs_shape.specs.Slots.{SlotParts, slots_of}
-use Rattle.crs_shape.specs.ShapeFault.{AtArgument, class_in, is_of, IsFree, misplaced, missing}
+use Rattle.crs_shape.specs.ShapeFault.{class_in, is_of, misplaced, missing}
 use Rattle.crs_shape.specs.Walk.{after, may_end}
-
--- the fault of an argument and of those after it, from the faults inside it and after it
-abbrev pub ArgumentFault : Class → List Class → Item → (Class → RefusedAt → Type 0) →
-    (List Class → RefusedAt → Type 0) → RefusedAt → Type 0
-ArgumentFault parent before item Within Later fault =
-    AtArgument parent before item (fault ≡ misplaced item) (λ c. Within c fault)
-    (λ c. IsFree (Within c)) (λ b. Later b fault)
 
 -- the first of two faults
 abbrev pub or_later : Option RefusedAt → Option RefusedAt → Option RefusedAt

@@ -2,11 +2,11 @@ use Rattle.std.proofs.Common.{◌<◌, sym, ◌∙◌, ap, Some, None, subst, Li
 use Rattle.std.specs.Option.{option_map}
 use Rattle.crs_text.specs.Prelude.{first_of, here, size_of}
 use Rattle.crs_shape.specs.Slots.{SlotParts}
-use Rattle.crs_shape.proofs.FitLemmas as fit
-use Rattle.crs_shape.proofs.FitLemmas.{going_by, no_arguments, argument-less}
-use Rattle.crs_shape.proofs.ExpectedLemmas as expected
-use Rattle.crs_shape.proofs.ExpectedLemmas.{going_class, going_wrong, going_inside, going_short, answered}
-use Rattle.crs_shape.proofs.FaultLemmas.{exact}
+use Rattle.crs_shape.proofs.faults.FitLemmas as fit
+use Rattle.crs_shape.proofs.faults.FitLemmas.{going_by, no_arguments, argument-less}
+use Rattle.crs_shape.proofs.faults.ExpectedLemmas as expected
+use Rattle.crs_shape.proofs.faults.ExpectedLemmas.{going_class, going_wrong, going_inside, going_short, answered}
+use Rattle.crs_shape.proofs.faults.FaultLemmas.{exact}
 use Rattle.crs_shape.proofs.fitting.+fault_within.Goals as goal
 
 pub returns-in_err-close-clause-fault : goal.returns-in_err-close-clause-fault

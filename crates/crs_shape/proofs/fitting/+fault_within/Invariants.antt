@@ -1,8 +1,8 @@
 use Rattle.crs_text.specs.Prelude.{first_of, here, size_of, sizes}
 use Rattle.crs_shape.specs.Walk.{left_of}
-use Rattle.crs_shape.proofs.FitLemmas as fit
-use Rattle.crs_shape.proofs.FitLemmas.{from}
-use Rattle.crs_shape.proofs.ExpectedLemmas as expected
+use Rattle.crs_shape.proofs.faults.FitLemmas as fit
+use Rattle.crs_shape.proofs.faults.FitLemmas.{from}
+use Rattle.crs_shape.proofs.faults.ExpectedLemmas as expected
 use Rattle.crs_shape.proofs.fitting.+fault_within.Given as goal
 
 abbrev pub decreases-fault_within : goal.decreases-fault_within

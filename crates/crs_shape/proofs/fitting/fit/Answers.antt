@@ -1,6 +1,6 @@
 use Rattle.std.proofs.Common.{sym, ◌∙◌, ap, Some, None}
-use Rattle.crs_shape.proofs.FitLemmas.{not_of}
-use Rattle.crs_shape.proofs.FaultLemmas.{exact}
+use Rattle.crs_shape.proofs.faults.FitLemmas.{not_of}
+use Rattle.crs_shape.proofs.faults.FaultLemmas.{exact}
 use Rattle.crs_shape.proofs.fitting.fit.Goals as goal
 
 pub returns-then-not-is_of : goal.returns-then-not-is_of

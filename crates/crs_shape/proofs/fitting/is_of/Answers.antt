@@ -1,6 +1,6 @@
 use Rattle.std.proofs.Common.{◌∙◌, ap}
 use Rattle.crs_shape.specs.KeywordTable.{classes_by, is_among}
-use Rattle.crs_shape.proofs.ItemLemmas.{is_of-node}
+use Rattle.crs_shape.proofs.naming.ItemLemmas.{is_of-node}
 use Rattle.crs_shape.proofs.fitting.is_of.Goals as goal
 
 pub returns-in-Node : goal.returns-in-Node

@@ -1,4 +1,4 @@
-use Rattle.crs_shape.proofs.RefusedLemmas.{alike_at_root, refused_at_root}
+use Rattle.crs_shape.proofs.faults.RefusedLemmas.{alike_at_root, refused_at_root}
 use Rattle.crs_shape.proofs.laws.expected_is_one.Goals as goal
 
 pub returns-clause-one : goal.returns-clause-one

@@ -1,5 +1,5 @@
 use Rattle.crs_shape.specs.ShapeFault.{AtRoot}
-use Rattle.crs_shape.proofs.FaultLemmas.{exact_at_root, one-of, none-or-one}
+use Rattle.crs_shape.proofs.faults.FaultLemmas.{exact_at_root, one-of, none-or-one}
 use Rattle.crs_shape.proofs.laws.fault_at_root_is_one.Goals as goal
 
 pub returns-clause-one : goal.returns-clause-one

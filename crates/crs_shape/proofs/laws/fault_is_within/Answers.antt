@@ -1,4 +1,4 @@
-use Rattle.crs_shape.proofs.PlaceLemmas.{held-placed, inside-placed, root-placed, text-below}
+use Rattle.crs_shape.proofs.faults.PlaceLemmas.{held-placed, inside-placed, root-placed, text-below}
 use Rattle.crs_shape.proofs.laws.fault_is_within.Goals as goal
 
 pub returns : goal.returns

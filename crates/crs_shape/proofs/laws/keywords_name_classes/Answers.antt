@@ -1,6 +1,6 @@
 use Rattle.std.proofs.Common.{sym}
-use Rattle.crs_shape.proofs.FitLemmas.{root-is_of}
-use Rattle.crs_shape.proofs.ItemLemmas.{class_in-node, is_of-node}
+use Rattle.crs_shape.proofs.faults.FitLemmas.{root-is_of}
+use Rattle.crs_shape.proofs.naming.ItemLemmas.{class_in-node, is_of-node}
 use Rattle.crs_shape.proofs.laws.keywords_name_classes.Goals as goal
 
 pub returns : goal.returns

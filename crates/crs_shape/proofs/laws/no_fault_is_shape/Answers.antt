@@ -1,4 +1,4 @@
-use Rattle.crs_shape.proofs.ShapedLemmas.{free-shaped, shaped-free}
+use Rattle.crs_shape.proofs.faults.ShapedLemmas.{free-shaped, shaped-free}
 use Rattle.crs_shape.proofs.laws.no_fault_is_shape.Goals as goal
 
 pub returns : goal.returns

@@ -1,7 +1,7 @@
 use Rattle.std.proofs.Common.{◌<◌, sym, ap, ◌∙◌, arith}
 use Rattle.std.specs.Str.{str_to_ascii_lowercase}
 use Rattle.crs_shape.specs.Words.{direction_word, every_direction}
-use Rattle.crs_shape.proofs.WordLemmas.{direction_place, direction_placed, direction_within}
+use Rattle.crs_shape.proofs.words.WordLemmas.{direction_place, direction_placed, direction_within}
 use Rattle.crs_shape.proofs.direction.Direction.read.Goals as goal
 
 pub returns : goal.returns

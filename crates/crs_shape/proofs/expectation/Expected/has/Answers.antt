@@ -1,6 +1,6 @@
 use Rattle.std.proofs.Common.{◌≡◌, ap, ◌∙◌, rules}
 use Rattle.crs_shape.specs.Left.{may_go, slots_left}
-use Rattle.crs_shape.proofs.ExpectedLemmas.{comes}
+use Rattle.crs_shape.proofs.faults.ExpectedLemmas.{comes}
 use Rattle.crs_shape.proofs.expectation.Expected.has.Goals as goal
 
 pub returns-in-Some : goal.returns-in-Some

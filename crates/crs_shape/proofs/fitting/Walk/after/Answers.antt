@@ -1,5 +1,5 @@
 use Rattle.std.proofs.Common.{◌∙◌, refl}
-use Rattle.crs_shape.proofs.WalkLemmas.{stands_here, passes_by, goes_nowhere}
+use Rattle.crs_shape.proofs.walks.WalkLemmas.{stands_here, passes_by, goes_nowhere}
 use Rattle.crs_shape.proofs.fitting.Walk.after.Goals as goal
 use Rattle.crs_shape.proofs.fitting.Walk.after.Goals.{then-slot, else-slot}
 

@@ -1,5 +1,5 @@
 use Rattle.std.proofs.Common.{◌∙◌}
-use Rattle.crs_shape.proofs.WalkLemmas.{ends_by, ends_here}
+use Rattle.crs_shape.proofs.walks.WalkLemmas.{ends_by, ends_here}
 use Rattle.crs_shape.proofs.fitting.Walk.may_end.Goals as goal
 
 pub returns-then-waits : goal.returns-then-waits

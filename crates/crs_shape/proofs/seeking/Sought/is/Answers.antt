@@ -4,7 +4,7 @@ use denote.Enum.Bare.{sameb}
 use Rattle.crs_text.specs.contracts.items.ItemKind as kinds
 use Rattle.crs_text.specs.Prelude.{first_of, here}
 use Rattle.crs_shape.specs.Slots.{is_class}
-use Rattle.crs_shape.proofs.SoughtLemmas.{other_kind, is_node, node_named, other_keyword, own_keyword}
+use Rattle.crs_shape.proofs.naming.SoughtLemmas.{other_kind, is_node, node_named, other_keyword, own_keyword}
 use Rattle.crs_shape.proofs.seeking.Sought.is.Goals as goal
 
 pub returns-then-ne : goal.returns-then-ne

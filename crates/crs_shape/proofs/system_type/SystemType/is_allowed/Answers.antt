@@ -1,5 +1,5 @@
 use Rattle.crs_shape.specs.Dimensions.{dimensions_of}
-use Rattle.crs_shape.proofs.DimensionLemmas.{as-whole, no-dimension, whole-of}
+use Rattle.crs_shape.proofs.words.DimensionLemmas.{as-whole, no-dimension, whole-of}
 use Rattle.crs_shape.proofs.system_type.SystemType.is_allowed.Goals as goal
 
 pub returns-in-None : goal.returns-in-None

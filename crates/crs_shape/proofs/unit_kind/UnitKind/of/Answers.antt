@@ -1,6 +1,6 @@
 use Rattle.crs_text.specs.declared.keyword.Keyword.TheVariants as keyword
 use Rattle.crs_shape.specs.declared.unit_kind.UnitKind.TheVariants as kinds
-use Rattle.crs_shape.proofs.WordLemmas.{keyword-alone, keyword-spells}
+use Rattle.crs_shape.proofs.words.WordLemmas.{keyword-alone, keyword-spells}
 use Rattle.crs_shape.proofs.unit_kind.UnitKind.of.Goals as goal
 
 pub returns-in-LengthUnit : goal.returns-in-LengthUnit

@@ -11,9 +11,9 @@ use Rattle.crs_shape.specs.Shaped.{Shaped, AreShaped}
 use Rattle.crs_shape.specs.Walk.{after, may_end}
 use Rattle.crs_shape.specs.ShapeFault.{class_in, missing, IsFree, Stands, Inside, Among}
 use Rattle.crs_shape.specs.FirstFault.{or_later, step_to, step_as, fault_by, fault_from, first_inside, first_in_arguments}
-use Rattle.crs_shape.proofs.TableLemmas.{apart_tables}
-use Rattle.crs_shape.proofs.SlotLemmas.{end-allowed}
-use Rattle.crs_shape.proofs.FaultLemmas.{IsExact, Reached, reached-start, reached-more, one-more, one-less, exact-free, exact_inside}
+use Rattle.crs_shape.proofs.walks.TableLemmas.{apart_tables}
+use Rattle.crs_shape.proofs.walks.SlotLemmas.{end-allowed}
+use Rattle.crs_shape.proofs.faults.FaultLemmas.{IsExact, Reached, reached-start, reached-more, one-more, one-less, exact-free, exact_inside}
 
 -- what shaped arguments are, as a pair that the walk gives back
 abbrev Left : Class → List Class → Siblings → Type 0

@@ -9,11 +9,18 @@ use Rattle.crs_shape.specs.Keywords.{is_keyword}
 use Rattle.crs_shape.specs.Slots.{SlotParts, slots_of}
 use Rattle.crs_shape.specs.Shape.{Allowed, Begins, is_apart}
 use Rattle.crs_shape.specs.Walk.{after, may_end}
-use Rattle.crs_shape.specs.ShapeFault.{class_in, is_of, misplaced, missing, IsFree, IsOnly, Stands, Inside, Among, class_of_root, AtRoot}
-use Rattle.crs_shape.specs.FirstFault.{ArgumentFault, or_later, step_to, step_as, step_of, fault_by, fault_from, first_inside, first_in_arguments}
-use Rattle.crs_shape.proofs.FitLemmas.{step_class}
-use Rattle.crs_shape.proofs.SlotLemmas.{Goes, after-apart, goes-along, goes-back, allows-some, end-allowed, allowed-end}
-use Rattle.crs_shape.proofs.TableLemmas.{apart_tables}
+use Rattle.crs_shape.specs.ShapeFault.{AtArgument, class_in, is_of, misplaced, missing, IsFree, IsOnly, Stands, Inside, Among, class_of_root, AtRoot}
+use Rattle.crs_shape.specs.FirstFault.{or_later, step_to, step_as, step_of, fault_by, fault_from, first_inside, first_in_arguments}
+use Rattle.crs_shape.proofs.faults.FitLemmas.{step_class}
+use Rattle.crs_shape.proofs.walks.SlotLemmas.{Goes, after-apart, goes-along, goes-back, allows-some, end-allowed, allowed-end}
+use Rattle.crs_shape.proofs.walks.TableLemmas.{apart_tables}
+
+-- the fault of an argument and of those after it, from the faults inside it and after it
+abbrev pub ArgumentFault : Class → List Class → Item → (Class → RefusedAt → Type 0) →
+    (List Class → RefusedAt → Type 0) → RefusedAt → Type 0
+ArgumentFault parent before item Within Later fault =
+    AtArgument parent before item (fault ≡ misplaced item) (λ c. Within c fault)
+    (λ c. IsFree (Within c)) (λ b. Later b fault)
 
 -- the fault, if there is one, is the only one
 abbrev pub IsExact : (RefusedAt → Type 0) → Option RefusedAt → Type 0

@@ -18,10 +18,10 @@ use Rattle.crs_shape.specs.ShapeFault.{is_of, IsFree, Stands, Inside, Among}
 use Rattle.crs_shape.specs.FirstFault.{step_of}
 use Rattle.crs_shape.specs.Left.{has_some, may_go, slots_left, classes_left, end_left}
 use Rattle.crs_shape.specs.Expected.{ExpectedParts, Follows, ExpectedIn, ExpectedAmong}
-use Rattle.crs_shape.proofs.KeywordTableLemmas.{class-among}
-use Rattle.crs_shape.proofs.TableLemmas.{apart_tables}
-use Rattle.crs_shape.proofs.FaultLemmas.{Reached, reached-start, reached-more, reached-begins, reached-not, none_stands, step_stands, exact-free, end-allows}
-use Rattle.crs_shape.proofs.FitLemmas.{from, HasNext, from_at, has_at, arguments-less, rest-less, step_class, step-is_of, by_more}
+use Rattle.crs_shape.proofs.naming.KeywordTableLemmas.{class-among}
+use Rattle.crs_shape.proofs.walks.TableLemmas.{apart_tables}
+use Rattle.crs_shape.proofs.faults.FaultLemmas.{Reached, reached-start, reached-more, reached-begins, reached-not, none_stands, step_stands, exact-free, end-allows}
+use Rattle.crs_shape.proofs.faults.FitLemmas.{from, HasNext, from_at, has_at, arguments-less, rest-less, step_class, step-is_of, by_more}
 
 -- ---- the classes
 

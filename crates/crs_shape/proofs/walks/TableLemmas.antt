@@ -3,7 +3,7 @@ use Rattle.std.proofs.Common.{◌≡◌, true, refl}
 use Rattle.crs_shape.specs.declared.class.Class.{Class}
 use Rattle.crs_shape.specs.Slots.{slots_of}
 use Rattle.crs_shape.specs.Shape.{is_apart}
-use Rattle.crs_shape.proofs.KeywordTableLemmas.{every-class}
+use Rattle.crs_shape.proofs.naming.KeywordTableLemmas.{every-class}
 
 pub apart_tables : (c : Class) → is_apart (slots_of c) ≡ true
 apart_tables = every-class (λ c. is_apart (slots_of c)) refl

@@ -17,11 +17,11 @@ use Rattle.crs_shape.specs.KeywordTable.{classes_of, classes_by, is_among, is_pa
 use Rattle.crs_shape.specs.ShapeFault.{class_in}
 use Rattle.crs_shape.specs.Slots.{is_class}
 use Rattle.crs_shape.specs.Sought.{kind_for}
-use Rattle.crs_shape.proofs.ClassSetLemmas.{has_bit-word_of}
-use Rattle.crs_shape.proofs.ItemLemmas.{class_in-node, not-among}
-use Rattle.crs_shape.proofs.KeywordLemmas.{among-classes_of, class_named-table, is_keyword-table}
-use Rattle.crs_shape.proofs.KeywordTableLemmas.{clear-named}
-use Rattle.crs_shape.proofs.ListLemmas.{list_any-map}
+use Rattle.crs_shape.proofs.naming.ClassSetLemmas.{has_bit-word_of}
+use Rattle.crs_shape.proofs.naming.ItemLemmas.{class_in-node, not-among}
+use Rattle.crs_shape.proofs.naming.KeywordLemmas.{among-classes_of, class_named-table, is_keyword-table}
+use Rattle.crs_shape.proofs.naming.KeywordTableLemmas.{clear-named}
+use Rattle.crs_shape.proofs.naming.ListLemmas.{list_any-map}
 
 -- ---- the kind
 

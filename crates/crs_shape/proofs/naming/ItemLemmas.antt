@@ -12,7 +12,7 @@ use Rattle.crs_shape.specs.KeywordTable.{classes_by, is_among, is_part, is_root}
 use Rattle.crs_shape.specs.Shape.{has_class}
 use Rattle.crs_shape.specs.ShapeFault.{class_in, class_of_root, is_of}
 use Rattle.crs_shape.specs.Slots.{is_class}
-use Rattle.crs_shape.proofs.KeywordLemmas.{class_named-table, root_named-table, is_known-table, is_keyword-table}
+use Rattle.crs_shape.proofs.naming.KeywordLemmas.{class_named-table, root_named-table, is_known-table, is_keyword-table}
 
 -- what holds of nodes holds of an item that is one
 pub of-nodes : (P : Item → Type 0) → ((place : ℕ) (keyword : List ℕ) (square : Bool) (first : Item) (others : Siblings) (close : ℕ) → P (node place keyword square first others close)) →

@@ -4,9 +4,9 @@ use Rattle.crs_text.specs.Prelude.{Kind, number, text, word, Token, single, comm
 use Rattle.crs_shape.specs.declared.class.Class.{Class}
 use Rattle.crs_shape.specs.FaultPlace.{IsShapeNumber, IsPlaceIn, IsPlaceAmong}
 use Rattle.crs_shape.specs.Keywords.{is_known}
-use Rattle.crs_shape.specs.FirstFault.{ArgumentFault}
 use Rattle.crs_shape.specs.ShapeFault.{misplaced, Inside, Among, AtRoot}
-use Rattle.crs_shape.proofs.FitLemmas.{by_more}
+use Rattle.crs_shape.proofs.faults.FaultLemmas.{ArgumentFault}
+use Rattle.crs_shape.proofs.faults.FitLemmas.{by_more}
 
 -- ---- numbers and places
 

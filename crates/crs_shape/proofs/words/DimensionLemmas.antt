@@ -8,7 +8,7 @@ use Rattle.crs_shape.specs.declared.class.Class.{Class}
 use Rattle.crs_shape.specs.declared.system_type.SystemType.{SystemType}
 use Rattle.crs_shape.specs.declared.system_type.SystemType.TheVariants as types
 use Rattle.crs_shape.specs.Dimensions.{IsOneOf, dimensions_of}
-use Rattle.crs_shape.proofs.KeywordTableLemmas.{every-class}
+use Rattle.crs_shape.proofs.naming.KeywordTableLemmas.{every-class}
 
 -- no dimension of the table is above 3
 abbrev are_small : List ℕ → Bool

@@ -12,7 +12,7 @@ use Rattle.crs_shape.specs.declared.class.Class.{Class}
 use Rattle.crs_shape.specs.ClassSet.{word_of, has_bit, bit_of, set_of}
 use Rattle.crs_shape.specs.KeywordTable.{is_among, is_part, argument_classes}
 use Rattle.crs_shape.specs.Slots.{SlotParts, slots_of, takes}
-use Rattle.crs_shape.proofs.ListLemmas.{list_any-map}
+use Rattle.crs_shape.proofs.naming.ListLemmas.{list_any-map}
 
 abbrev is_one : ℕ → Bool
 is_one n = n == 1

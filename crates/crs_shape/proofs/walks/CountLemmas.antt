@@ -10,7 +10,7 @@ use Rattle.crs_shape.specs.declared.class.Class.{Class}
 use Rattle.crs_shape.specs.Slots.{SlotParts}
 use Rattle.crs_shape.specs.Shape.{AllTaken, Fills, AllFilled, joined, Allowed}
 use Rattle.crs_shape.specs.Counts.{one_if, how_many, least, most, is_bounded}
-use Rattle.crs_shape.proofs.ListLemmas.{passes-all, passes-none}
+use Rattle.crs_shape.proofs.naming.ListLemmas.{passes-all, passes-none}
 
 how_many-append : (p : Class → Bool) (xs ys : List Class) → how_many p (xs ++ ys) ≡ how_many p xs + how_many p ys
 how_many-append p [] ys = omega arith

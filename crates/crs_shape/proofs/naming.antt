@@ -1,0 +1,6 @@
+pub mod ClassSetLemmas
+pub mod ItemLemmas
+pub mod KeywordLemmas
+pub mod KeywordTableLemmas
+pub mod ListLemmas
+pub mod SoughtLemmas

@@ -1,0 +1,4 @@
+pub mod CountLemmas
+pub mod SlotLemmas
+pub mod TableLemmas
+pub mod WalkLemmas

@@ -1,0 +1,3 @@
+pub mod DimensionLemmas
+pub mod NearLemmas
+pub mod WordLemmas
