@@ -168,17 +168,15 @@ pub(crate) fn bad_order(crs: &Cursor<'_, '_>, firsts: &Firsts) -> Option<Refusal
     }
 }
 
-// The kind of a unit, which mostly its keyword tells.
+// The kind of a unit, which its keyword tells. A number or text has none, but its bytes may be those of one.
 fn kind_of(items: &Items<'_>, unit: ItemId) -> Option<UnitKind>
     requires { HasId items.now unit }
     ensures { IsReading (ReadsKind (item_at items.now unit)) result }
 {
-    if let Some(keyword) = items.keyword(unit) {
-        if let Some(kind) = UnitKind::of(keyword) {
-            return Some(kind);
-        }
+    match items.keyword(unit) {
+        Some(keyword) => UnitKind::of(keyword),
+        None => UnitKind::read(items.raw(unit)),
     }
-    UnitKind::read(items.raw(unit))
 }
 
 // Whether a unit fits where this kind is asked.

@@ -3,10 +3,10 @@ use Rattle.crs_value.specs.Reading.{item_at}
 use Rattle.crs_value.proofs.checked.UnitLemmas.{keyword-raw, kind-read}
 use Rattle.crs_value.proofs.checks.axes.kind_of.Goals as goal
 
-pub returns-in-Some-of : goal.returns-in-Some-of
-returns-in-Some-of c =
+pub returns-in-Some : goal.returns-in-Some
+returns-in-Some c =
     let item = item_at c.args.items.now c.args.unit in
-    c.in-Some-of.ensures (raw_of item) (keyword-raw item c.in-Some.keyword c.in-Some.ensures)
+    c.of.ensures (raw_of item) (keyword-raw item c.in-Some.keyword c.in-Some.ensures)
 
-pub returns : goal.returns
-returns c = kind-read (item_at c.args.items.now c.args.unit) c.raw.result.now c.read.result c.raw.ensures c.read.ensures
+pub returns-in-None : goal.returns-in-None
+returns-in-None c = kind-read (item_at c.args.items.now c.args.unit) c.raw.result.now c.read.result c.raw.ensures c.read.ensures
