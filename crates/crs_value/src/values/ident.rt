@@ -150,7 +150,16 @@ fn each_once<'a>(alloc: Global, idents: &[Ident<'a>], places: &Places) -> Made<V
     Ok(once)
 }
 
-/// A value that has a name and identifiers alone. Each kind of it is a type of its own, by its number.
+// The kinds of `Named`.
+const METHOD: u8 = 0;
+
+const MEMBER: u8 = 1;
+
+const GEOID_MODEL: u8 = 2;
+
+const DEFORMATION_MODEL: u8 = 3;
+
+/// A value that has a name and identifiers alone. Each kind of it is a type of its own: `Method` and others. Profile.
 #[derive(Drop)]
 pub struct Named<'a, const KIND: u8> {
     /// The name.
@@ -161,16 +170,16 @@ pub struct Named<'a, const KIND: u8> {
 
 /// The method of a conversion, `METHOD[name, id..]`.
 /// ISO 19162:2019, "Map projection method".
-pub type Method<'a> = Named<'a, 0>;
+pub type Method<'a> = Named<'a, METHOD>;
 
 /// A member of a datum ensemble, `MEMBER[name, id..]`. ISO 19162:2019, "Datum ensemble".
-pub type Member<'a> = Named<'a, 1>;
+pub type Member<'a> = Named<'a, MEMBER>;
 
 /// A geoid model, `GEOIDMODEL[name, id..]`. ISO 19162:2019, "Vertical CRS".
-pub type GeoidModel<'a> = Named<'a, 2>;
+pub type GeoidModel<'a> = Named<'a, GEOID_MODEL>;
 
 /// A deformation model, `MODEL[name, id..]`, or a velocity grid. ISO 19162:2019, "Deformation model".
-pub type DeformationModel<'a> = Named<'a, 3>;
+pub type DeformationModel<'a> = Named<'a, DEFORMATION_MODEL>;
 
 impl<'a, const KIND: u8> Model for Named<'a, KIND> {
     ghost Value = { NamedParts };
