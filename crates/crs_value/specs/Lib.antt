@@ -14,12 +14,12 @@ pub mod Least
 pub mod Members
 pub mod NamedValues
 pub mod Prelude
+pub mod QuickChecks
 pub mod ReadOnce
 pub mod Reading
 pub mod Reads
 pub mod ReadsCrs
 pub mod ReadsNamed
-pub mod Seen
 pub mod Sound
 pub mod SoundCompound
 pub mod SoundConversion

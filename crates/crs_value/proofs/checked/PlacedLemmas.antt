@@ -1,14 +1,10 @@
 -- Axes whose orders are the numbers from 1 on, one after another.
-use Rattle.std.proofs.Common.{◌≡◌, ℕ, ◌+◌, ◌<◌, ◌≤◌, length, inl, inr, ⊎_elim, Option, Some, None, List, [], ◌∷◌, ◌++◌, refl, sym, ◌∙◌, ap, subst, arith}
+use Rattle.std.proofs.Common.{◌≡◌, ℕ, ◌+◌, ◌<◌, ◌≤◌, length, inl, inr, ⊎_elim, None, List, [], ◌∷◌, ◌++◌, sym, ◌∙◌, subst, arith}
 use Rattle.crs_decimal.specs.Prelude.{Number, SameNumber, whole_number, Value, exact}
-use Rattle.crs_text.specs.Prelude.{Item, rest_of, here, RefusedAt}
-use Rattle.crs_shape.specs.declared.class.Class.{Class}
-use Rattle.crs_shape.specs.declared.class.Class.TheVariants as class
-use Rattle.crs_shape.specs.Prelude.{Shaped}
-use Rattle.crs_value.specs.Checks.{orders_in, LacksOrder, ReadsOrder, HasThis, OneHas, IsBadOrder, BadOrders, BadOrder, AnyOf, IsLeast}
-use Rattle.crs_value.specs.FoundArguments.{from_found, AllShaped, HasPlace, AreInOrder}
-use Rattle.crs_value.specs.Reading.{item_at, those, Holds, IsFound, ReadsFirst}
-use Rattle.crs_value.proofs.found.ArgumentLemmas.{SlotsBound, arguments-few, nothing, found-is, found-holds, all-shaped}
+use Rattle.crs_text.specs.Prelude.{Item, RefusedAt}
+use Rattle.crs_value.specs.Checks.{LacksOrder, ReadsOrder, HasThis, OneHas, IsBadOrder, BadOrders, BadOrder, AnyOf, IsLeast}
+use Rattle.crs_value.specs.FoundArguments.{HasPlace, AreInOrder}
+use Rattle.crs_value.specs.Reading.{ReadsFirst}
 use Rattle.crs_value.proofs.checked.CheckLemmas.{DenotesOne}
 use Rattle.crs_value.proofs.checked.OrderLemmas.{order-one, wrong-none, order-all}
 use Rattle.crs_value.proofs.checked.SystemLemmas.{wholes-same}

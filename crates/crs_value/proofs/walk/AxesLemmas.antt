@@ -4,11 +4,11 @@ use Rattle.crs_text.specs.Prelude.{Item, arguments, rest_of, here, IsAt}
 use Rattle.crs_shape.specs.declared.class.Class.{Class}
 use Rattle.crs_shape.specs.declared.class.Class.TheVariants as class
 use Rattle.crs_shape.specs.Prelude.{is_bounded, most, Shaped, class_in, slots_of, is_class}
-use Rattle.crs_value.specs.declared.judging.quiet.Seen.{Seen}
+use Rattle.crs_value.specs.declared.judging.quick_checks.AxisFacts.{AxisFacts}
 use Rattle.crs_value.specs.Checks.{orders_in, units_in}
 use Rattle.crs_value.specs.Reading.{item_at, is_a, is_same, those, IsFound}
 use Rattle.crs_value.specs.Reads.{ReadsDirection}
-use Rattle.crs_value.specs.Seen.{the_one, Has, IsBehindName, IsShaped}
+use Rattle.crs_value.specs.QuickChecks.{the_one, HasFacts, IsBehindName, IsShaped}
 use Rattle.crs_value.proofs.found.ArgumentLemmas.{SlotsBound, arguments-few, nothing, first-shaped, class-is, those-first, those-later}
 
 -- the only argument of a class, which was looked for
@@ -24,9 +24,9 @@ is-shaped : (tree : Item) (parent c : Class) (item : Item) (at : Option ℕ) →
 is-shaped tree parent c item None shaped found = tt
 is-shaped tree parent c item (Some id) shaped found = (found.1, first-shaped tree parent c item id shaped found)
 
-pub axis-has : SlotsBound → (tree axis : Item) (word : ℕ) (seen : Seen) → Shaped class.Axis axis → IsBehindName tree axis word →
+pub axis-has : SlotsBound → (tree axis : Item) (word : ℕ) (seen : AxisFacts) → Shaped class.Axis axis → IsBehindName tree axis word →
     ReadsDirection (item_at tree word) seen.direction → IsFound tree class.Axis class.Order (those class.Axis class.Order (rest_of (here tree word))) seen.order →
-    IsFound tree class.Axis class.AxisUnit (those class.Axis class.AxisUnit (rest_of (here tree word))) seen.unit → Has tree axis seen
+    IsFound tree class.Axis class.AxisUnit (those class.Axis class.AxisUnit (rest_of (here tree word))) seen.unit → HasFacts tree axis seen
 axis-has law tree axis word seen shaped behind reads order unit =
     let order-is : IsFound tree class.Axis class.Order (orders_in axis) seen.order = rw behind.orders order in
     let unit-is : IsFound tree class.Axis class.AxisUnit (units_in axis) seen.unit = rw behind.units unit in

@@ -9,15 +9,15 @@ use Rattle.crs_shape.specs.declared.class.Class.{Class}
 use Rattle.crs_shape.specs.declared.class.Class.TheVariants as class
 use Rattle.crs_shape.specs.declared.system_type.SystemType.{SystemType}
 use Rattle.crs_shape.specs.Prelude.{dimensions_of, first_in_arguments, Shaped, SlotParts, takes, one, some, optional}
-use Rattle.crs_value.specs.declared.judging.quiet.Layout.{Layout}
-use Rattle.crs_value.specs.declared.judging.quiet.Axes.{Axes}
-use Rattle.crs_value.specs.declared.judging.quiet.Seen.{Seen}
+use Rattle.crs_value.specs.declared.judging.quick_checks.Layout.{Layout}
+use Rattle.crs_value.specs.declared.judging.quick_checks.AxesFacts.{AxesFacts}
+use Rattle.crs_value.specs.declared.judging.quick_checks.AxisFacts.{AxisFacts}
 use Rattle.crs_value.specs.Checks.{IsLeast, once, BreaksAmong, OfHead, RepeatsAny}
 use Rattle.crs_value.specs.FoundArguments.{AllShaped}
 use Rattle.crs_value.specs.Judged.{AllLeave, Gives, Leaves, Walked}
 use Rattle.crs_value.specs.Reading.{Each, item_at, is_a, ahead, those, Holds}
 use Rattle.crs_value.specs.Reads.{HasType}
-use Rattle.crs_value.specs.Seen.{are_free, is_head, is_tail, the_one, AreOrdered, Has, IsLaid, IsNoted, IsQuiet, IsSeen, UnitsFit}
+use Rattle.crs_value.specs.QuickChecks.{are_free, is_head, is_tail, the_one, AreOrdered, HasFacts, IsLaid, IsNoted, PassesButDynamic, HaveFacts, UnitsFit}
 use Rattle.crs_value.proofs.found.ArgumentLemmas.{ahead_at, all-shaped, arguments-shaped, each-both, holds_at, those-first}
 use Rattle.crs_value.proofs.checked.CheckLemmas.{DenotesOne}
 use Rattle.crs_value.proofs.walk.JudgedLemmas.{end-first, gives-true}
@@ -103,24 +103,24 @@ each-here : {V : Type 0} → (P : V → Type 0) → (xs : List V) (y : V) (ys : 
 each-here P [] y ys h = h.0
 each-here P (x ∷ xs) y ys h = each-here P xs y ys h.1
 
-pub record Noted (tree : Item) (c : Class) (of : SystemType) (from : Option ℕ) (axes : Axes) (at : Option ℕ) : Type 0 where
+pub record Noted (tree : Item) (c : Class) (of : SystemType) (from : Option ℕ) (axes : AxesFacts) (at : Option ℕ) : Type 0 where
   pub holds : Holds tree at
   pub before : List Item
   pub are : those c class.Axis (ahead tree from) ≡ before ++ those c class.Axis (ahead tree at)
-  pub seen : IsSeen of axes before
+  pub seen : HaveFacts of axes before
 
-pub noted-first : (tree : Item) (c : Class) (of : SystemType) (none : Axes) (from : Option ℕ) → IsSeen of none [] → Holds tree from → Noted tree c of from none from
+pub noted-first : (tree : Item) (c : Class) (of : SystemType) (none : AxesFacts) (from : Option ℕ) → HaveFacts of none [] → Holds tree from → Noted tree c of from none from
 noted-first tree c of none from seen holds = record { holds = holds; before = []; are = refl; seen = seen }
 
-pub noted-shaped : (tree : Item) (c : Class) (of : SystemType) (from : Option ℕ) (axes : Axes) (at : Option ℕ) (id : ℕ) → at ≡ Some id → HasId tree id →
+pub noted-shaped : (tree : Item) (c : Class) (of : SystemType) (from : Option ℕ) (axes : AxesFacts) (at : Option ℕ) (id : ℕ) → at ≡ Some id → HasId tree id →
     is_a c class.Axis (item_at tree id) ≡ true → AllShaped class.Axis (those c class.Axis (ahead tree from)) → Noted tree c of from axes at → Shaped class.Axis (item_at tree id)
 noted-shaped tree c of from axes at id same has is shaped so =
     each-here (Shaped class.Axis) so.before (item_at tree id) (those c class.Axis (rest_of (here tree id)))
     (subst (AllShaped class.Axis)
     (so.are ∙ ap (λ xs. so.before ++ xs) (ap (λ o. those c class.Axis (ahead tree o)) same ∙ those-first c class.Axis (here tree id) has is)) shaped)
 
-pub noted-on : (tree : Item) (c : Class) (of : SystemType) (from : Option ℕ) (seen : Seen) (old new : Axes) (at : Option ℕ) (id : ℕ) (next : Option ℕ) → at ≡ Some id → HasId tree id →
-    IsAt tree (rest_of (here tree id)) next → is_a c class.Axis (item_at tree id) ≡ true → Has tree (item_at tree id) seen → IsNoted tree of seen old new →
+pub noted-on : (tree : Item) (c : Class) (of : SystemType) (from : Option ℕ) (seen : AxisFacts) (old new : AxesFacts) (at : Option ℕ) (id : ℕ) (next : Option ℕ) → at ≡ Some id → HasId tree id →
+    IsAt tree (rest_of (here tree id)) next → is_a c class.Axis (item_at tree id) ≡ true → HasFacts tree (item_at tree id) seen → IsNoted tree of seen old new →
     Noted tree c of from old at → Noted tree c of from new next
 noted-on tree c of from seen old new at id next same has is-at is parts noted so = record {
   holds = holds_at tree (rest_of (here tree id)) next is-at;
@@ -130,10 +130,10 @@ noted-on tree c of from seen old new at id next same has is-at is parts noted so
   seen = seen-on tree of seen old new so.before (item_at tree id) noted parts so.seen;
 }
 
-pub noted-end : (tree : Item) (c : Class) (of : SystemType) (from : Option ℕ) (axes : Axes) (at : Option ℕ) → Noted tree c of from axes at → those c class.Axis (ahead tree at) ≡ [] →
-    IsSeen of axes (those c class.Axis (ahead tree from))
+pub noted-end : (tree : Item) (c : Class) (of : SystemType) (from : Option ℕ) (axes : AxesFacts) (at : Option ℕ) → Noted tree c of from axes at → those c class.Axis (ahead tree at) ≡ [] →
+    HaveFacts of axes (those c class.Axis (ahead tree from))
 noted-end tree c of from axes at so none =
-    subst (IsSeen of axes) (sym (so.are ∙ ap (λ xs. so.before ++ xs) none ∙ append-nil so.before)) so.seen
+    subst (HaveFacts of axes) (sym (so.are ∙ ap (λ xs. so.before ++ xs) none ∙ append-nil so.before)) so.seen
 
 -- ---- the parts of a CRS have their shapes
 
@@ -149,12 +149,12 @@ system-shaped tree c item layout cs shaped laid at only =
 
 -- ---- the whole
 
-pub laid-quiet : DenotesOne → Symmetric → Transitive → (tree : Item) (c : Class) (items : Siblings) (layout : Layout) (cs : ℕ) (of : SystemType) (axes : Axes) (shared : Option ℕ) →
+pub laid-passes : DenotesOne → Symmetric → Transitive → (tree : Item) (c : Class) (items : Siblings) (layout : Layout) (cs : ℕ) (of : SystemType) (axes : AxesFacts) (shared : Option ℕ) →
     IsLaid tree c items layout → layout.system ≡ Some cs → those c class.CoordinateSystem (here tree cs) ≡ item_at tree cs ∷ [] → HasType (item_at tree cs) of →
-    IsSeen of axes (those c class.Axis (ahead tree layout.axes)) → those c class.AxisUnit (ahead tree layout.unit) ≡ the_one tree shared →
+    HaveFacts of axes (those c class.Axis (ahead tree layout.axes)) → those c class.AxisUnit (ahead tree layout.unit) ≡ the_one tree shared →
     ((list : List Item) → length list ≡ axes.count → IsLeast (OfHead (dimensions_of c) list (item_at tree cs)) None) → AreOrdered axes (those c class.Axis items) → UnitsFit tree axes shared →
-    IsLeast (RepeatsAny c (ahead tree layout.tail) once) None → IsQuiet c items
-laid-quiet law symmetric transitive tree c items layout cs of axes shared laid at only typed noted unit head ordered fit repeats = record {
+    IsLeast (RepeatsAny c (ahead tree layout.tail) once) None → PassesButDynamic c items
+laid-passes law symmetric transitive tree c items layout cs of axes shared laid at only typed noted unit head ordered fit repeats = record {
   repeats = λ f h. repeats f (repeats-back c once items (ahead tree layout.tail) laid.single f h);
   systems = rw (laid.unit ∙ unit)
       (systems-none (dimensions_of c) (those c class.CoordinateSystem items) (those c class.Axis items) (the_one tree shared) (item_at tree cs)
@@ -162,5 +162,5 @@ laid-quiet law symmetric transitive tree c items layout cs of axes shared laid a
       (ordered-none law symmetric transitive of axes (those c class.Axis items) seen ordered) (units-none tree (item_at tree cs) of axes (those c class.Axis items) shared typed seen fit));
 }
   where
-    seen : IsSeen of axes (those c class.Axis items)
-    seen = subst (IsSeen of axes) (sym laid.axes) noted
+    seen : HaveFacts of axes (those c class.Axis items)
+    seen = subst (HaveFacts of axes) (sym laid.axes) noted

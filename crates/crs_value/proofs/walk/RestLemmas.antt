@@ -9,16 +9,16 @@ use Rattle.crs_shape.specs.declared.system_type.SystemType.{SystemType}
 use Rattle.crs_shape.specs.declared.unit_kind.UnitKind.{UnitKind}
 use Rattle.crs_shape.specs.declared.unit_kind.UnitKind.TheVariants as kinds
 use Rattle.crs_shape.specs.Prelude.{IsOneOf, class_in}
-use Rattle.crs_value.specs.declared.judging.quiet.Axes.{Axes}
-use Rattle.crs_value.specs.Checks.{BadDynamic, orders_in, ReadsOrder, OneHas, LacksOrder, SomeHasOrder, IsBadOrder, BadOrders, BadOrder, Asks, AllAsk, IsSuperfluous, HasOwnUnit, BadOwnUnit, BadUnit, AnyOf, IsLeast, BreaksAmong, HasSystem, OfHead, BadSystems, Own, IsRepeated, RepeatsAny}
+use Rattle.crs_value.specs.declared.judging.quick_checks.AxesFacts.{AxesFacts}
+use Rattle.crs_value.specs.Checks.{BadDynamic, orders_in, SomeHasOrder, IsBadOrder, BadOrders, BadOrder, Asks, AllAsk, IsSuperfluous, HasOwnUnit, BadOwnUnit, BadUnit, AnyOf, IsLeast, BreaksAmong, HasSystem, OfHead, BadSystems, Own, IsRepeated, RepeatsAny}
 use Rattle.crs_value.specs.Least.{lesser}
-use Rattle.crs_value.specs.Reading.{Each, OneIs, item_at, is_a, ahead, those, ReadsFirst}
+use Rattle.crs_value.specs.Reading.{Each, OneIs, item_at, is_a, ahead, those}
 use Rattle.crs_value.specs.Reads.{HasType}
-use Rattle.crs_value.specs.Seen.{the_one, AreOrdered, IsSeen, UnitsFit, IsQuiet, rank, Climbs}
+use Rattle.crs_value.specs.QuickChecks.{the_one, AreOrdered, HaveFacts, UnitsFit, PassesButDynamic, rank, Climbs}
 use Rattle.crs_value.specs.WholeNumbers.{IsWholeOf}
 use Rattle.crs_value.proofs.checked.OwnLemmas.{crs-of-own, own-of-crs}
 use Rattle.crs_value.proofs.found.FirstArgumentsLemmas.{one-more}
-use Rattle.crs_value.proofs.found.ArgumentLemmas.{class-is, each-as, each-on}
+use Rattle.crs_value.proofs.found.ArgumentLemmas.{class-is, each-as}
 use Rattle.crs_value.proofs.checked.CheckLemmas.{DenotesOne}
 use Rattle.crs_value.proofs.checked.LeastLemmas.{either-is, least-beside}
 use Rattle.crs_value.proofs.checked.PlacedLemmas.{Symmetric, Transitive, placed-none}
@@ -57,7 +57,7 @@ any-none B [] h f k = k
 any-none B (item ∷ items) h f (inl k) = h.0 f k
 any-none B (item ∷ items) h f (inr k) = any-none B items h.1 f k
 
-pub ordered-none : DenotesOne → Symmetric → Transitive → (of : SystemType) (seen : Axes) (axes : List Item) → IsSeen of seen axes → AreOrdered seen axes → IsLeast (BadOrder axes) None
+pub ordered-none : DenotesOne → Symmetric → Transitive → (of : SystemType) (seen : AxesFacts) (axes : List Item) → HaveFacts of seen axes → AreOrdered seen axes → IsLeast (BadOrder axes) None
 ordered-none law symmetric transitive of seen axes s (inl e) f h = placed-none law symmetric transitive axes (s.placed e) f h
 ordered-none law symmetric transitive of seen axes s (inr (inl e)) f (inl h) = some-has axes (s.none e) h.0
 ordered-none law symmetric transitive of seen axes s (inr (inl e)) f (inr h) = none-has axes (s.none e) (length axes) [] f h.1
@@ -69,7 +69,7 @@ all-ask : (cs : Item) (kind : UnitKind) (axes : List Item) → Each (λ a. Asks 
 all-ask cs kind [] h = tt
 all-ask cs kind (axis ∷ axes) h = (h.0, all-ask cs kind axes h.1)
 
-pub units-none : (tree cs : Item) (of : SystemType) (seen : Axes) (axes : List Item) (shared : Option ℕ) → HasType cs of → IsSeen of seen axes → UnitsFit tree seen shared →
+pub units-none : (tree cs : Item) (of : SystemType) (seen : AxesFacts) (axes : List Item) (shared : Option ℕ) → HasType cs of → HaveFacts of seen axes → UnitsFit tree seen shared →
     IsLeast (BadUnit axes (the_one tree shared) cs) None
 units-none tree cs of seen axes None t s fit f h = any-none (BadOwnUnit cs) axes (s.fit fit cs t) f h
 units-none tree cs of seen axes (Some unit) t s fit f (inl h) =
@@ -135,12 +135,12 @@ climbing-on tree c from at id next last now found same has is named climbs h = r
 
 -- ---- a whole CRS
 
-own-dynamic : (c : Class) (item : Item) → HasSystem c → IsQuiet c (arguments item) → (f : RefusedAt) → Own c item f → BadDynamic c item f
+own-dynamic : (c : Class) (item : Item) → HasSystem c → PassesButDynamic c (arguments item) → (f : RefusedAt) → Own c item f → BadDynamic c item f
 own-dynamic c item s q f h = ⊎_elim (λ k. absurd (q.repeats f k)) (⊎_elim (λ k. absurd (q.systems f k)) (λ k. k)) (crs-of-own c item f s h)
 
 -- what such a CRS breaks, within it and by itself
-pub quiet-whole : (c : Class) (item : Item) (inside dynamic whole : Option RefusedAt) → HasSystem c → IsQuiet c (arguments item) → IsLeast (BreaksAmong c (arguments item)) inside →
+pub passes-whole : (c : Class) (item : Item) (inside dynamic whole : Option RefusedAt) → HasSystem c → PassesButDynamic c (arguments item) → IsLeast (BreaksAmong c (arguments item)) inside →
     IsLeast (BadDynamic c item) dynamic → whole ≡ lesser inside dynamic → IsLeast (λ f. BreaksAmong c (arguments item) f ⊎ Own c item f) whole
-quiet-whole c item inside dynamic whole system quiet within bad is =
+passes-whole c item inside dynamic whole system quiet within bad is =
     least-beside (BreaksAmong c (arguments item)) (BadDynamic c item) (Own c item) whole (λ f h. own-of-crs c item f system (inr (inr h))) (own-dynamic c item system quiet)
     (either-is (BreaksAmong c (arguments item)) (BadDynamic c item) inside dynamic whole is within bad)

@@ -3,12 +3,12 @@ use Rattle.std.proofs.Common.{◌≡◌, ℕ, ◌+◌, length, true, false, Opti
 use Rattle.crs_text.specs.Prelude.{Item}
 use Rattle.crs_shape.specs.declared.system_type.SystemType.{SystemType}
 use Rattle.crs_shape.specs.declared.unit_kind.UnitKind.TheVariants as kinds
-use Rattle.crs_value.specs.declared.judging.quiet.Axes.{Axes}
-use Rattle.crs_value.specs.declared.judging.quiet.Seen.{Seen}
+use Rattle.crs_value.specs.declared.judging.quick_checks.AxesFacts.{AxesFacts}
+use Rattle.crs_value.specs.declared.judging.quick_checks.AxisFacts.{AxisFacts}
 use Rattle.crs_value.specs.Checks.{orders_in, units_in, Asks, BadOwnUnit, IsLeast}
 use Rattle.crs_value.specs.FoundArguments.{AreInOrder, HasPlace}
 use Rattle.crs_value.specs.Reading.{Each}
-use Rattle.crs_value.specs.Seen.{the_one, Has, IsNoted, IsSeen}
+use Rattle.crs_value.specs.QuickChecks.{the_one, HasFacts, IsNoted, HaveFacts}
 use Rattle.crs_value.proofs.found.ArgumentLemmas.{each-on}
 
 -- ---- orders
@@ -20,8 +20,8 @@ in-order-on n (y ∷ ys) x h p =
 
 -- ---- what is seen
 
-pub seen-on : (tree : Item) (of : SystemType) (seen : Seen) (old new : Axes) (before : List Item) (x : Item) → IsNoted tree of seen old new → Has tree x seen → IsSeen of old before →
-    IsSeen of new (before ++ x ∷ [])
+pub seen-on : (tree : Item) (of : SystemType) (seen : AxisFacts) (old new : AxesFacts) (before : List Item) (x : Item) → IsNoted tree of seen old new → HasFacts tree x seen → HaveFacts of old before →
+    HaveFacts of new (before ++ x ∷ [])
 seen-on tree of seen old new before x noted has s = record {
   count = counted;
   placed = λ e. in-order-on 1 before x (s.placed (noted.placed e).0) (subst (λ k. HasPlace k x) next ((noted.placed e).1 x has.orders));
@@ -41,13 +41,13 @@ seen-on tree of seen old new before x noted has s = record {
     next : new.count ≡ 1 + length before
     next = let k = noted.counted in let n = s.count in omega (arith, k, n)
 
-pub nothing-seen : (of : SystemType) → IsSeen of (record {
+pub nothing-seen : (of : SystemType) → HaveFacts of (record {
   count = 0;
-  ordered = true;
-  orderless = true;
-  own = true;
-  alone = true;
-  lengths = true;
-  angles = true;
+  orders_are_places = true;
+  no_orders = true;
+  own_units_fit = true;
+  no_own_units = true;
+  all_lengths = true;
+  all_angles = true;
 }) []
 nothing-seen of = record { count = refl; placed = λ e. tt; none = λ e. tt; fit = λ e cs t. tt; free = λ e. tt; long = λ e cs t. tt; turned = λ e cs t. tt }

@@ -11,7 +11,7 @@ ghost use Rattle.crs_value.specs.Reading.{item_at, those, Requires, TakesOne};
 
 use crate::checks::crs::{bad_dynamic, repeated_anchors, repeats_once, type_of};
 use crate::checks::{Check, any_from, lesser, only_of, refusal_at};
-use crate::judging::quiet::is_ascending;
+use crate::judging::quick_checks::is_ascending;
 use crate::reading::arguments::{first, later};
 use crate::reading::cursor::Cursor;
 use crate::reading::firsts::firsts_of;

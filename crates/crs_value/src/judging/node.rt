@@ -10,12 +10,12 @@ ghost use Rattle.crs_value.specs.FoundArguments.{IsAmong};
 ghost use Rattle.crs_value.specs.Judged.{class_at, Answers, Judged};
 ghost use Rattle.crs_value.specs.Least.{lesser};
 ghost use Rattle.crs_value.specs.Reading.{item_at, Holds};
-ghost use Rattle.crs_value.specs.Seen.{is_head, is_tail, rest_slots, Laid};
+ghost use Rattle.crs_value.specs.QuickChecks.{is_head, is_tail, rest_slots, Laid};
 
 use crate::checks::crs::{bad_dynamic, whole_crs};
 use crate::checks::lesser;
 use crate::checks::own::own_of_part;
-use crate::judging::quiet::{Layout, is_quiet};
+use crate::judging::quick_checks::{Layout, passes_at_once};
 use crate::judging::slots::{
     Any, Either, End, Found, One, OneOrMore, Optional, Parent, Part, Slot, Slots, Then, chain,
     ends, judge_crs, taken,
@@ -121,6 +121,7 @@ fn crs_judged<H: Slots, T: Part>(
     ensures { Judged class (item_at items.now id) found.old result found.new }
 {
     laws::walk_finds_the_fault();
+    // A word or a number, which alone aren't closed, is no CRS, and has no arguments that could be wrong.
     let Some(close) = items.close(id) else {
         return true
     };
@@ -138,7 +139,7 @@ fn crs_judged<H: Slots, T: Part>(
     let first = items.arg(id, 0);
     let dynamic = first_from(items, first, layout.system, class, Class::Dynamic);
     // Mostly its own checks are seen at once to hold.
-    if is_quiet(items, id, class, layout) {
+    if passes_at_once(items, id, class, layout) {
         let own = bad_dynamic(&Cursor { items, id, class }, dynamic);
         join(found, lesser(inside, own));
         return true;
@@ -296,6 +297,7 @@ pub(crate) fn root_judged(items: &Items<'_>, id: ItemId, class: Class, found: &m
 {
     match class {
         Class::CompoundCrs => match items.close(id) {
+            // No CRS: see `crs_judged`.
             None => true,
             Some(close) => node_judged::<row!(CompoundCrs, chain, ())>(
                 items, id, class, close, found,

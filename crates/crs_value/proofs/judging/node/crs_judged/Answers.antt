@@ -4,7 +4,7 @@ use Rattle.crs_value.proofs.checked.OwnLemmas.{own-crs}
 use Rattle.crs_value.proofs.found.ArgumentLemmas.{holds_at}
 use Rattle.crs_value.proofs.walk.JudgedLemmas.{inside-least, leaf-judged, shaped-by, walked-all, with-fault, with-whole}
 use Rattle.crs_value.proofs.walk.LayoutLemmas.{laid-arguments}
-use Rattle.crs_value.proofs.walk.RestLemmas.{quiet-whole}
+use Rattle.crs_value.proofs.walk.RestLemmas.{passes-whole}
 use Rattle.crs_value.proofs.judging.node.crs_judged.Goals as goal
 
 pub returns-in_default : goal.returns-in_default
@@ -17,24 +17,24 @@ pub returns-in_default-laid : goal.returns-in_default-laid
 returns-in_default-laid g c =
     with-fault _ _ _ _ _ (walked-all _ _ _ _ _ _ _ _ _ _ c.requires.of (sym c.in-Some.ensures) c.arg.ensures c.requires.slots refl c.in_default-laid.ensures)
 
-pub is_quiet-requires-clause-shaped : goal.is_quiet-requires-clause-shaped
-is_quiet-requires-clause-shaped g c =
+pub passes_at_once-requires-clause-shaped : goal.passes_at_once-requires-clause-shaped
+passes_at_once-requires-clause-shaped g c =
     shaped-by c.walk_finds_the_fault.ensures.none _ _ _ _
     (walked-all _ _ _ _ _ _ _ _ _ _ c.requires.of (sym c.in-Some.ensures) c.arg.ensures c.requires.slots refl c.in-Some-laid.ensures.0)
 
-pub is_quiet-requires-clause-laid : goal.is_quiet-requires-clause-laid
-is_quiet-requires-clause-laid g c = laid-arguments _ _ _ _ _ c.arg.ensures c.in-Some-laid.ensures.1.0
+pub passes_at_once-requires-clause-laid : goal.passes_at_once-requires-clause-laid
+passes_at_once-requires-clause-laid g c = laid-arguments _ _ _ _ _ c.arg.ensures c.in-Some-laid.ensures.1.0
 
 pub bad_dynamic-own-requires-clause-shaped : goal.bad_dynamic-own-requires-clause-shaped
 bad_dynamic-own-requires-clause-shaped g c =
     shaped-by c.walk_finds_the_fault.ensures.none _ _ _ _
     (walked-all _ _ _ _ _ _ _ _ _ _ c.requires.of (sym c.in-Some.ensures) c.arg.ensures c.requires.slots refl c.in-Some-laid.ensures.0)
 
-pub returns-then-is_quiet : goal.returns-then-is_quiet
-returns-then-is_quiet g c =
+pub returns-then-passes_at_once : goal.returns-then-passes_at_once
+returns-then-passes_at_once g c =
     let walked = walked-all _ _ _ _ _ _ _ _ _ _ c.requires.of (sym c.in-Some.ensures) c.arg.ensures c.requires.slots refl c.in-Some-laid.ensures.0 in
     with-whole c.args.class (item_at c.args.items.now c.args.id) _ _ _ _ _ (sym c.in-Some.ensures) walked
-    (quiet-whole c.args.class (item_at c.args.items.now c.args.id) _ _ _ c.requires.system (c.is_quiet.ensures c.if-is_quiet.true) (inside-least c.args.class (item_at c.args.items.now c.args.id) _ walked) c.bad_dynamic-own.ensures c.lesser.ensures) c.join.ensures
+    (passes-whole c.args.class (item_at c.args.items.now c.args.id) _ _ _ c.requires.system (c.passes_at_once.ensures c.if-passes_at_once.true) (inside-least c.args.class (item_at c.args.items.now c.args.id) _ walked) c.bad_dynamic-own.ensures c.lesser.ensures) c.join.ensures
 
 pub whole_crs-requires-clause-shaped : goal.whole_crs-requires-clause-shaped
 whole_crs-requires-clause-shaped g c =

@@ -1,6 +1,6 @@
 use Rattle.crs_value.specs.Reading.{item_at}
 use Rattle.crs_value.proofs.checked.UnitLemmas.{own-fits}
-use Rattle.crs_value.proofs.judging.quiet.fits_own.Goals as goal
+use Rattle.crs_value.proofs.judging.quick_checks.fits_own.Goals as goal
 
 pub returns-in-Some : goal.returns-in-Some
 returns-in-Some c = λ yes cs axis asks units.

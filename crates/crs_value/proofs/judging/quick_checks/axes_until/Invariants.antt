@@ -1,7 +1,7 @@
 use Rattle.crs_text.specs.Prelude.{count}
 use Rattle.crs_value.specs.Reading.{ahead}
 use Rattle.crs_value.proofs.walk.LayoutLemmas.{Noted}
-use Rattle.crs_value.proofs.judging.quiet.axes_until.Given as goal
+use Rattle.crs_value.proofs.judging.quick_checks.axes_until.Given as goal
 
 abbrev pub invariant-loop-at : goal.invariant-loop-at
 invariant-loop-at l = Noted l.items l.class l.system_type l.fn.from l.axes l.at

@@ -1,4 +1,4 @@
--- A bridge: what one walk sees of axes beside one another, and of a CRS from its node `CS` on.
+-- A bridge: the quick checks of a CRS, by what one walk sees of axes beside one another, and of a CRS from its node `CS` on.
 use Rattle.std.specs.Prelude.{◌≡◌, ℕ, ◌+◌, ◌<◌, ◌≤◌, length, ◌⊎◌, true, false}
 use Rattle.std.specs.Prelude.{List, [], ◌∷◌, Option, Some, None, Bool, not}
 use Rattle.std.specs.List.{list_any, list_all}
@@ -12,9 +12,9 @@ use Rattle.crs_shape.specs.Shaped.{Shaped}
 use Rattle.crs_shape.specs.Slots.{SlotParts, one, optional, some, takes}
 use Rattle.crs_shape.specs.Dimensions.{dimensions_of}
 use Rattle.crs_shape.specs.UnitKinds.{asked_kind}
-use Rattle.crs_value.specs.declared.judging.quiet.Axes.{Axes}
-use Rattle.crs_value.specs.declared.judging.quiet.Seen.{Seen}
-use Rattle.crs_value.specs.declared.judging.quiet.Layout.{Layout}
+use Rattle.crs_value.specs.declared.judging.quick_checks.AxesFacts.{AxesFacts}
+use Rattle.crs_value.specs.declared.judging.quick_checks.AxisFacts.{AxisFacts}
+use Rattle.crs_value.specs.declared.judging.quick_checks.Layout.{Layout}
 use Rattle.crs_value.specs.Checks.{BadOrder, orders_in, units_in, Asks, Fits, BadOwnUnit, IsLeast, once, BadSystems, RepeatsAny}
 use Rattle.crs_value.specs.FoundArguments.{AreInOrder, HasPlace}
 use Rattle.crs_value.specs.Judged.{Walked}
@@ -42,7 +42,7 @@ pub record IsBehindName (tree axis : Item) (word : ℕ) : Type 0 where
   pub units : units_in axis ≡ those class.Axis class.AxisUnit (rest_of (here tree word))
 
 -- an axis's direction, and its only order and its only unit, where it has them
-pub record Has (tree axis : Item) (seen : Seen) : Type 0 where
+pub record HasFacts (tree axis : Item) (seen : AxisFacts) : Type 0 where
   pub direction : ReadsFirst ReadsDirection (those class.Axis class.Word (arguments axis)) seen.direction
   pub orders : orders_in axis ≡ the_one tree seen.order
   pub order : IsShaped tree class.Order seen.order
@@ -50,47 +50,47 @@ pub record Has (tree axis : Item) (seen : Seen) : Type 0 where
   pub unit : IsShaped tree class.AxisUnit seen.unit
 
 -- what was seen of some axes, and with one more that has these parts
-pub record IsNoted (tree : Item) (of : SystemType) (seen : Seen) (old new : Axes) : Type 0 where
+pub record IsNoted (tree : Item) (of : SystemType) (seen : AxisFacts) (old new : AxesFacts) : Type 0 where
   pub counted : new.count ≡ old.count + 1
-  pub placed : new.ordered ≡ true → (old.ordered ≡ true) × ((axis : Item) →
+  pub placed : new.orders_are_places ≡ true → (old.orders_are_places ≡ true) × ((axis : Item) →
       orders_in axis ≡ the_one tree seen.order → HasPlace new.count axis)
-  pub none : new.orderless ≡ true → (old.orderless ≡ true) × (seen.order ≡ None)
-  pub fit : new.own ≡ true → (old.own ≡ true) × ((cs axis : Item) →
+  pub none : new.no_orders ≡ true → (old.no_orders ≡ true) × (seen.order ≡ None)
+  pub fit : new.own_units_fit ≡ true → (old.own_units_fit ≡ true) × ((cs axis : Item) →
       Asks cs axis (asked_kind of seen.direction) → units_in axis ≡ the_one tree seen.unit →
       IsLeast (BadOwnUnit cs axis) None)
-  pub free : new.alone ≡ true → (old.alone ≡ true) × (seen.unit ≡ None)
-  pub long : new.lengths ≡ true →
-      (old.lengths ≡ true) × (asked_kind of seen.direction ≡ kinds.Length)
-  pub turned : new.angles ≡ true →
-      (old.angles ≡ true) × (asked_kind of seen.direction ≡ kinds.Angle)
+  pub free : new.no_own_units ≡ true → (old.no_own_units ≡ true) × (seen.unit ≡ None)
+  pub long : new.all_lengths ≡ true →
+      (old.all_lengths ≡ true) × (asked_kind of seen.direction ≡ kinds.Length)
+  pub turned : new.all_angles ≡ true →
+      (old.all_angles ≡ true) × (asked_kind of seen.direction ≡ kinds.Angle)
 
 -- what was seen of these axes
-pub record IsSeen (of : SystemType) (axes : Axes) (before : List Item) : Type 0 where
+pub record HaveFacts (of : SystemType) (axes : AxesFacts) (before : List Item) : Type 0 where
   pub count : axes.count ≡ length before
-  pub placed : axes.ordered ≡ true → AreInOrder 1 before
-  pub none : axes.orderless ≡ true → Each (λ a. orders_in a ≡ []) before
-  pub fit : axes.own ≡ true → (cs : Item) → HasType cs of →
+  pub placed : axes.orders_are_places ≡ true → AreInOrder 1 before
+  pub none : axes.no_orders ≡ true → Each (λ a. orders_in a ≡ []) before
+  pub fit : axes.own_units_fit ≡ true → (cs : Item) → HasType cs of →
       Each (λ a. IsLeast (BadOwnUnit cs a) None) before
-  pub free : axes.alone ≡ true → Each (λ a. units_in a ≡ []) before
-  pub long : axes.lengths ≡ true → (cs : Item) → HasType cs of →
+  pub free : axes.no_own_units ≡ true → Each (λ a. units_in a ≡ []) before
+  pub long : axes.all_lengths ≡ true → (cs : Item) → HasType cs of →
       Each (λ a. Asks cs a kinds.Length) before
-  pub turned : axes.angles ≡ true → (cs : Item) → HasType cs of →
+  pub turned : axes.all_angles ≡ true → (cs : Item) → HasType cs of →
       Each (λ a. Asks cs a kinds.Angle) before
 
 -- ---- from the node `CS` on
 
 -- the orders of axes are those from 1 on, one after another, or no axis has one, or else they break no check
-abbrev pub AreOrdered : Axes → List Item → Type 0
+abbrev pub AreOrdered : AxesFacts → List Item → Type 0
 AreOrdered axes list =
-    (axes.ordered ≡ true) ⊎ (axes.orderless ≡ true) ⊎ IsLeast (BadOrder list) None
+    (axes.orders_are_places ≡ true) ⊎ (axes.no_orders ≡ true) ⊎ IsLeast (BadOrder list) None
 
 -- the units fit: each axis has its own, or none has one, and the shared one fits what all ask for
-abbrev pub UnitsFit : Item → Axes → Option ℕ → Type 0
-UnitsFit tree axes None = axes.own ≡ true
+abbrev pub UnitsFit : Item → AxesFacts → Option ℕ → Type 0
+UnitsFit tree axes None = axes.own_units_fit ≡ true
 UnitsFit tree axes (Some unit) =
-    (axes.alone ≡ true)
-    × (((axes.lengths ≡ true) × Fits (item_at tree unit) kinds.Length)
-    ⊎ ((axes.angles ≡ true) × Fits (item_at tree unit) kinds.Angle))
+    (axes.no_own_units ≡ true)
+    × (((axes.all_lengths ≡ true) × Fits (item_at tree unit) kinds.Length)
+    ⊎ ((axes.all_angles ≡ true) × Fits (item_at tree unit) kinds.Angle))
 
 -- the slots from that of a node `CS` on, with what may be at the end
 abbrev pub rest_slots : SlotParts → List SlotParts
@@ -98,7 +98,7 @@ rest_slots slot =
     one class.CoordinateSystem ∷ some class.Axis ∷ optional class.AxisUnit ∷ slot ∷ []
 
 -- these arguments break no check of a CRS but perhaps that of dynamic parts
-pub record IsQuiet (c : Class) (items : Siblings) : Type 0 where
+pub record PassesButDynamic (c : Class) (items : Siblings) : Type 0 where
   pub repeats : IsLeast (RepeatsAny c items once) None
   pub systems : IsLeast (BadSystems (dimensions_of c) (those c class.CoordinateSystem items)
       (those c class.Axis items) (those c class.AxisUnit items)) None

@@ -1,7 +1,7 @@
 use Rattle.crs_value.specs.Reading.{ahead}
 use Rattle.crs_value.proofs.found.ArgumentLemmas.{has-some, holds_at}
 use Rattle.crs_value.proofs.walk.RestLemmas.{climbing-first, climbing-on}
-use Rattle.crs_value.proofs.judging.quiet.is_ascending.Goals as goal
+use Rattle.crs_value.proofs.judging.quick_checks.is_ascending.Goals as goal
 
 pub loop-at-init : goal.loop-at-init
 loop-at-init c = record { holds = c.requires; climbing = climbing-first c.args.parent (ahead c.args.items.now c.args.from) }

@@ -1,5 +1,5 @@
-//! Whether the checks of a CRS by itself are seen at once to hold, as they mostly do, where the walk for its shape has
-//! told where its parts begin.
+//! Quick checks: whether a CRS's own checks are seen at once to hold, as they mostly do, where the walk for its shape
+//! has told where its parts begin.
 ghost use Rattle.std.specs.Prelude.{◌≡◌, ◌≤◌, ◌+◌, ◌^◌, ◌<◌, IfSome, IsTrue, None, true, length, List, [], ◌∷◌};
 ghost use Rattle.crs_text.specs.Items.{Item, HasId, arguments, here};
 ghost use Rattle.crs_shape.specs.declared.class.Class.{Class};
@@ -9,7 +9,7 @@ ghost use Rattle.crs_value.specs.Checks.{orders_in, units_in, once, Asks, BadOwn
 ghost use Rattle.crs_value.specs.FoundArguments.{AllShaped, HasPlace};
 ghost use Rattle.crs_value.specs.Reading.{item_at, is_a, ahead, those, Holds};
 ghost use Rattle.crs_value.specs.Reads.{HasType};
-ghost use Rattle.crs_value.specs.Seen.{rank, the_one, AreOrdered, Climbs, Has, IsBehindName, IsHeld, IsLaid, IsNoted, IsQuiet, IsSeen, IsShaped, UnitsFit};
+ghost use Rattle.crs_value.specs.QuickChecks.{rank, the_one, AreOrdered, Climbs, HasFacts, IsBehindName, IsHeld, IsLaid, IsNoted, PassesButDynamic, HaveFacts, IsShaped, UnitsFit};
 
 use crate::checks::axes::{bad_order, fits, same_kind};
 use crate::checks::crs::type_of;
@@ -32,7 +32,7 @@ pub(crate) struct Layout {
 
 // What an axis has that is checked beside the others: its direction, and its order and unit where they are written.
 #[derive(Clone, Copy)]
-struct Seen {
+struct AxisFacts {
     direction: Direction,
     order: Option<ItemId>,
     unit: Option<ItemId>,
@@ -41,40 +41,40 @@ struct Seen {
 // How many axes there are; whether each has an order, which is its place among them; whether none has an order; whether
 // each has a unit that fits; whether none has a unit; and whether each asks for a length, or for an angle.
 #[derive(Clone, Copy)]
-struct Axes {
+struct AxesFacts {
     count: usize,
-    ordered: bool,
-    orderless: bool,
-    own: bool,
-    alone: bool,
-    lengths: bool,
-    angles: bool,
+    orders_are_places: bool,
+    no_orders: bool,
+    own_units_fit: bool,
+    no_own_units: bool,
+    all_lengths: bool,
+    all_angles: bool,
 }
 
 // No axis was seen yet.
-const NONE: Axes = Axes {
+const NONE: AxesFacts = AxesFacts {
     count: 0,
-    ordered: true,
-    orderless: true,
-    own: true,
-    alone: true,
-    lengths: true,
-    angles: true,
+    orders_are_places: true,
+    no_orders: true,
+    own_units_fit: true,
+    no_own_units: true,
+    all_lengths: true,
+    all_angles: true,
 };
 
 // No CRS has more axes.
 const MOST: usize = 3;
 
 // What an axis has; None where its word is no direction.
-fn seen_of(items: &Items<'_>, axis: ItemId) -> Option<Seen>
+fn facts_of(items: &Items<'_>, axis: ItemId) -> Option<AxisFacts>
     requires has { HasId items.now axis }
     requires shaped { Shaped Class.Axis (item_at items.now axis) }
-    ensures { IfSome result (λ seen. Has items.now (item_at items.now axis) seen) }
+    ensures { IfSome result (HasFacts items.now (item_at items.now axis)) }
 {
     crs_shape::laws::slots_count();
     let word = word_behind_name(items, axis)?;
     let direction = Direction::read(items.raw(word))?;
-    Some(Seen {
+    Some(AxisFacts {
         direction,
         order: later(items, word, Class::Axis, Class::Order),
         unit: later(items, word, Class::Axis, Class::AxisUnit),
@@ -121,23 +121,23 @@ fn fits_own(items: &Items<'_>, unit: Option<ItemId>, kind: UnitKind) -> bool
 }
 
 // One axis more.
-fn noted(items: &Items<'_>, system_type: SystemType, seen: Seen, axes: Axes) -> Axes
-    requires order { IsShaped items.now Class.Order seen.order }
-    requires unit { IsShaped items.now Class.AxisUnit seen.unit }
+fn noted(items: &Items<'_>, system_type: SystemType, facts: AxisFacts, axes: AxesFacts) -> AxesFacts
+    requires order { IsShaped items.now Class.Order facts.order }
+    requires unit { IsShaped items.now Class.AxisUnit facts.unit }
     requires bound { axes.count + 1 < 2 ^ 64 }
-    ensures { IsNoted items.now system_type seen axes result }
+    ensures { IsNoted items.now system_type facts axes result }
 {
-    let kind = system_type.asked_kind(seen.direction);
+    let kind = system_type.asked_kind(facts.direction);
     let count = axes.count + 1;
     // By `&`, no test asks what the walk found before: mostly all hold.
-    Axes {
+    AxesFacts {
         count,
-        ordered: axes.ordered & has_place(items, seen.order, count),
-        orderless: axes.orderless & seen.order.is_none(),
-        own: axes.own & fits_own(items, seen.unit, kind),
-        alone: axes.alone & seen.unit.is_none(),
-        lengths: axes.lengths & same_kind(kind, UnitKind::Length),
-        angles: axes.angles & same_kind(kind, UnitKind::Angle),
+        orders_are_places: axes.orders_are_places & has_place(items, facts.order, count),
+        no_orders: axes.no_orders & facts.order.is_none(),
+        own_units_fit: axes.own_units_fit & fits_own(items, facts.unit, kind),
+        no_own_units: axes.no_own_units & facts.unit.is_none(),
+        all_lengths: axes.all_lengths & same_kind(kind, UnitKind::Length),
+        all_angles: axes.all_angles & same_kind(kind, UnitKind::Angle),
     }
 }
 
@@ -162,11 +162,11 @@ fn axes_until(
     from: Option<ItemId>,
     until: Option<ItemId>,
     system_type: SystemType,
-) -> Option<Axes>
+) -> Option<AxesFacts>
     requires holds { Holds items.now from }
     requires shaped { AllShaped Class.Axis (those class Class.Axis (ahead items.now from)) }
     requires none { those class Class.Axis (ahead items.now until) ≡ [] }
-    ensures { IfSome result (λ axes. IsSeen system_type axes (those class Class.Axis (ahead items.now from))) }
+    ensures { IfSome result (λ axes. HaveFacts system_type axes (those class Class.Axis (ahead items.now from))) }
 {
     let mut axes = NONE;
     let mut at = from;
@@ -180,8 +180,8 @@ fn axes_until(
         if !stands_as(items, axis, class, Class::Axis) {
             return None;
         }
-        let seen = seen_of(items, axis)?;
-        axes = noted(items, system_type, seen, axes);
+        let facts = facts_of(items, axis)?;
+        axes = noted(items, system_type, facts, axes);
         at = items.next(axis);
     }
     // Nothing is behind the axes.
@@ -234,13 +234,13 @@ fn head_fits(
 }
 
 // Whether the orders of a CRS's axes fit one another. Mostly each is the place of its axis, or there is none.
-fn is_ordered(items: &Items<'_>, id: ItemId, class: Class, axes: Axes) -> bool
+fn is_ordered(items: &Items<'_>, id: ItemId, class: Class, axes: AxesFacts) -> bool
     requires has { HasId items.now id }
     requires shaped { Shaped class (item_at items.now id) }
     ensures { IsTrue result → AreOrdered axes (those class Class.Axis (arguments (item_at items.now id))) }
 {
-    axes.ordered
-        || axes.orderless
+    axes.orders_are_places
+        || axes.no_orders
         || bad_order(&Cursor { items, id, class }, &firsts_of(items, id, class)).is_none()
 }
 
@@ -253,16 +253,18 @@ fn fits_all(items: &Items<'_>, unit: ItemId, all: bool, kind: UnitKind) -> bool
 }
 
 // Whether the units of the axes fit, with the one that they share.
-fn units_fit(items: &Items<'_>, axes: Axes, shared: Option<ItemId>) -> bool
+fn units_fit(items: &Items<'_>, axes: AxesFacts, shared: Option<ItemId>) -> bool
     requires { Holds items.now shared }
     ensures { IsTrue result → UnitsFit items.now axes shared }
 {
-    let Some(unit) = shared else { return axes.own };
-    if !axes.alone {
+    let Some(unit) = shared else {
+        return axes.own_units_fit
+    };
+    if !axes.no_own_units {
         return false;
     }
-    fits_all(items, unit, axes.lengths, UnitKind::Length)
-        || fits_all(items, unit, axes.angles, UnitKind::Angle)
+    fits_all(items, unit, axes.all_lengths, UnitKind::Length)
+        || fits_all(items, unit, axes.all_angles, UnitKind::Angle)
 }
 
 // The highest rank with one argument more, of this rank; None where it doesn't follow the others by rank.
@@ -316,12 +318,12 @@ pub(crate) fn is_ascending(items: &Items<'_>, from: Option<ItemId>, parent: Clas
 
 // Whether a CRS of this class is seen to break none of its own checks, that of dynamic parts aside. Where it isn't
 // seen, the CRS may still break none.
-pub(crate) fn is_quiet(items: &Items<'_>, id: ItemId, class: Class, layout: Layout) -> bool
+pub(crate) fn passes_at_once(items: &Items<'_>, id: ItemId, class: Class, layout: Layout) -> bool
     requires has { HasId items.now id }
     requires shaped { Shaped class (item_at items.now id) }
     requires held { IsHeld items.now layout }
     requires laid { IsLaid items.now class (arguments (item_at items.now id)) layout }
-    ensures { IsTrue result → IsQuiet class (arguments (item_at items.now id)) }
+    ensures { IsTrue result → PassesButDynamic class (arguments (item_at items.now id)) }
 {
     laws::denotes_one();
     laws::same_number_is_equivalence();

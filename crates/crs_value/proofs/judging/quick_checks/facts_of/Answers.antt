@@ -1,6 +1,6 @@
 use Rattle.crs_value.specs.Reading.{item_at}
 use Rattle.crs_value.proofs.walk.AxesLemmas.{axis-has}
-use Rattle.crs_value.proofs.judging.quiet.seen_of.Goals as goal
+use Rattle.crs_value.proofs.judging.quick_checks.facts_of.Goals as goal
 
 pub returns : goal.returns
 returns c =

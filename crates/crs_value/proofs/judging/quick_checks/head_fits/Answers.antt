@@ -2,7 +2,7 @@ use Rattle.std.proofs.Common.{refl}
 use Rattle.crs_shape.specs.Prelude.{dimensions_of}
 use Rattle.crs_value.specs.Reading.{item_at}
 use Rattle.crs_value.proofs.walk.RestLemmas.{head-none}
-use Rattle.crs_value.proofs.judging.quiet.head_fits.Goals as goal
+use Rattle.crs_value.proofs.judging.quick_checks.head_fits.Goals as goal
 
 pub returns : goal.returns
 returns c = λ yes axes e.

@@ -1,7 +1,7 @@
 use Rattle.crs_text.specs.Prelude.{count}
 use Rattle.crs_value.specs.Reading.{ahead, Holds}
 use Rattle.crs_value.proofs.walk.RestLemmas.{Climbing}
-use Rattle.crs_value.proofs.judging.quiet.is_ascending.Given as goal
+use Rattle.crs_value.proofs.judging.quick_checks.is_ascending.Given as goal
 
 abbrev pub invariant-loop-at : goal.invariant-loop-at
 invariant-loop-at l = record {

@@ -1,6 +1,6 @@
 use Rattle.std.proofs.Common.{◌≡◌, Bool, true, false, not, Option, Some, None, refl, sym, ◌∙◌, ap, is_some}
 use Rattle.std.proofs.lemmas.Bool.{and_parts}
-use Rattle.crs_value.proofs.judging.quiet.noted.Goals as goal
+use Rattle.crs_value.proofs.judging.quick_checks.noted.Goals as goal
 
 is-none : {V : Type 0} (o : Option V) (b : Bool) → is_some o ≡ not b → b ≡ true → o ≡ None
 is-none None b e f = refl

@@ -2,7 +2,7 @@ use Rattle.std.proofs.Common.{sym, ◌∙◌}
 use Rattle.crs_shape.specs.declared.class.Class.TheVariants as class
 use Rattle.crs_value.specs.Reading.{item_at}
 use Rattle.crs_value.proofs.walk.RestLemmas.{once-none, once-some}
-use Rattle.crs_value.proofs.judging.quiet.rank_of.Goals as goal
+use Rattle.crs_value.proofs.judging.quick_checks.rank_of.Goals as goal
 
 pub returns-then-stands_as : goal.returns-then-stands_as
 returns-then-stands_as c = once-some c.args.parent (item_at c.args.items.now c.args.id) class.Scope (sym c.stands_as.ensures ∙ c.if-stands_as.true)

@@ -1,7 +1,7 @@
 use Rattle.std.proofs.Common.{sym, ◌∙◌}
 use Rattle.crs_value.specs.Reading.{item_at}
 use Rattle.crs_value.proofs.walk.AxesLemmas.{behind-name}
-use Rattle.crs_value.proofs.judging.quiet.word_behind_name.Goals as goal
+use Rattle.crs_value.proofs.judging.quick_checks.word_behind_name.Goals as goal
 
 pub returns : goal.returns
 returns c =

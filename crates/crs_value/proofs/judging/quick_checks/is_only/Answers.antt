@@ -1,6 +1,6 @@
 use Rattle.std.proofs.Common.{sym, ◌∙◌}
 use Rattle.crs_value.proofs.walk.LayoutLemmas.{only-here}
-use Rattle.crs_value.proofs.judging.quiet.is_only.Goals as goal
+use Rattle.crs_value.proofs.judging.quick_checks.is_only.Goals as goal
 
 pub returns : goal.returns
 returns c = λ yes.

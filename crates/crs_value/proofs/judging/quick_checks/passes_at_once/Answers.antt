@@ -1,6 +1,6 @@
 use Rattle.crs_value.specs.Reading.{item_at}
-use Rattle.crs_value.proofs.walk.LayoutLemmas.{axes-shaped, laid-quiet, system-shaped}
-use Rattle.crs_value.proofs.judging.quiet.is_quiet.Goals as goal
+use Rattle.crs_value.proofs.walk.LayoutLemmas.{axes-shaped, laid-passes, system-shaped}
+use Rattle.crs_value.proofs.judging.quick_checks.passes_at_once.Goals as goal
 
 pub type_of-requires-clause-shaped : goal.type_of-requires-clause-shaped
 type_of-requires-clause-shaped c =
@@ -15,7 +15,7 @@ head_fits-requires-clause-shaped c =
 
 pub returns : goal.returns
 returns c = λ yes.
-    laid-quiet c.denotes_one.ensures c.same_number_is_equivalence.ensures.symmetric c.same_number_is_equivalence.ensures.transitive _ _ _
+    laid-passes c.denotes_one.ensures c.same_number_is_equivalence.ensures.symmetric c.same_number_is_equivalence.ensures.transitive _ _ _
     c.args.layout c.in-Some.cs c.in-Some-type_of.system_type c.in-Some-axes_until.axes c.in-Some-shared_unit.shared c.requires.laid c.in-Some.is (c.is_only.ensures c.if-not-is_only.false)
     c.in-Some-type_of.ensures c.in-Some-axes_until.ensures c.in-Some-shared_unit.ensures.unit (c.head_fits.ensures c.if-not-head_fits.false) (c.is_ordered.ensures c.if-not-is_ordered.false)
     (c.units_fit.ensures c.if-not-units_fit.false) (c.is_ascending.ensures yes)
