@@ -50,7 +50,7 @@ pub(crate) trait Check {
         ensures { IsLeast (Broken self.now items.now (item_at items.now id)) result };
 }
 
-// Whatever stands there, with this number.
+// A check that any item breaks: it is refused with this number.
 pub(crate) struct Refused<const NUMBER: u8>;
 
 impl<const NUMBER: u8> Check for Refused<NUMBER> {

@@ -39,7 +39,7 @@ pub(crate) fn repeated_anchors(node: &Cursor<'_, '_>) -> Option<Refusal>
     requires shaped { Shaped node.now.class (item node.now) }
     ensures { IsLeast (RepeatsAny node.now.class (arguments (item node.now)) anchors) result }
 {
-    let epochs = lesser(repeats(node, Class::AnchorEpoch), None);
+    let epochs = repeats(node, Class::AnchorEpoch);
     lesser(repeats(node, Class::Anchor), epochs)
 }
 
@@ -73,7 +73,7 @@ pub(crate) fn repeats_once(node: &Cursor<'_, '_>, firsts: &Firsts) -> Option<Ref
     requires shaped { Shaped node.now.class (item node.now) }
     ensures { IsLeast (RepeatsAny node.now.class (arguments (item node.now)) once) result }
 {
-    let remarks = lesser(again(node, Class::Remark, firsts.remark), None);
+    let remarks = again(node, Class::Remark, firsts.remark);
     let extents = lesser(again(node, Class::VerticalExtent, firsts.extent), remarks);
     let boxes = lesser(again(node, Class::BoundingBox, firsts.bbox), extents);
     let areas = lesser(again(node, Class::Area, firsts.area), boxes);

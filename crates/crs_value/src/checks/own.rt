@@ -244,7 +244,7 @@ pub(crate) fn compound(items: &Items<'_>, id: ItemId) -> Option<Refusal>
 {
     let class = Class::CompoundCrs;
     let node = Cursor { items, id, class };
-    let projected = lesser(bad_part(&node, Class::ProjectedCrs), None);
+    let projected = bad_part(&node, Class::ProjectedCrs);
     let geographic = lesser(bad_part(&node, Class::GeographicCrs), projected);
     let geodetic = lesser(bad_part(&node, Class::GeodeticCrs), geographic);
     lesser(repeated(&node), geodetic)

@@ -52,7 +52,7 @@ impl<'i, 'a> Cursor<'i, 'a> {
         self.optional_from(alloc, class, first(self.items, self.id, self.class, class))
     }
 
-    // The same, the first of the class having been looked for.
+    // The value of an argument of this class that may be missing; `found` is the first one.
     pub(crate) fn optional_from<T: Node<'a>>(
         &self,
         alloc: Global,
@@ -81,7 +81,7 @@ impl<'i, 'a> Cursor<'i, 'a> {
         self.many_from(alloc, class, first(self.items, self.id, self.class, class))
     }
 
-    // The same, the first of them having been looked for.
+    // The values of all arguments of this class; `found` is the first one.
     pub(crate) fn many_from<T: Node<'a> + Keyed>(
         &self,
         alloc: Global,
@@ -123,7 +123,7 @@ impl<'i, 'a> Cursor<'i, 'a> {
         self.optional_text_from(class, first(self.items, self.id, self.class, class))
     }
 
-    // The same, the first of the class having been looked for.
+    // The text of an argument of this class that may be missing; `found` is the first one.
     #[inline(always)]
     pub(crate) fn optional_text_from(&self, class: Class, found: Option<ItemId>) -> Option<&'a [u8]>
         requires sound { IsSound self.now.class (item self.now) }

@@ -146,7 +146,7 @@ impl<'a> Node<'a> for Axis<'a> {
     }
 }
 
-// Axes are no set.
+// Axes are no set, whose members are looked for by keys: `many` asks for the trait.
 impl Keyed for Axis<'_> {
     fn key(&self, _level: Level) -> u128 {
         0

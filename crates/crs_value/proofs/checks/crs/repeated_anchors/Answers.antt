@@ -1,14 +1,14 @@
-use Rattle.std.proofs.Common.{[], ◌∷◌}
+use Rattle.std.proofs.Common.{[], ◌∷◌, None, sym}
 use Rattle.crs_text.specs.Prelude.{arguments}
 use Rattle.crs_shape.specs.declared.class.Class.TheVariants as class
 use Rattle.crs_value.specs.Cursor.{item}
 use Rattle.crs_value.specs.Checks.{Repeats, RepeatsAny}
-use Rattle.crs_value.proofs.checked.LeastLemmas.{either-is}
+use Rattle.crs_value.proofs.checked.LeastLemmas.{either-is, lesser-none}
 use Rattle.crs_value.proofs.checks.crs.repeated_anchors.Goals as goal
 
 pub returns : goal.returns
 returns c =
     let node = c.args.node.now in
     let items = arguments (item node) in
-    either-is (Repeats node.class items class.Anchor) (RepeatsAny node.class items (class.AnchorEpoch ∷ [])) _ _ _ c.lesser.ensures c.repeats-2.ensures
-    (either-is (Repeats node.class items class.AnchorEpoch) (RepeatsAny node.class items []) _ _ _ c.lesser-epochs.ensures c.repeats.ensures (λ f h. h))
+    either-is (Repeats node.class items class.Anchor) (RepeatsAny node.class items (class.AnchorEpoch ∷ [])) _ _ _ c.lesser.ensures c.repeats.ensures
+    (either-is (Repeats node.class items class.AnchorEpoch) (RepeatsAny node.class items []) _ None _ (sym (lesser-none _)) c.repeats-epochs.ensures (λ f h. h))
