@@ -17,6 +17,7 @@ by f s = record {
   transitive = λ a b c r t. s.transitive (f a) (f b) (f c) r t;
 }
 
+-- two sets of parts, each of which is the same
 pub ◌⊗◌ : {A : Type 0} {R S : A → A → Type 0} → IsSameness R → IsSameness S → IsSameness (λ (a b : A). R a b × S a b)
 r ⊗ s = record {
   reflexive = λ a. (r.reflexive a, s.reflexive a);
@@ -33,16 +34,17 @@ in-words s there back = record {
   transitive = λ a b c p q. back a c (s.transitive a b c (there a b p) (there b c q));
 }
 
--- where all parts are the same exactly where the values agree: the former from the latter, and
--- conversely
+-- where all parts are the same exactly where the values agree: the former from the latter
 pub same-as : {A : Type 0} {S R : A → A → Type 0} → ((a b : A) → S a b ↔ R a b) → IsSameness R → IsSameness S
 same-as is r = in-words r (λ a b. (is a b).0) (λ a b. (is a b).1)
 
+-- the latter from the former
 pub agree-as : {A : Type 0} {S R : A → A → Type 0} → ((a b : A) → S a b ↔ R a b) → IsSameness S → IsSameness R
 agree-as is s = in-words s (λ a b. (is a b).1) (λ a b. (is a b).0)
 
 -- ---- over the values that have a property
 
+-- sameness of the values with their proofs is sameness of those that have the property
 pub over : {A : Type 0} {P : A → Type 0} {R : A → A → Type 0} → IsSameness (λ (x y : (a : A) × P a). R x.0 y.0) →
     IsSamenessOf P R
 over s = record {
@@ -51,6 +53,7 @@ over s = record {
   transitive = λ a b c p q r. s.transitive (a, p) (b, q) (c, r);
 }
 
+-- and conversely
 pub of : {A : Type 0} {P : A → Type 0} {R : A → A → Type 0} → IsSamenessOf P R →
     IsSameness (λ (x y : (a : A) × P a). R x.0 y.0)
 of s = record {
@@ -59,16 +62,19 @@ of s = record {
   transitive = λ x y z. s.transitive x.0 y.0 z.0 x.1 y.1 z.1;
 }
 
+-- as `same-as`, of values that have the property
 pub same-as-of : {A : Type 0} {P : A → Type 0} {S R : A → A → Type 0} → ((a b : A) → P a → P b → S a b ↔ R a b) →
     IsSamenessOf P R → IsSamenessOf P S
 same-as-of is r = over (same-as (λ x y. is x.0 y.0 x.1 y.1) (of r))
 
+-- as `agree-as`, of values that have the property
 pub agree-as-of : {A : Type 0} {P : A → Type 0} {S R : A → A → Type 0} → ((a b : A) → P a → P b → S a b ↔ R a b) →
     IsSamenessOf P S → IsSamenessOf P R
 agree-as-of is s = over (agree-as (λ x y. is x.0 y.0 x.1 y.1) (of s))
 
 -- ---- what may be missing
 
+-- both are missing, or both are there and the same
 pub optional : {A : Type 0} {R : A → A → Type 0} → IsSameness R → IsSameness (BothOrNeither R)
 optional {A} {R} s = record { reflexive = itself; symmetric = swapped; transitive = joined }
   where

@@ -1,10 +1,5 @@
--- A bridge: the first bytes of a number's spelling, which mostly show its sign.
-use Rattle.std.specs.Prelude.{ℕ, ◌==◌, ◌||◌, not, Bool, List, [], ◌∷◌}
-
--- 0 where there is none
-abbrev pub first_byte : List ℕ → ℕ
-first_byte [] = 0
-first_byte (byte ∷ bytes) = byte
+-- A bridge: the first byte of a number's spelling that shows whether it is above zero.
+use Rattle.std.specs.Prelude.{ℕ, ◌==◌, ◌||◌, not, Bool}
 
 -- neither a zero nor a period nor a plus, after which a number may be zero or not
 abbrev pub is_telling : ℕ → Bool

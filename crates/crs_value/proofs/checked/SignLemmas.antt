@@ -9,8 +9,13 @@ use Rattle.std.proofs.lemmas.Option.{same_Some}
 use Rattle.crs_decimal.specs.Prelude.{number_of, is_minus, digits_value, Sign, unsigned, plus, minus, Exponent, sign_text, fraction_text, fraction_digits, exponent_text, parts_text, mantissa, IsExponent, Value, IsNormal, is_normal, is_power, exact}
 use Rattle.crs_text.specs.Prelude.{Item, raw_of}
 use Rattle.crs_value.specs.Checks.{IsAboveZero, NotAbove, IsNegative, IsLeast}
-use Rattle.crs_value.specs.FirstByte.{first_byte, is_telling}
+use Rattle.crs_value.specs.FirstByte.{is_telling}
 use Rattle.crs_value.specs.Reads.{ReadsNumber}
+
+-- 0 where there is none
+abbrev first_byte : List ℕ → ℕ
+first_byte [] = 0
+first_byte (byte ∷ bytes) = byte
 
 sign-by : (s : Sign) (whole fraction exponent : List ℕ) (b : ℕ) → b ≡ first_byte (sign_text s ++ whole ++ fraction ++ exponent) → (b ≡ 45 → ⊥) → is_minus s ≡ false
 sign-by unsigned whole fraction exponent b e other = refl
