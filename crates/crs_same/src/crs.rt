@@ -21,7 +21,7 @@ use crs_matching::{Joined, same_set};
 use crs_value::laws::crs_is_sound;
 use crs_value::{
     Base, Compound, Crs, Geodetic, GeoidModel, Horizontal, Kind, Level, List, Projected,
-    SystemType, Vertical,
+    SystemType, Vertical, geodetic_kind,
 };
 use std::alloc::{AllocError, Global};
 
@@ -35,16 +35,6 @@ fn kind_word(kind: Kind) -> &'static str
         Kind::Projected => "PROJCRS",
         Kind::Vertical => "VERTCRS",
         Kind::Compound => "COMPOUNDCRS",
-    }
-}
-
-// The kind of a geodetic or geographic CRS that has a system of this type.
-fn geodetic_kind(system_type: SystemType) -> Kind
-    ensures { result ≡ kind_by system_type }
-{
-    match system_type {
-        SystemType::Ellipsoidal => Kind::Geographic,
-        SystemType::Cartesian | SystemType::Spherical | SystemType::Vertical => Kind::Geodetic,
     }
 }
 

@@ -13,7 +13,7 @@ pub use reading::value::{judge, kind_of, read, value_of};
 pub(crate) use values::Made;
 pub use values::compound::{Compound, Horizontal};
 pub use values::conversion::{Conversion, Parameter};
-pub use values::crs::{Crs, Kind};
+pub use values::crs::{Crs, Kind, geodetic_kind};
 pub use values::frame::{Datum, Ensemble, Frame};
 pub use values::frame_parts::{Dynamic, Ellipsoid, Meridian};
 pub use values::ident::{DeformationModel, GeoidModel, Ident, Member, Method, Named};

@@ -55,7 +55,7 @@ impl Crs<'_> {
         ensures { result ≡ kind_of self.now }
     {
         match self {
-            Crs::Geodetic(geodetic) => kind_by(geodetic.system.system_type),
+            Crs::Geodetic(geodetic) => geodetic_kind(geodetic.system.system_type),
             Crs::Projected(_) => Kind::Projected,
             Crs::Vertical(_) => Kind::Vertical,
             Crs::Compound(_) => Kind::Compound,
@@ -63,8 +63,8 @@ impl Crs<'_> {
     }
 }
 
-// The kind of a geodetic or geographic CRS that has a system of this type.
-pub(crate) fn kind_by(system_type: SystemType) -> Kind
+/// The kind of a geodetic or geographic CRS with a system of this type. ISO 19162:2019, "Coordinate reference systems".
+pub fn geodetic_kind(system_type: SystemType) -> Kind
     ensures { result ≡ kind_by system_type }
 {
     match system_type {
@@ -116,7 +116,7 @@ pub(crate) fn kind_of_root(node: &Cursor<'_, '_>) -> Kind
     ensures { (value : Crs) → ReadsCrs node.now.class (item node.now) value → result ≡ kind_of value }
 {
     match node.class {
-        Class::GeodeticCrs | Class::GeographicCrs => kind_by(system_type_of(node)),
+        Class::GeodeticCrs | Class::GeographicCrs => geodetic_kind(system_type_of(node)),
         Class::ProjectedCrs => Kind::Projected,
         Class::VerticalCrs => Kind::Vertical,
         Class::CompoundCrs => Kind::Compound,
