@@ -4,7 +4,7 @@ ghost use Rattle.std.specs.Option.{option_copied};
 ghost use Rattle.crs_matching.specs.Sets.{BothOrNeither};
 ghost use Rattle.crs_matching.specs.SameParts.{SameAxisMeridian, SameAxisAlone, IsPositionOf, StandsAt};
 
-use crate::members::same_idents;
+use crate::named::same_idents;
 use crate::single::{same_optional_value, same_text, same_unit_as, same_units_as, same_value};
 use crs_decimal::Decimal;
 use crs_value::{Axis, AxisMeridian, Level, UnitKind};

@@ -15,17 +15,17 @@ macro_rules! both_or_neither {
 
 mod axes;
 pub mod laws;
-mod members;
+mod named;
 mod sets;
 mod single;
 mod usages;
 
 pub use axes::{axis_at, same_axis, same_axis_meridian, same_axis_meridians};
-pub use members::{
+pub use named::{
     same_deformation_model, same_geoid_model, same_ident, same_idents, same_kept_idents,
     same_member, same_models, same_parameter,
 };
-pub use sets::{Joined, SetMember, same_set};
+pub use sets::{SetMember, SetMembers, same_set};
 pub use single::{
     same_length, same_optional_text, same_optional_value, same_text, same_unit, same_unit_as,
     same_units_as, same_units_asked, same_value,

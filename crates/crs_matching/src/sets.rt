@@ -5,7 +5,7 @@ ghost use Rattle.crs_value.specs.declared.values.level.Level.{Level};
 ghost use Rattle.crs_matching.specs.Sameness.{IsSameness};
 ghost use Rattle.crs_matching.specs.Sets.{HasSame, AllHaveSame, SameSet, with_bare};
 
-use crs_value::{Guesses, Level};
+use crs_value::{CounterpartHints, Level};
 use std::marker::Model;
 
 /// A value that may be a member of a set. Profile.
@@ -21,16 +21,16 @@ pub trait SetMember: Sized {
         ensures { (level : Level) → IsSameness (Same level) };
 }
 
-/// The members of a list, and one before them, if there is one: of usages, the one whose parts are bare. Profile.
+/// A set: the members of a list, and one before them, if there is one: of usages, the one whose parts are bare. Profile.
 #[derive(Drop)]
-pub struct Joined<'b, T> {
+pub struct SetMembers<'b, T> {
     /// The one before the list.
     pub bare: Option<&'b T>,
     /// The list.
     pub listed: &'b [T],
 }
 
-impl<'b, T> Model for Joined<'b, T> {
+impl<'b, T> Model for SetMembers<'b, T> {
     ghost use Rattle.std.specs.Prelude as std;
     ghost use Rattle.std.specs.Option.{option_copied};
     ghost use Rattle.crs_matching.specs.Sets.{with_bare};
@@ -40,12 +40,12 @@ impl<'b, T> Model for Joined<'b, T> {
     ghost view = { λ m. with_bare (option_copied m.bare) m.listed.now };
 }
 
-impl<'b, T> Joined<'b, T> {
+impl<'b, T> SetMembers<'b, T> {
     /// Those of a list.
-    pub fn of(listed: &'b [T]) -> Joined<'b, T>
+    pub fn of(listed: &'b [T]) -> SetMembers<'b, T>
         ensures { result ≡ listed.now }
     {
-        Joined { bare: None, listed }
+        SetMembers { bare: None, listed }
     }
 
     /// The one before the list, if there is one, and the others.
@@ -76,9 +76,9 @@ fn is_same_at<T: SetMember>(member: &T, others: &[T], place: usize, level: Level
     }
 }
 
-impl<'b, T: SetMember> Joined<'b, T> {
+impl<'b, T: SetMember> SetMembers<'b, T> {
     // Whether one of these is the same as a member of another set.
-    fn have_same(&self, member: &T, level: Level) -> bool
+    fn has_counterpart(&self, member: &T, level: Level) -> bool
         ensures { IsTrue result ↔ HasSame (T.Same level) member.now self.now }
     {
         match self.bare {
@@ -87,39 +87,31 @@ impl<'b, T: SetMember> Joined<'b, T> {
         }
     }
 
-    // The same, where each member before this place has a same one here. The member is compared with the one at its place
-    // first, and where it may be guessed, with those of its key: one before it, and one of these. So a repeated member of
-    // many is looked for here only once.
-    fn have_same_of(
-        &self,
-        members: &[T],
-        at: usize,
-        member: &T,
-        guesses: Guesses<'_>,
-        level: Level,
-    ) -> bool
-        requires there { at ≤ length members.now }
-        requires before { AllHaveSame (T.Same level) (take at members.now) self.now }
+    // The same, where each member before has a same one here. First it is compared with the one at its place, then, by
+    // its hint, with one before it and one of these of its key: a repeated member of many is looked for only once.
+    fn includes(&self, before: &[T], member: &T, hints: CounterpartHints<'_>, level: Level) -> bool
+        requires { AllHaveSame (T.Same level) before.now self.now }
         ensures { IsTrue result ↔ HasSame (T.Same level) member.now self.now }
     {
+        let at = before.len();
         if is_same_at(member, self.listed, at, level) {
             return true;
         }
         member.same_is_equivalence();
-        let guess = guesses.of(at);
-        if is_same_at(member, &members[..at], guess.before, level) {
+        let hint = hints.of(at);
+        if is_same_at(member, before, hint.before, level) {
             return true;
         }
-        is_same_at(member, self.listed, guess.other, level) || self.have_same(member, level)
+        is_same_at(member, self.listed, hint.other, level) || self.has_counterpart(member, level)
     }
 
     // Whether each member of a list has a same one here.
-    fn have_same_of_each(&self, members: &[T], guesses: Guesses<'_>, level: Level) -> bool
+    fn includes_each(&self, members: &[T], hints: CounterpartHints<'_>, level: Level) -> bool
         ensures { IsTrue result ↔ AllHaveSame (T.Same level) members.now self.now }
     {
         let mut at: usize = 0;
         for member in members {
-            if !self.have_same_of(members, at, member, guesses, level) {
+            if !self.includes(&members[..at], member, hints, level) {
                 return false;
             }
             at += 1;
@@ -128,32 +120,31 @@ impl<'b, T: SetMember> Joined<'b, T> {
     }
 
     // Whether each member of another set has a same one here.
-    fn have_same_of_all(&self, others: &Joined<'_, T>, guesses: Guesses<'_>, level: Level) -> bool
+    fn covers(&self, others: &SetMembers<'_, T>, hints: CounterpartHints<'_>, level: Level) -> bool
         ensures { IsTrue result ↔ AllHaveSame (T.Same level) others.now self.now }
     {
         match others.bare {
-            None => self.have_same_of_each(others.listed, guesses, level),
+            None => self.includes_each(others.listed, hints, level),
             Some(bare) => {
-                self.have_same(bare, level) && self.have_same_of_each(others.listed, guesses, level)
+                self.has_counterpart(bare, level) && self.includes_each(others.listed, hints, level)
             }
         }
     }
 }
 
-/// Whether two sets are the same: each member of either has a same member in the other. Profile.
 // The longer list goes first: if its members differ, one that the shorter list lacks comes soon.
+/// Whether two sets are the same: each member of either has a same member in the other. Profile.
 pub fn same_set<T: SetMember>(
-    members: &Joined<'_, T>,
-    others: &Joined<'_, T>,
-    guesses: Guesses<'_>,
+    members: &SetMembers<'_, T>,
+    others: &SetMembers<'_, T>,
+    hints: CounterpartHints<'_>,
     level: Level,
 ) -> bool
     ensures { IsTrue result ↔ SameSet (T.Same level) members.now others.now }
 {
     if members.listed.len() < others.listed.len() {
-        return members.have_same_of_all(others, guesses.turned(), level)
-            && others.have_same_of_all(members, guesses, level);
+        return members.covers(others, hints.turned(), level)
+            && others.covers(members, hints, level);
     }
-    others.have_same_of_all(members, guesses, level)
-        && members.have_same_of_all(others, guesses.turned(), level)
+    others.covers(members, hints, level) && members.covers(others, hints.turned(), level)
 }

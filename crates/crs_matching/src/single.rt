@@ -6,9 +6,9 @@ ghost use Rattle.crs_matching.specs.SameParts.{SameUnitAsked, SameUnit, SameLeng
 ghost use Rattle.crs_matching.specs.Sets.{BothOrNeither};
 
 use crate::laws;
-use crate::members::{same_idents, same_kept_idents};
+use crate::named::{same_idents, same_kept_idents};
 use crs_decimal::Decimal;
-use crs_value::{Guesses, Level, Unit, UnitKind};
+use crs_value::{CounterpartHints, Level, Unit, UnitKind};
 
 /// Whether two texts are equal. Profile.
 pub fn same_text(a: &[u8], b: &[u8]) -> bool
@@ -41,14 +41,15 @@ pub fn same_optional_value(a: Option<Decimal>, b: Option<Decimal>) -> bool
 
 // Whether two units are the same where a kind is asked of each: `UNIT` counts as that kind.
 fn same_unit_asked<'a>(
-    asked: (UnitKind, UnitKind),
+    asked_a: UnitKind,
+    asked_b: UnitKind,
     a: &Unit<'a>,
     b: &Unit<'a>,
     level: Level,
 ) -> bool
-    ensures { IsTrue result ↔ SameUnitAsked asked.0 asked.1 level a.now b.now }
+    ensures { IsTrue result ↔ SameUnitAsked asked_a asked_b level a.now b.now }
 {
-    a.kind.as_asked(asked.0) == b.kind.as_asked(asked.1)
+    a.kind.as_asked(asked_a) == b.kind.as_asked(asked_b)
         && same_text(a.name, b.name)
         && same_value(&a.factor, &b.factor)
         && same_idents(&a.identifiers, &b.identifiers, level)
@@ -58,7 +59,7 @@ fn same_unit_asked<'a>(
 pub fn same_unit_as<'a>(asked: UnitKind, a: &Unit<'a>, b: &Unit<'a>, level: Level) -> bool
     ensures { IsTrue result ↔ SameUnit asked level a.now b.now }
 {
-    same_unit_asked((asked, asked), a, b, level)
+    same_unit_asked(asked, asked, a, b, level)
 }
 
 /// Whether two units are the same: kind, name, factor and identifiers; `UNIT` is a kind of its own. Profile.
@@ -70,18 +71,19 @@ pub fn same_unit<'a>(a: &Unit<'a>, b: &Unit<'a>, level: Level) -> bool
 
 /// Whether two units are both missing, or both there and the same where a kind is asked of each. Profile.
 pub fn same_units_asked<'a>(
-    asked: (UnitKind, UnitKind),
+    asked_a: UnitKind,
+    asked_b: UnitKind,
     a: Option<&Unit<'a>>,
     b: Option<&Unit<'a>>,
     level: Level,
 ) -> bool
     ensures { IsTrue result ↔
-        BothOrNeither (SameUnitAsked asked.0 asked.1 level) (option_copied a.entry) (option_copied b.entry) }
+        BothOrNeither (SameUnitAsked asked_a asked_b level) (option_copied a.entry) (option_copied b.entry) }
 {
-    both_or_neither!(a, b, |x, y| same_unit_asked(asked, x, y, level))
+    both_or_neither!(a, b, |x, y| same_unit_asked(asked_a, asked_b, x, y, level))
 }
 
-/// The same, where this kind is asked of both. Profile.
+/// Whether two units are both missing, or both there and the same where this kind is asked of both. Profile.
 pub fn same_units_as<'a>(
     asked: UnitKind,
     a: Option<&Unit<'a>>,
@@ -90,17 +92,18 @@ pub fn same_units_as<'a>(
 ) -> bool
     ensures { IsTrue result ↔ BothOrNeither (SameUnit asked level) (option_copied a.entry) (option_copied b.entry) }
 {
-    same_units_asked((asked, asked), a, b, level)
+    same_units_asked(asked, asked, a, b, level)
 }
 
 #[tactic(auto, unfolding(crate::specs::SameParts::SameValue))]
 fn is_metre(unit: &Unit<'_>, level: Level) -> bool
     ensures { IsTrue result ↔ SameUnit kinds.Length level unit.now (or_metre None) }
 {
+    let hints = CounterpartHints::none();
     unit.kind.as_asked(UnitKind::Length) == UnitKind::Length
         && same_text(unit.name, b"metre")
         && unit.factor.is_whole(1)
-        && same_kept_idents(unit.identifiers.as_slice(), &[], Guesses::none(), level)
+        && same_kept_idents(unit.identifiers.as_slice(), &[], hints, level)
 }
 
 /// Whether two units of length are the same: a missing one is the metre. ISO 19162:2019, "Ellipsoid".

@@ -5,7 +5,7 @@ ghost use Rattle.crs_same.specs.declared.content.Content.TheVariants as content;
 ghost use Rattle.crs_same.specs.Contents.{given, length_unit};
 
 use crs_decimal::Decimal;
-use crs_matching::Joined;
+use crs_matching::SetMembers;
 use crs_value::{
     AxisMeridian, DeformationModel, GeoidModel, Ident, Member, Parameter, Unit, UnitKind, Usage,
 };
@@ -82,7 +82,7 @@ impl<'b, T> Members<'b, T> {
 }
 
 /// The usages at the end of a CRS; the parts that are bare are together one. Profile.
-pub type Usages<'b, 'a> = Joined<'b, Usage<'a>>;
+pub type Usages<'b, 'a> = SetMembers<'b, Usage<'a>>;
 
 /// The value of a part of one of two CRSs. A set comes with the members that the other CRS has there. Profile.
 #[derive(Drop)]

@@ -17,7 +17,7 @@ use crate::found::{Differences, Found};
 use crate::laws;
 use crate::path::{At, Path};
 use crate::step::Step;
-use crs_matching::{Joined, same_set};
+use crs_matching::{SetMembers, same_set};
 use crs_value::laws::crs_is_sound;
 use crs_value::{
     Base, Compound, Crs, Geodetic, GeoidModel, Horizontal, Kind, Level, List, Projected,

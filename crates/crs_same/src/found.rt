@@ -22,7 +22,7 @@ use crs_matching::{
     same_idents, same_kept_idents, same_length, same_optional_text, same_optional_value, same_text,
     same_units_asked, same_value,
 };
-use crs_value::{Guesses, Ident, List, Unit, UnitKind};
+use crs_value::{CounterpartHints, Ident, List, Unit, UnitKind};
 use std::alloc::AllocError;
 use std::marker::Model;
 
@@ -258,27 +258,28 @@ impl<'b, 'a> Found<'b, 'a> {
     pub(crate) fn unit(
         self,
         at: &At,
-        asked: (UnitKind, UnitKind),
+        asked_a: UnitKind,
+        asked_b: UnitKind,
         a: Option<&'b Unit<'a>>,
         b: Option<&'b Unit<'a>>,
     ) -> Self
-        ensures { Walked (units (at.now.path ▸ step.Unit) at.now.level asked.0 asked.1
+        ensures { Walked (units (at.now.path ▸ step.Unit) at.now.level asked_a asked_b
             (option_copied a.entry) (option_copied b.entry)) self.entry result }
     {
-        if self.is_done() || same_units_asked(asked, a, b, at.level) {
+        if self.is_done() || same_units_asked(asked_a, asked_b, a, b, at.level) {
             return self;
         }
-        let first = Content::optional_unit(asked.0, a);
-        let second = Content::optional_unit(asked.1, b);
+        let first = Content::optional_unit(asked_a, a);
+        let second = Content::optional_unit(asked_b, b);
         self.alone(at, Step::Unit, first, second)
     }
 
-    // Units of which an angle's is asked.
+    // Units, an angle's kind being asked of both.
     pub(crate) fn angle(self, at: &At, a: Option<&'b Unit<'a>>, b: Option<&'b Unit<'a>>) -> Self
         ensures { Walked (units (at.now.path ▸ step.Unit) at.now.level kinds.Angle kinds.Angle
             (option_copied a.entry) (option_copied b.entry)) self.entry result }
     {
-        self.unit(at, (UnitKind::Angle, UnitKind::Angle), a, b)
+        self.unit(at, UnitKind::Angle, UnitKind::Angle, a, b)
     }
 
     // The identifiers that the level keeps.
@@ -292,18 +293,18 @@ impl<'b, 'a> Found<'b, 'a> {
         self.unlike_identifiers(at, a.as_slice(), b.as_slice())
     }
 
-    // Of slices, of which one is empty.
+    // The identifiers that the level keeps, of two slices, of which one is empty.
     #[tactic(auto, using(crate::proofs::WalkedLemmas::part_rules))]
     pub(crate) fn identifiers_of(self, at: &At, a: &'b [Ident<'a>], b: &'b [Ident<'a>]) -> Self
         ensures { Walked (identifiers (at.now.path ▸ step.Id) at.now.level a.now b.now) self.entry result }
     {
-        if self.is_done() || same_kept_idents(a, b, Guesses::none(), at.level) {
+        if self.is_done() || same_kept_idents(a, b, CounterpartHints::none(), at.level) {
             return self;
         }
         self.unlike_identifiers(at, a, b)
     }
 
-    // Those that the level keeps, which aren't the same.
+    // The identifiers that the level keeps, where those of both aren't the same.
     fn unlike_identifiers(self, at: &At, a: &'b [Ident<'a>], b: &'b [Ident<'a>]) -> Self
         ensures { Walked (part (at.now.path ▸ step.Id) ⊥
             (content.Identifiers (kept at.now.level a.now) (kept at.now.level b.now))

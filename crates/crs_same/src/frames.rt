@@ -17,7 +17,7 @@ use crate::found::Found;
 use crate::path::At;
 use crate::step::Step;
 use crs_decimal::Decimal;
-use crs_matching::{Joined, same_set};
+use crs_matching::{SetMembers, same_set};
 use crs_value::{Datum, Ellipsoid, Ensemble, Frame, Ident, Level, List, Member, Meridian, Unit};
 
 // At longitude 0 there is none.
@@ -209,8 +209,8 @@ pub fn same_meridian<'a>(a: &Meridian<'a>, b: &Meridian<'a>, level: Level) -> bo
     Found::first().given(At::start(level), a, b).is_same()
 }
 
-/// Whether two reference frames are the same: name, ellipsoid, anchor and its epoch, each in both or in neither, and identifiers.
-/// ISO 19162:2019, "Geodetic reference frame" and "Vertical reference frame".
+/// Whether two reference frames are the same: name, ellipsoid, anchor and its epoch, each in both or in neither, and
+/// identifiers. ISO 19162:2019, "Geodetic reference frame" and "Vertical reference frame".
 pub fn same_datum<'a>(a: &Datum<'a>, b: &Datum<'a>, level: Level) -> bool
     ensures { IsTrue result ↔ AreSame parts_of_datum level a.now b.now }
 {

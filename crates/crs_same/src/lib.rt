@@ -6,8 +6,8 @@
 macro_rules! walk_sets {
     ($found:ident, $at:ident, $step:ident, $a:ident, $b:ident, $content:ident) => {{
         let (a, b) = ($a.as_slice(), $b.as_slice());
-        let (these, others) = (Joined { bare: None, listed: a }, Joined { bare: None, listed: b });
-        if $found.is_done() || same_set(&these, &others, $a.guesses($b, $at.level), $at.level) {
+        let (these, others) = (SetMembers { bare: None, listed: a }, SetMembers { bare: None, listed: b });
+        if $found.is_done() || same_set(&these, &others, $a.counterpart_hints($b, $at.level), $at.level) {
             return $found;
         }
         let first = Content::$content(Members { members: a }, Members { members: b });

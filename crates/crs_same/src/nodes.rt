@@ -16,7 +16,7 @@ use crate::found::Found;
 use crate::path::At;
 use crate::step::Step;
 use crs_decimal::Decimal;
-use crs_matching::{Joined, same_models, same_set, same_value};
+use crs_matching::{SetMembers, same_models, same_set, same_value};
 use crs_value::{
     Conversion, DeformationModel, Dynamic, Level, List, Method, Parameter, Tail, Usage,
 };
@@ -56,9 +56,9 @@ fn usages_of<'b, 'a>(tail: &'b Tail<'a>, level: Level) -> Usages<'b, 'a>
 fn same_usages<'a>(a: &Tail<'a>, b: &Tail<'a>, level: Level) -> bool
     ensures { IsTrue result ↔ SameUsages level a.now b.now }
 {
-    let guesses = a.usages.guesses(&b.usages, Level::Full);
+    let hints = a.usages.counterpart_hints(&b.usages, Level::Full);
     let (these, others) = (usages_of(a, level), usages_of(b, level));
-    same_set(&these, &others, guesses, Level::Full)
+    same_set(&these, &others, hints, Level::Full)
 }
 
 impl<'b, 'a> Found<'b, 'a> {

@@ -76,7 +76,7 @@ impl<'b, 'a> Found<'b, 'a> {
         let found = found.along(&at, &x.meridian, &y.meridian);
         let asked = a.system_type.asked_kind(x.direction);
         let other = b.system_type.asked_kind(y.direction);
-        let found = found.unit(&at, (asked, other), a.unit_of(x), b.unit_of(y));
+        let found = found.unit(&at, asked, other, a.unit_of(x), b.unit_of(y));
         found.identifiers(&at, &x.identifiers, &y.identifiers)
     }
 

@@ -17,7 +17,7 @@ pub use values::crs::{Crs, Kind, geodetic_kind};
 pub use values::frame::{Datum, Ensemble, Frame};
 pub use values::frame_parts::{Dynamic, Ellipsoid, Meridian};
 pub use values::ident::{DeformationModel, GeoidModel, Ident, Member, Method, Named};
-pub use values::key::{Guess, Guesses};
+pub use values::key::{CounterpartHint, CounterpartHints};
 pub use values::level::Level;
 pub use values::list::{Change, List};
 pub use values::single::{Base, Geodetic, Projected, Vertical};

@@ -152,7 +152,7 @@ fn key_of_set<T, F: Fn(&T) -> u128>(sorted: &[T], key_of: F) -> u128
 
 fn key_of_idents(idents: &List<Ident<'_>>) -> u128 {
     if let Some(places) = idents.places(Level::Full) {
-        return key_of_set(&places.sorted, |entry| entry.0);
+        return key_of_set(&places.sorted, |(key, _)| *key);
     }
     let idents = idents.as_slice();
     let mut keys = [0; FEW];
@@ -191,7 +191,7 @@ impl Places {
 
     // How many keys there are.
     pub(crate) fn count_of_keys(&self) -> usize {
-        self.sorted.chunk_by(|a, b| a.0 == b.0).count()
+        self.sorted.chunk_by(|(a, _), (b, _)| a == b).count()
     }
 
     // The last place before this one that has its key.
@@ -204,58 +204,58 @@ impl Places {
 
     // How many entries are less than this one.
     fn rank(&self, key: u128, place: usize) -> usize {
-        self.sorted.partition_point(|entry| entry.0 < key || (entry.0 == key && entry.1 < place))
+        self.sorted.partition_point(|(other, at)| *other < key || (*other == key && *at < place))
     }
 
     // The place in the entry of this rank, if it is of this key.
     fn place(&self, rank: usize, key: u128) -> usize {
         match self.sorted.get(rank) {
-            Some(entry) if entry.0 == key => entry.1,
+            Some((other, at)) if *other == key => *at,
             _ => NOWHERE,
         }
     }
 }
 
-/// Where a member that is the same as another may be. No promise rests on it.
+/// Where a counterpart of a member of a list may be, one that is the same. No promise rests on it. Profile.
 #[derive(Clone, Copy)]
-pub struct Guess {
+pub struct CounterpartHint {
     /// Among the other list's members, the first place of its key; past the end where there is none.
     pub other: usize,
     /// Before it in its own list, the last place of its key; past the end where there is none.
     pub before: usize,
 }
 
-/// Where the members of one list may have counterparts in another. Profile.
+/// Where the members of one list may have counterparts in another, by keys. No promise rests on it. Profile.
 #[derive(Clone, Copy)]
-pub struct Guesses<'b> {
+pub struct CounterpartHints<'b> {
     // Where the members of the list are, and those of the other.
     pub(crate) places: Option<(&'b Places, &'b Places)>,
 }
 
-impl<'b> Guesses<'b> {
-    /// No guess.
-    pub fn none() -> Guesses<'b> {
-        Guesses { places: None }
+impl<'b> CounterpartHints<'b> {
+    /// No hint for any member.
+    pub fn none() -> CounterpartHints<'b> {
+        CounterpartHints { places: None }
     }
 
-    /// The guesses for the other list's members.
-    pub fn turned(self) -> Guesses<'b> {
-        Guesses {
+    /// The hints for the other list's members.
+    pub fn turned(self) -> CounterpartHints<'b> {
+        CounterpartHints {
             places: self.places.map(|(own, others)| (others, own)),
         }
     }
 
-    /// The guess for the member at this place.
-    pub fn of(self, at: usize) -> Guess {
+    /// The hint for the member at this place.
+    pub fn of(self, at: usize) -> CounterpartHint {
         match self.places {
-            Some((own, others)) => Guess {
+            Some((own, others)) => CounterpartHint {
                 other: match own.keys.get(at) {
                     Some(key) => others.place(others.rank(*key, 0), *key),
                     None => NOWHERE,
                 },
                 before: own.before_of(at),
             },
-            None => Guess {
+            None => CounterpartHint {
                 other: NOWHERE,
                 before: NOWHERE,
             },

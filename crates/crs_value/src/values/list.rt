@@ -6,7 +6,7 @@ ghost use Rattle.std.specs.List.{swap};
 ghost use Rattle.crs_value.specs.Fronts.{front};
 ghost use Rattle.crs_value.specs.Members.{HaveSameMembers};
 
-use crate::values::key::{Guesses, Keyed, Places};
+use crate::values::key::{CounterpartHints, Keyed, Places};
 use crate::{Level, Made};
 use std::alloc::Global;
 use std::marker::Model;
@@ -70,9 +70,9 @@ impl<T> List<T> {
         }
     }
 
-    /// The same members. Of more than 32 identifiers that were read, each is there once, so that two lists are compared
-    /// in the time of the shorter one.
-    pub fn once(&self) -> &[T]
+    /// The same members, as a set: of more than 32 identifiers that were read, each is there once, so that two lists are
+    /// compared in the time of the shorter one. Profile.
+    pub fn as_set(&self) -> &[T]
         ensures { HaveSameMembers result.now self.now }
     {
         match &self.lookup {
@@ -81,10 +81,10 @@ impl<T> List<T> {
         }
     }
 
-    /// Where members of `once` may have counterparts in another list. No promise rests on it: there are guesses for
-    /// lists of more than 32 members, until they are changed.
-    pub fn guesses<'b>(&'b self, others: &'b List<T>, level: Level) -> Guesses<'b> {
-        Guesses {
+    /// Where members of `as_set` may have counterparts in another list. No promise rests on it: there are hints for
+    /// lists of more than 32 members, until they are changed. Profile.
+    pub fn counterpart_hints<'b>(&'b self, others: &'b Self, level: Level) -> CounterpartHints<'b> {
+        CounterpartHints {
             places: self.places(level).zip(others.places(level)),
         }
     }

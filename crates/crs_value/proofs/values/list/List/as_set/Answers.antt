@@ -1,5 +1,5 @@
 use Rattle.crs_value.proofs.found.MemberLemmas.{are-all}
-use Rattle.crs_value.proofs.values.list.List.once.Goals as goal
+use Rattle.crs_value.proofs.values.list.List.as_set.Goals as goal
 
 pub returns-in_default : goal.returns-in_default
 returns-in_default g c =

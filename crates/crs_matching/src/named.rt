@@ -7,10 +7,10 @@ ghost use Rattle.crs_matching.specs.SameIdents.{SameIdent, SameIdents};
 ghost use Rattle.crs_matching.specs.Sets.{BothOrNeither};
 
 use crate::laws;
-use crate::sets::{Joined, SetMember, same_set};
+use crate::sets::{SetMember, SetMembers, same_set};
 use crate::single::{same_optional_text, same_text, same_units_as, same_value};
 use crs_value::{
-    DeformationModel, GeoidModel, Guesses, Ident, Level, List, Member, Parameter, UnitKind,
+    CounterpartHints, DeformationModel, GeoidModel, Ident, Level, List, Member, Parameter, UnitKind,
 };
 
 /// Whether two identifiers are the same: authority and code, and version, citation and URI, each in both or in
@@ -41,13 +41,13 @@ impl SetMember for Ident<'_> {
 pub fn same_kept_idents<'a>(
     a: &[Ident<'a>],
     b: &[Ident<'a>],
-    guesses: Guesses<'_>,
+    hints: CounterpartHints<'_>,
     level: Level,
 ) -> bool
     ensures { IsTrue result ↔ SameIdents level a.now b.now }
 {
-    let (a, b) = (Joined::of(level.kept(a)), Joined::of(level.kept(b)));
-    same_set(&a, &b, guesses, Level::Full)
+    let (a, b) = (SetMembers::of(level.kept(a)), SetMembers::of(level.kept(b)));
+    same_set(&a, &b, hints, Level::Full)
 }
 
 /// Whether the identifiers that the level keeps of two parts are the same set, by the members that are there once:
@@ -55,7 +55,8 @@ pub fn same_kept_idents<'a>(
 pub fn same_idents<'a>(a: &List<Ident<'a>>, b: &List<Ident<'a>>, level: Level) -> bool
     ensures { IsTrue result ↔ SameIdents level a.now b.now }
 {
-    same_kept_idents(a.once(), b.once(), a.guesses(b, Level::Full), level)
+    let hints = a.counterpart_hints(b, Level::Full);
+    same_kept_idents(a.as_set(), b.as_set(), hints, level)
 }
 
 impl SetMember for Member<'_> {

@@ -1,6 +1,6 @@
 use Rattle.std.proofs.Common.{rules, IsTrue}
 use Rattle.crs_matching.proofs.SetLemmas.{all_at, all_more}
-use Rattle.crs_matching.proofs.sets.Joined.have_same_of_each.Goals as goal
+use Rattle.crs_matching.proofs.sets.SetMembers.includes_each.Goals as goal
 
 pub loop-member-preserved : goal.loop-member-preserved
 loop-member-preserved g c =
@@ -10,12 +10,12 @@ loop-member-preserved g c =
           c.member-item.result c.member-item.is c.loop-member-test.true c.loop-member.invariant.before (search rules);
     }
 
-pub returns-then-not-have_same_of : goal.returns-then-not-have_same_of
-returns-then-not-have_same_of g c = (
+pub returns-then-not-includes : goal.returns-then-not-includes
+returns-then-not-includes g c = (
   λ bad. search rules,
   λ all.
       let has = all_at (g.T.SetMember.Same c.args.level) c.args.members.now c.args.self.now c.loop-member.member-index
       c.member-item.result c.member-item.is c.loop-member-test.true all in
-      let met : IsTrue c.have_same_of.result = search (rules, has) in
+      let met : IsTrue c.includes.result = search (rules, has) in
       search rules,
 )

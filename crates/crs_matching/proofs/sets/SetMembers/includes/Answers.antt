@@ -1,8 +1,8 @@
-use Rattle.std.proofs.Common.{List, Option, None, Some, inr, refl, subst, take}
+use Rattle.std.proofs.Common.{List, Option, None, Some, inr, refl, subst}
 use Rattle.std.specs.Option.{option_copied}
 use Rattle.crs_matching.proofs.SetLemmas.{has_over}
 use Rattle.crs_matching.specs.Sets.{HasSame, with_bare}
-use Rattle.crs_matching.proofs.sets.Joined.have_same_of.Goals as goal
+use Rattle.crs_matching.proofs.sets.SetMembers.includes.Goals as goal
 
 has_listed : {V : Type 0} (Same : V → V → Type 0) (member : V) (bare : Option V) (listed : List V) → HasSame Same member listed → HasSame Same member (with_bare bare listed)
 has_listed Same member None listed has = has
@@ -18,7 +18,7 @@ returns-then-is_same_at g c =
 pub returns-then-is_same_at-2 : goal.returns-then-is_same_at-2
 returns-then-is_same_at-2 g c =
     let found = has_over (g.T.SetMember.Same c.args.level) (c.same_is_equivalence.ensures c.args.level) c.args.member.now
-    (take c.args.at c.args.members.now) c.args.self.now (c.is_same_at-2.ensures c.if-is_same_at-2.true) c.requires.before in
+    c.args.before.now c.args.self.now (c.is_same_at-2.ensures c.if-is_same_at-2.true) c.requires in
     (λ _. found, λ _. refl)
 
 pub returns-then-is_same_at-3 : goal.returns-then-is_same_at-3

@@ -1,6 +1,6 @@
 use Rattle.std.proofs.Common.{◌≡◌, take}
 use Rattle.crs_matching.specs.Sets.{AllHaveSame}
-use Rattle.crs_matching.proofs.sets.Joined.have_same_of_each.Given as goal
+use Rattle.crs_matching.proofs.sets.SetMembers.includes_each.Given as goal
 
 abbrev pub invariant-loop-member : goal.invariant-loop-member
 invariant-loop-member g l =
