@@ -250,10 +250,25 @@ pub(crate) fn compound(items: &Items<'_>, id: ItemId) -> Option<Refusal>
     lesser(repeated(&node), geodetic)
 }
 
-// The checks that a node of a class without a coordinate system breaks by itself.
+// The checks that a node of a class without a coordinate system breaks by itself. Most nodes are of the classes that are
+// named here, which have none: for these nothing is called.
 #[tactic(auto, unfolding(crate::specs::Checks::Own))]
 #[inline(always)]
 pub(crate) fn own_of_part(items: &Items<'_>, id: ItemId, class: Class) -> Option<Refusal>
+    requires has { HasId items.now id }
+    requires shaped { Shaped class (item_at items.now id) }
+    requires part { ¬ (HasSystem class) }
+    ensures { IsLeast (Own class (item_at items.now id)) result }
+{
+    match class {
+        Class::Identifier | Class::Parameter | Class::Member | Class::Usage | Class::Order => None,
+        _ => own_checked(items, id, class),
+    }
+}
+
+// The same, by a check of the class.
+#[tactic(auto, unfolding(crate::specs::Checks::Own))]
+fn own_checked(items: &Items<'_>, id: ItemId, class: Class) -> Option<Refusal>
     requires has { HasId items.now id }
     requires shaped { Shaped class (item_at items.now id) }
     requires part { ¬ (HasSystem class) }

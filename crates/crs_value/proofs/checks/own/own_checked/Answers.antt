@@ -1,6 +1,6 @@
 use Rattle.std.proofs.Common.{rules}
 use Rattle.crs_value.proofs.checked.OwnLemmas.{own-base, own-compound, own-frame, own-unit, own-system, own-axis}
-use Rattle.crs_value.proofs.checks.own.own_of_part.Goals as goal
+use Rattle.crs_value.proofs.checks.own.own_checked.Goals as goal
 
 pub returns-in-CompoundCrs : goal.returns-in-CompoundCrs
 returns-in-CompoundCrs c = own-compound _ _ _ c.in-CompoundCrs.is c.compound.ensures
