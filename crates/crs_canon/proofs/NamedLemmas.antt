@@ -8,7 +8,6 @@ use Rattle.crs_value.specs.Prelude.{ParameterParts}
 use Rattle.crs_value.specs.declared.values.level.Level.{Level}
 use Rattle.crs_normal.specs.Prelude.{Ascends, IsIn, IsSpelledParameter, in_order, parameter_text, put_all}
 use Rattle.crs_canon.specs.Named.{ArePairedNames, NamesTell, is_paired, named_once, of_name, only, unpaired}
-use Rattle.crs_canon.specs.PairedNames.{names_paired}
 use Rattle.crs_writer.specs.Prelude.{AreSpellingsOf, ArePut}
 
 -- ---- members that pass a test
@@ -92,6 +91,10 @@ named-by : (name : List ℕ) (xs : List ParameterParts) → IsIn name (map (λ z
 named-by name [] i = absurd i
 named-by name (x ∷ xs) (inl e) = (x, inl refl, sym e)
 named-by name (x ∷ xs) (inr i) = let (z, is, e) = named-by name xs i in (z, inr is, e)
+
+-- the names of those that are paired, in the order of these
+abbrev pub names_paired : (xs ys : List ParameterParts) → List (List ℕ)
+names_paired xs ys = map (λ x. x.name) (filter (λ x. is_paired xs ys x.name) xs)
 
 -- the names that are found are those that are paired
 paired-in : (xs ys : List ParameterParts) (name : List ℕ) → IsIn name (names_paired xs ys) ↔ (is_paired xs ys name ≡ true)

@@ -3,4 +3,3 @@ pub mod ContentText
 pub mod Examples
 pub mod MainTheorem
 pub mod Named
-pub mod PairedNames

@@ -1,14 +1,15 @@
 -- Axes that are canonical as they stand are what is written of all that is read from them.
 use Rattle.std.proofs.Common.{◌≡◌, ◌≢◌, ℕ, List, [], ◌∷◌, Some, codes, refl, ap, sym, ◌∙◌}
 use Rattle.crs_decimal.specs.Prelude.{plain}
-use Rattle.crs_text.specs.Prelude.{Item, number, text, word, raw_of, item_text}
+use Rattle.crs_text.specs.Prelude.{Item, Siblings, More, arguments, kind_of_item, number, text, word, raw_of, item_text}
+use Rattle.crs_text.specs.declared.items.ItemKind.TheVariants as items
 use Rattle.crs_shape.specs.Prelude.{class_named, asked_kind, direction_word, is_keyword, unit_word}
 use Rattle.crs_shape.specs.declared.class.Class.TheVariants as class
 use Rattle.crs_shape.specs.declared.unit_kind.UnitKind.TheVariants as kinds
 use Rattle.crs_value.specs.Prelude.{those, ReadsAxis, ReadsAxisMeridian, ReadsUnit, AxisParts, SystemParts}
 use Rattle.crs_value.specs.declared.values.level.Level.{Level}
 use Rattle.crs_normal.specs.Prelude.{item_axis, norm_axis, number_node, whole_value}
-use Rattle.crs_nodes.specs.Copied.{IsPlainAxis, IsPlainOrder, IsSaidKind}
+use Rattle.crs_nodes.specs.Copied.{IsDirectionWord, IsEnd, IsPlainOrder, IsSaidKind, IsSaidUnit, IsText}
 use Rattle.crs_nodes.proofs.CopiedLemmas.{Identifies, end-copied, end-none, leaf-at, leaf-text, node-at, node-text, none-read, some-read, those-in, unit-copied}
 
 -- units of length and of angle are those of axes
@@ -22,6 +23,23 @@ unit-named raw (kinds.Plain, s, w) other = absurd s
 order-said : (position : ℕ) (item : Item) → IsPlainOrder position item → item_text item ≡ item_text (number_node (codes "ORDER") (whole_value position))
 order-said position item f =
     rw (node-text item f.are f.keyword, leaf-text number f.inner (plain (whole_value position)) f.kind f.is)
+
+-- an axis of this position that has its order and its own unit of length or angle
+pub record IsPlainAxis (level : Level) (position : ℕ) (item : Item) : Type 0 where
+  pub name : Item
+  pub direction : Item
+  pub order : Item
+  pub unit : Item
+  pub rest : Siblings
+  pub keyword : raw_of item ≡ codes "AXIS"
+  pub are : arguments item ≡ More name (More direction (More order (More unit rest)))
+  pub is_name : IsText name
+  pub is_word : kind_of_item direction ≡ items.Word
+  pub is_direction : IsDirectionWord (raw_of direction)
+  pub is_order : IsPlainOrder position order
+  pub is_unit : IsSaidUnit level unit
+  pub is_not_scale : raw_of unit ≢ codes "SCALEUNIT"
+  pub is_end : IsEnd level rest
 
 pub axis-copied : (level : Level) (s : SystemParts) (position : ℕ) (item : Item) (a : AxisParts) → IsPlainAxis level position item → ReadsAxis class.Axis item a →
     item_text item ≡ item_text (item_axis (norm_axis level s position a))

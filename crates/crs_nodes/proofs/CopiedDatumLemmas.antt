@@ -1,7 +1,7 @@
 -- Ellipsoids and geodetic reference frames that are canonical as they stand are what is written of all that is read from
 -- them.
 use Rattle.std.proofs.Common.{◌≡◌, List, [], ◌∷◌, codes, refl}
-use Rattle.crs_text.specs.Prelude.{Item, End, number, text, item_text}
+use Rattle.crs_text.specs.Prelude.{Item, End, More, arguments, raw_of, number, text, item_text}
 use Rattle.crs_shape.specs.Prelude.{class_named, is_keyword}
 use Rattle.crs_shape.specs.declared.class.Class.TheVariants as class
 use Rattle.crs_shape.specs.declared.unit_kind.UnitKind.TheVariants as kinds
@@ -9,7 +9,7 @@ use Rattle.crs_value.specs.Prelude.{ReadsEach, ReadsDatum, ReadsEllipsoid, Reads
 use Rattle.crs_value.specs.Values.{IdentParts}
 use Rattle.crs_value.specs.declared.values.level.Level.{Level}
 use Rattle.crs_normal.specs.Prelude.{ellipsoid_text, item_datum, norm_datum, set_idents}
-use Rattle.crs_nodes.specs.Copied.{IsPlainDatum, IsPlainEllipsoid}
+use Rattle.crs_nodes.specs.Copied.{IsPlainEllipsoid, IsText}
 use Rattle.crs_nodes.proofs.CopiedLemmas.{leaf-at, leaf-text, node-at, node-text, none-kept, none-read, number-said, some-read, those-in, unit-copied}
 
 -- no identifiers are read, and none are written
@@ -36,6 +36,15 @@ ellipsoid-copied level item e f r =
       unit-copied level kinds.Length class.LengthUnit f.unit u.it refl g u.reads,
       no-idents level e.identifiers (rw (of class.Identifier) at r.identifiers),
     )
+
+-- a geodetic reference frame of a name and an ellipsoid
+pub record IsPlainDatum (level : Level) (item : Item) : Type 0 where
+  pub name : Item
+  pub ellipsoid : Item
+  pub keyword : raw_of item ≡ codes "DATUM"
+  pub are : arguments item ≡ More name (More ellipsoid End)
+  pub is_name : IsText name
+  pub is_ellipsoid : IsPlainEllipsoid level ellipsoid
 
 pub datum-copied : (level : Level) (item : Item) (d : DatumParts) → IsPlainDatum level item → ReadsDatum class.GeodeticFrame item d →
     item_text item ≡ item_text (item_datum (codes "DATUM") (norm_datum level d))

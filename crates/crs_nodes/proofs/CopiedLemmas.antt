@@ -14,7 +14,7 @@ use Rattle.crs_value.specs.Values.{IdentParts}
 use Rattle.crs_value.specs.declared.values.level.Level.{Level}
 use Rattle.crs_value.specs.declared.values.level.Level.TheVariants as levels
 use Rattle.crs_normal.specs.Prelude.{method_text, parameter_text, each, is_short, item_ident, item_unit, norm_unit, set_idents}
-use Rattle.crs_nodes.specs.Copied.{IsEnd, IsPlainMethod, IsPlainNumber, IsPlainParameter, IsSaidUnit, IsShortIdent, SaysKind}
+use Rattle.crs_nodes.specs.Copied.{IsEnd, IsPlainNumber, IsSaidUnit, IsShortIdent, IsText, SaysKind}
 
 -- ---- items that are no nodes
 
@@ -145,6 +145,15 @@ end-copied level c (More item End) is named e r = one is (rw (ident-in c item na
 
 -- ---- methods
 
+-- a method
+pub record IsPlainMethod (level : Level) (item : Item) : Type 0 where
+  pub name : Item
+  pub rest : Siblings
+  pub keyword : raw_of item ≡ codes "METHOD"
+  pub are : arguments item ≡ More name rest
+  pub is_name : IsText name
+  pub is_end : IsEnd level rest
+
 pub method-copied : (level : Level) (item : Item) (m : MethodParts) → IsPlainMethod level item → ReadsMethod class.Method item m →
     item_text item ≡ method_text level m
 unfolding class_named is_keyword
@@ -216,6 +225,19 @@ unit-read kinds.Scale item unit rest o of none r =
       none class.AngleUnit refl,
       of class.ScaleUnit refl refl,
     ) at r
+
+-- a parameter that has a unit
+pub record IsPlainParameter (level : Level) (item : Item) : Type 0 where
+  pub name : Item
+  pub value : Item
+  pub unit : Item
+  pub rest : Siblings
+  pub keyword : raw_of item ≡ codes "PARAMETER"
+  pub are : arguments item ≡ More name (More value (More unit rest))
+  pub is_name : IsText name
+  pub is_value : IsPlainNumber value
+  pub is_unit : IsSaidUnit level unit
+  pub is_end : IsEnd level rest
 
 pub parameter-copied : (level : Level) (item : Item) (p : ParameterParts) → IsPlainParameter level item → ReadsParameter class.Parameter item p →
     item_text item ≡ parameter_text level p

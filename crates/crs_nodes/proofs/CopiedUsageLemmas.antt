@@ -1,13 +1,13 @@
 -- Usages that are canonical as they stand are what is written of all that is read from them.
 use Rattle.std.proofs.Common.{◌≡◌, ℕ, List, [], ◌∷◌, codes, refl}
-use Rattle.crs_text.specs.Prelude.{Item, End, number, text, item_text}
+use Rattle.crs_text.specs.Prelude.{Item, End, More, arguments, raw_of, number, text, item_text}
 use Rattle.crs_shape.specs.Prelude.{class_named, is_keyword}
 use Rattle.crs_shape.specs.declared.class.Class.{Class}
 use Rattle.crs_shape.specs.declared.class.Class.TheVariants as class
 use Rattle.crs_value.specs.Prelude.{ReadsBox, ReadsExtent, ReadsTextOf, ReadsUsage, BoxParts, UsageParts}
 use Rattle.crs_value.specs.declared.values.level.Level.{Level}
 use Rattle.crs_normal.specs.Prelude.{usage_text, text_node, item_box}
-use Rattle.crs_nodes.specs.Copied.{IsPlainBox, IsPlainUsage, IsTextNode}
+use Rattle.crs_nodes.specs.Copied.{IsPlainBox, IsTextNode}
 use Rattle.crs_nodes.proofs.CopiedLemmas.{leaf-at, leaf-text, node-at, node-text, none-read, number-said, some-read, those-in}
 
 -- a node of one text
@@ -28,6 +28,17 @@ box-said c item b f r =
       number-said f.north b.north f.is_north (rw are at r.north),
       number-said f.east b.east f.is_east (rw are at r.east),
     )
+
+-- a usage of a scope, an area and a bounding box
+pub record IsPlainUsage (item : Item) : Type 0 where
+  pub scope : Item
+  pub area : Item
+  pub bbox : Item
+  pub keyword : raw_of item ≡ codes "USAGE"
+  pub are : arguments item ≡ More scope (More area (More bbox End))
+  pub is_scope : IsTextNode (codes "SCOPE") scope
+  pub is_area : IsTextNode (codes "AREA") area
+  pub is_bbox : IsPlainBox bbox
 
 pub usage-copied : (level : Level) (item : Item) (u : UsageParts) → IsPlainUsage item → ReadsUsage class.Usage item u → item_text item ≡ usage_text level u
 unfolding class_named is_keyword

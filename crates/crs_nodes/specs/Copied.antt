@@ -1,5 +1,5 @@
 -- A bridge: nodes of the commonest forms that are canonical as they stand.
-use Rattle.std.specs.Prelude.{◌≡◌, ◌≢◌, ℕ, IsTrue, List, Option, codes}
+use Rattle.std.specs.Prelude.{◌≡◌, ℕ, IsTrue, List, Option, codes}
 use Rattle.crs_decimal.specs.Plain.{plain}
 use Rattle.crs_decimal.specs.Value.{Value}
 use Rattle.crs_text.specs.Items.{HasId, Item, Siblings, End, More, arguments, kind_of_item, raw_of}
@@ -83,28 +83,6 @@ pub record IsSaidUnit (level : Level) (item : Item) : Type 0 where
   pub is_factor : IsPlainNumber factor
   pub is_end : IsEnd level rest
 
--- a method
-pub record IsPlainMethod (level : Level) (item : Item) : Type 0 where
-  pub name : Item
-  pub rest : Siblings
-  pub keyword : raw_of item ≡ codes "METHOD"
-  pub are : arguments item ≡ More name rest
-  pub is_name : IsText name
-  pub is_end : IsEnd level rest
-
--- a parameter that has a unit
-pub record IsPlainParameter (level : Level) (item : Item) : Type 0 where
-  pub name : Item
-  pub value : Item
-  pub unit : Item
-  pub rest : Siblings
-  pub keyword : raw_of item ≡ codes "PARAMETER"
-  pub are : arguments item ≡ More name (More value (More unit rest))
-  pub is_name : IsText name
-  pub is_value : IsPlainNumber value
-  pub is_unit : IsSaidUnit level unit
-  pub is_end : IsEnd level rest
-
 -- a node of this keyword and one text
 pub record IsTextNode (word : List ℕ) (item : Item) : Type 0 where
   pub inner : Item
@@ -125,17 +103,6 @@ pub record IsPlainBox (item : Item) : Type 0 where
   pub is_north : IsPlainNumber north
   pub is_east : IsPlainNumber east
 
--- a usage of a scope, an area and a bounding box
-pub record IsPlainUsage (item : Item) : Type 0 where
-  pub scope : Item
-  pub area : Item
-  pub bbox : Item
-  pub keyword : raw_of item ≡ codes "USAGE"
-  pub are : arguments item ≡ More scope (More area (More bbox End))
-  pub is_scope : IsTextNode (codes "SCOPE") scope
-  pub is_area : IsTextNode (codes "AREA") area
-  pub is_bbox : IsPlainBox bbox
-
 -- an ellipsoid that has a unit of length, and no identifier
 pub record IsPlainEllipsoid (level : Level) (item : Item) : Type 0 where
   pub name : Item
@@ -150,15 +117,6 @@ pub record IsPlainEllipsoid (level : Level) (item : Item) : Type 0 where
   pub is_unit : IsSaidUnit level unit
   pub is_length : raw_of unit ≡ codes "LENGTHUNIT"
 
--- a geodetic reference frame of a name and an ellipsoid
-pub record IsPlainDatum (level : Level) (item : Item) : Type 0 where
-  pub name : Item
-  pub ellipsoid : Item
-  pub keyword : raw_of item ≡ codes "DATUM"
-  pub are : arguments item ≡ More name (More ellipsoid End)
-  pub is_name : IsText name
-  pub is_ellipsoid : IsPlainEllipsoid level ellipsoid
-
 -- the bytes are the word of a direction in its own letters
 abbrev pub IsDirectionWord : List ℕ → Type 0
 IsDirectionWord raw = (direction : Direction) × IsWordOf direction_word raw direction
@@ -170,20 +128,3 @@ pub record IsPlainOrder (position : ℕ) (item : Item) : Type 0 where
   pub are : arguments item ≡ More inner End
   pub kind : kind_of_item inner ≡ items.Number
   pub is : raw_of inner ≡ plain (whole_value position)
-
--- an axis of this position that has its order and its own unit of length or angle
-pub record IsPlainAxis (level : Level) (position : ℕ) (item : Item) : Type 0 where
-  pub name : Item
-  pub direction : Item
-  pub order : Item
-  pub unit : Item
-  pub rest : Siblings
-  pub keyword : raw_of item ≡ codes "AXIS"
-  pub are : arguments item ≡ More name (More direction (More order (More unit rest)))
-  pub is_name : IsText name
-  pub is_word : kind_of_item direction ≡ items.Word
-  pub is_direction : IsDirectionWord (raw_of direction)
-  pub is_order : IsPlainOrder position order
-  pub is_unit : IsSaidUnit level unit
-  pub is_not_scale : raw_of unit ≢ codes "SCALEUNIT"
-  pub is_end : IsEnd level rest

@@ -1,3 +1,4 @@
+pub mod WithoutPlaces
 pub mod made
 pub mod members
 pub mod normal

@@ -1,11 +1,10 @@
 -- A bridge: one form decides sameness: two values have the same form exactly where they are the
 -- same.
-use Rattle.std.specs.Prelude.{◌≡◌, ◌↔◌, ◌<◌, ◌^◌, length, Option, IfSome}
-use Rattle.crs_value.specs.Sound.{Each, IsIdent, IsSystem, IsUsage}
+use Rattle.std.specs.Prelude.{◌≡◌, ◌↔◌}
+use Rattle.crs_value.specs.Sound.{Each, IsIdent, IsUsage}
 use Rattle.crs_value.specs.SoundConversion.{IsGeoidModel, IsParameter}
 use Rattle.crs_value.specs.SoundCrs.{IsCrs}
 use Rattle.crs_value.specs.SoundFrames.{IsMember}
-use Rattle.crs_value.specs.Values.{SystemParts}
 use Rattle.crs_value.specs.Kept.{kept}
 use Rattle.crs_value.specs.declared.values.level.Level.{Level}
 use Rattle.crs_matching.specs.SameParts.{SameGeoidModel, SameParameter, SameMember, SameUsage}
@@ -37,14 +36,6 @@ pub record SetsDecide : Type 0 where
       (λ level. SameSet (SameGeoidModel level))
   pub usages : FormsDecide (Each IsUsage) set_usages
       (λ level xs ys. SameSet SameUsage (kept level xs) (kept level ys))
-
--- a part that may be missing, with what is asked of it where it is there
-abbrev pub Maybe : {A : Type 0} → (A → Type 0) → Option A → Type 0
-Maybe Is value = IfSome value Is
-
--- a system whose number of axes has at most 18 digits
-abbrev pub IsNumbered : SystemParts → Type 0
-IsNumbered system = IsSystem system × (length system.axes < 10 ^ 18)
 
 -- the one form of a CRS decides sameness, at each level
 abbrev pub DecidesSameness : Type 0

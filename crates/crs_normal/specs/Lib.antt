@@ -2,7 +2,6 @@ pub mod Ascending
 pub mod AxisAlone
 pub mod CanonicalForm
 pub mod Closed
-pub mod CrsClass
 pub mod Decides
 pub mod Examples
 pub mod LowerLaws
@@ -20,5 +19,4 @@ pub mod SpelledFrames
 pub mod SpelledItems
 pub mod SpelledSystems
 pub mod SpelledUsages
-pub mod WithoutPlaces
 pub mod WrittenForm

@@ -2,6 +2,8 @@
 use Rattle.std.specs.Prelude.{ℕ, List, Option, Some, None}
 use Rattle.crs_shape.specs.declared.class.Class.{Class}
 use Rattle.crs_shape.specs.declared.class.Class.TheVariants as class
+use Rattle.crs_shape.specs.declared.system_type.SystemType.{SystemType}
+use Rattle.crs_shape.specs.declared.system_type.SystemType.TheVariants as types
 use Rattle.crs_shape.specs.declared.unit_kind.UnitKind.{UnitKind}
 use Rattle.crs_shape.specs.declared.unit_kind.UnitKind.TheVariants as kinds
 use Rattle.crs_value.specs.CompoundValues.{CompoundParts}
@@ -27,7 +29,6 @@ use Rattle.crs_matching.specs.SameParts.{SameGeoidModel, SameParameter, SameDefo
 use Rattle.crs_same.specs.SameCrs.{SameDynamic}
 pub use Rattle.crs_same.specs.SameCrs.{IsHorizontalPart}
 use Rattle.crs_matching.specs.SameIdents.{SameIdent}
-use Rattle.crs_normal.specs.CrsClass.{geodetic_class}
 use Rattle.crs_normal.specs.SpelledAs.{IsSpelledAs}
 
 -- the one spelling of an identifier by itself: with all that it holds, at each level
@@ -144,6 +145,13 @@ IsSpelledUsage level = IsSpelledAs levels.Full class.Usage ReadsUsage SameUsage
 -- the one spelling of a base CRS by itself
 abbrev pub IsSpelledBase : Level → BaseParts → List ℕ → Type 0
 IsSpelledBase level = IsSpelledAs level class.BaseCrs ReadsBase (AreSame parts_of_base level)
+
+-- a geodetic CRS is written as a geographic one exactly where its coordinate system is ellipsoidal
+abbrev pub geodetic_class : SystemType → Class
+geodetic_class types.Ellipsoidal = class.GeographicCrs
+geodetic_class types.Cartesian = class.GeodeticCrs
+geodetic_class types.Spherical = class.GeodeticCrs
+geodetic_class types.Vertical = class.GeodeticCrs
 
 -- the one spelling of a geodetic CRS, which is geographic where its coordinate system is
 -- ellipsoidal

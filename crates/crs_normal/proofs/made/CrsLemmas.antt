@@ -7,14 +7,13 @@ use Rattle.crs_value.specs.declared.values.crs.Crs.TheVariants as crs
 use Rattle.crs_value.specs.declared.values.level.Level.{Level}
 use Rattle.crs_value.specs.Prelude.{IsCrs}
 use Rattle.crs_normal.specs.LowerLaws.{LowerLaws}
-use Rattle.crs_normal.specs.CrsClass.{crs_class}
 use Rattle.crs_normal.specs.Prelude.{IsNormalText, item_crs, norm_crs}
 use Rattle.crs_normal.proofs.made.CompoundLemmas.{compound-made}
 use Rattle.crs_normal.proofs.made.GeodeticLemmas.{geodetic-made}
 use Rattle.crs_normal.proofs.made.PlaceLemmas.{text-at}
 use Rattle.crs_normal.proofs.made.ProjectedLemmas.{projected-made}
 use Rattle.crs_normal.proofs.made.VerticalLemmas.{vertical-made}
-use Rattle.crs_normal.proofs.texts.RootLemmas.{crs-rooted}
+use Rattle.crs_normal.proofs.texts.RootLemmas.{crs_class, crs-rooted}
 use Rattle.crs_normal.proofs.texts.AcceptedLemmas.{made-stands}
 use Rattle.crs_normal.proofs.made.NodeLemmas.{IsAcceptedNormal, fine-as}
 

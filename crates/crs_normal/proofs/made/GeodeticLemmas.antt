@@ -11,7 +11,7 @@ use Rattle.crs_value.specs.Prelude.{OfCrs, GeodeticParts, those, IsGeodetic, Own
 use Rattle.crs_value.specs.declared.values.level.Level.{Level}
 use Rattle.crs_value.specs.Sound.{Each}
 use Rattle.crs_normal.specs.LowerLaws.{LowerLaws}
-use Rattle.crs_normal.specs.CrsClass.{geodetic_class}
+use Rattle.crs_normal.specs.PartSpellings.{geodetic_class}
 use Rattle.crs_normal.specs.Normal.{IsFirstKeyword}
 use Rattle.crs_normal.specs.NormalOwn.{Has, HasAxes, HasTail, HasOwnForm, words_in}
 use Rattle.crs_normal.specs.SpelledCrs.{geodetic_keyword, item_geodetic, norm_geodetic}

@@ -9,7 +9,7 @@ use Rattle.crs_shape.specs.Prelude.{asked_kind, SpellsWord, direction_word, syst
 use Rattle.crs_value.specs.Prelude.{ReadsOptional, ReadsAxis, ReadsAxisMeridian, ReadsDirection, ReadsNumberOf, ReadsType, AxisMeridianParts, AxisParts, SystemParts}
 use Rattle.crs_value.specs.declared.values.level.Level.{Level}
 use Rattle.crs_matching.specs.Prelude.{own_or}
-use Rattle.crs_normal.specs.WithoutPlaces.{without_places}
+use Rattle.crs_normal.proofs.WithoutPlaces.{without_places}
 use Rattle.crs_normal.specs.NormalOwn.{Has, HasOneOrder, numbers_in}
 use Rattle.crs_value.specs.Sound.{Each}
 use Rattle.crs_normal.specs.SpelledItems.{number_node, opt, word_item, item_unit, norm_unit, norm_units, whole_value}

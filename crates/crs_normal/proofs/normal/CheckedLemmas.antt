@@ -6,7 +6,7 @@ use Rattle.crs_shape.specs.Prelude.{SlotParts, slots_of}
 use Rattle.crs_value.specs.Prelude.{AnyOf, AtClass, Breaks, BreaksAmong, Own, is_a, those, ReadsElse, ReadsFirst, IsRepeated}
 use Rattle.crs_value.specs.Sound.{Each}
 use Rattle.crs_value.specs.declared.values.level.Level.{Level}
-use Rattle.crs_normal.specs.WithoutPlaces.{without_places}
+use Rattle.crs_normal.proofs.WithoutPlaces.{without_places}
 use Rattle.crs_normal.proofs.members.PairLemmas.{Alone}
 use Rattle.crs_normal.proofs.normal.FormLemmas.{Form, Looked, Opened, by-slots, found-in}
 use Rattle.crs_normal.proofs.read.ViewLemmas.{onto, those-at}

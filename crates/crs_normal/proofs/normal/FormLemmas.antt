@@ -8,7 +8,7 @@ use Rattle.crs_shape.specs.declared.class.Class.{Class}
 use Rattle.crs_shape.specs.Prelude.{Shaped, AreShaped, SlotParts, class_of_kind, slots_of}
 use Rattle.crs_value.specs.Prelude.{AtClass, Breaks, BreaksAmong, Own, those, ReadsFirst, ReadsOptional, ReadsEach, kept, kept-where_none}
 use Rattle.crs_value.specs.declared.values.level.Level.{Level}
-use Rattle.crs_normal.specs.WithoutPlaces.{without_places, all_without_places}
+use Rattle.crs_normal.proofs.WithoutPlaces.{without_places, all_without_places}
 use Rattle.crs_normal.specs.Normal.{IsNormalIn, AreNormalIn, IsFirstKeyword, KeepsAll}
 use Rattle.crs_normal.specs.NormalOwn.{Ascend, HasSets, HasOwnForm}
 use Rattle.crs_value.specs.Sound.{Each}

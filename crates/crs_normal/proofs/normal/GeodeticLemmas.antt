@@ -8,7 +8,7 @@ use Rattle.crs_shape.specs.declared.system_type.SystemType.TheVariants as types
 use Rattle.crs_shape.specs.Prelude.{geodetic_slots, dimensions_of}
 use Rattle.crs_value.specs.Prelude.{BreaksAmong, OfCrs, Own, GeodeticParts, ReadsGeodetic}
 use Rattle.crs_value.specs.declared.values.level.Level.{Level}
-use Rattle.crs_normal.specs.WithoutPlaces.{without_places}
+use Rattle.crs_normal.proofs.WithoutPlaces.{without_places}
 use Rattle.crs_normal.specs.NormalOwn.{Has, HasAxes, HasTail}
 use Rattle.crs_normal.specs.SpelledCrs.{geodetic_keyword, item_geodetic, norm_geodetic}
 use Rattle.crs_normal.specs.SpelledFrames.{item_meridian, norm_given, norm_meridian}

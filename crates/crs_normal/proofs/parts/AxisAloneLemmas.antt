@@ -8,7 +8,7 @@ use Rattle.crs_shape.specs.Prelude.{is_keyword, AreShaped, Shaped, class_in, cla
 use Rattle.crs_value.specs.Prelude.{AtClass, ReadsEach, ReadsFirst, those, ReadsAxis, ReadsIdent, ReadsNumber, ReadsText, ReadsUnit, AxisParts, UnitParts}
 use Rattle.crs_value.specs.declared.values.level.Level.{Level}
 use Rattle.crs_normal.specs.AxisAlone.{AreNormalArguments, IsNormalArgument, IsNormalAxis}
-use Rattle.crs_normal.specs.WithoutPlaces.{without_places}
+use Rattle.crs_normal.proofs.WithoutPlaces.{without_places}
 use Rattle.crs_normal.specs.Normal.{IsNormalIn}
 use Rattle.crs_value.specs.Sound.{Each}
 use Rattle.crs_normal.specs.Prelude.{norm_axis_alone, item_axis, item_unit, norm_unit}

@@ -13,7 +13,7 @@ use Rattle.crs_value.specs.declared.values.level.Level.{Level}
 use Rattle.crs_same.specs.Prelude.{AreSame, parts_of_geodetic, parts_of_projected, parts_of_horizontal, SameCrs}
 use Rattle.crs_normal.specs.WrittenForm.{IsWrittenForm}
 use Rattle.crs_normal.specs.Decides.{FormDecides}
-use Rattle.crs_normal.specs.CrsClass.{geodetic_class}
+use Rattle.crs_normal.specs.PartSpellings.{geodetic_class}
 use Rattle.crs_normal.specs.LowerLaws.{LowerLaws}
 use Rattle.crs_normal.specs.PartSpellings.{IsHorizontalPart, IsSpelledGeodetic, IsSpelledHorizontal, IsSpelledProjected}
 use Rattle.crs_normal.specs.PartTexts.{geodetic_text, horizontal_text, projected_text}

@@ -7,7 +7,7 @@ use Rattle.crs_shape.specs.contracts.class.Class.{the_type}
 use Rattle.crs_shape.specs.declared.class.Class.{Class}
 use Rattle.crs_shape.specs.Prelude.{AllTaken, Fills, AllFilled, joined, Allowed, Shaped, AreShaped, class_in, SlotParts, optional_of, slots_of, takes, is_class}
 use Rattle.crs_value.specs.Prelude.{is_a, those}
-use Rattle.crs_normal.specs.WithoutPlaces.{without_places, all_without_places}
+use Rattle.crs_normal.proofs.WithoutPlaces.{without_places, all_without_places}
 use Rattle.crs_value.specs.Sound.{Each}
 
 -- these items, and others after them

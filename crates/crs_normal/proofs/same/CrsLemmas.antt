@@ -7,14 +7,14 @@ use Rattle.crs_shape.specs.Prelude.{IsOneOf, dimensions_of}
 use Rattle.crs_value.specs.Prelude.{IsCompound, IsHorizontal, IsCrs, IsBase, IsGeodetic, IsProjected, IsVertical, IsSystem, SystemParts}
 use Rattle.crs_value.specs.declared.values.level.Level.{Level}
 use Rattle.crs_same.specs.Prelude.{AgreeBase, AgreeCompound, AgreeCrs, AgreeGeodetic, AgreeHorizontal, AgreeProjected, AgreeVertical}
-use Rattle.crs_normal.specs.Decides.{FormDecides, IsNumbered, SetsDecide}
+use Rattle.crs_normal.specs.Decides.{FormDecides, SetsDecide}
 use Rattle.crs_normal.specs.LowerLaws.{LowerLaws}
 use Rattle.crs_normal.specs.SpelledCrs.{norm_base, norm_compound, norm_crs, norm_geodetic, norm_horizontal, norm_projected, norm_vertical}
 use Rattle.crs_normal.proofs.same.ConversionLemmas.{conversion-agrees}
 use Rattle.crs_normal.proofs.normal.DimensionLemmas.{small-geodetic, small-projected, small-vertical, AreSmall, few-axes}
 use Rattle.crs_normal.proofs.same.DynamicLemmas.{dynamic-agrees}
 use Rattle.crs_normal.proofs.same.FrameLemmas.{geodetic-frame-agrees, meridian-agrees, vertical-frame-agrees}
-use Rattle.crs_normal.proofs.same.SystemLemmas.{system-agrees}
+use Rattle.crs_normal.proofs.same.SystemLemmas.{IsNumbered, system-agrees}
 use Rattle.crs_normal.proofs.same.TailLemmas.{tail-agrees}
 use Rattle.crs_normal.proofs.same.UnitLemmas.{unit-agrees}
 

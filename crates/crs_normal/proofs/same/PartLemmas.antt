@@ -1,8 +1,12 @@
 -- Numbers, and parts that may be missing, have one form exactly where they are the same.
-use Rattle.std.proofs.Common.{◌≡◌, ◌↔◌, Option, Some, None, arith}
+use Rattle.std.proofs.Common.{◌≡◌, ◌↔◌, Option, Some, None, IfSome, arith}
 use Rattle.crs_decimal.specs.Prelude.{SameNumber, Value, IsNormal, exact}
 use Rattle.crs_matching.specs.Prelude.{SameValue, BothOrNeither}
-use Rattle.crs_normal.specs.Decides.{FormDecides, Maybe}
+use Rattle.crs_normal.specs.Decides.{FormDecides}
+
+-- a part that may be missing, with what is asked of it where it is there
+abbrev pub Maybe : {A : Type 0} → (A → Type 0) → Option A → Type 0
+Maybe Is value = IfSome value Is
 
 -- numbers decide which normal values are equal
 abbrev pub NumbersDecide : Type 0

@@ -1,15 +1,19 @@
 -- Coordinate systems have one form exactly where they are the same.
-use Rattle.std.proofs.Common.{◌≡◌, ◌↔◌, ℕ, zero, suc, ◌+◌, ◌<◌, ◌≤◌, length, refl, arith}
+use Rattle.std.proofs.Common.{◌≡◌, ◌↔◌, ℕ, zero, suc, ◌+◌, ◌<◌, ◌≤◌, ◌^◌, length, refl, arith}
 use Rattle.std.specs.Prelude.{⊤}
-use Rattle.crs_value.specs.Prelude.{SystemParts}
+use Rattle.crs_value.specs.Prelude.{IsSystem, SystemParts}
 use Rattle.crs_value.specs.declared.values.level.Level.{Level}
 use Rattle.crs_matching.specs.Prelude.{SameValue}
 use Rattle.crs_same.specs.Prelude.{AgreeAt, AgreeAxes, AgreeAxis, AgreeSystem}
-use Rattle.crs_normal.specs.Decides.{FormDecides, IsNumbered, SetsDecide}
+use Rattle.crs_normal.specs.Decides.{FormDecides, SetsDecide}
 use Rattle.crs_normal.specs.LowerLaws.{LowerLaws}
 use Rattle.crs_normal.specs.SpelledSystems.{axes_from, norm_axis, norm_system}
 use Rattle.crs_normal.proofs.same.AxisLemmas.{Found, axis-agrees, both-agree, found, sound-at}
 use Rattle.crs_normal.proofs.same.PartLemmas.{values-agree}
+
+-- a system whose number of axes has at most 18 digits
+abbrev pub IsNumbered : SystemParts → Type 0
+IsNumbered system = IsSystem system × (length system.axes < 10 ^ 18)
 
 module _ (laws : LowerLaws) (sets : SetsDecide) (level : Level) where
   found-at : (system : SystemParts) → IsNumbered system → (k : ℕ) → 1 ≤ k → k ≤ length system.axes →

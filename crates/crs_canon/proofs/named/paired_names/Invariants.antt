@@ -2,7 +2,7 @@ use Rattle.std.proofs.Common.{◌≡◌, [], filter, map, drop}
 use Rattle.crs_normal.specs.Prelude.{put_all}
 use Rattle.crs_writer.specs.Prelude.{spellings}
 use Rattle.crs_canon.specs.Named.{is_paired}
-use Rattle.crs_canon.specs.PairedNames.{names_paired}
+use Rattle.crs_canon.proofs.NamedLemmas.{names_paired}
 use Rattle.crs_canon.proofs.named.paired_names.Given as goal
 
 abbrev pub invariant-loop-member : goal.invariant-loop-member

@@ -1,6 +1,5 @@
 use Rattle.std.proofs.Common.{rules}
-use Rattle.crs_nodes.proofs.CopiedLemmas.{method-copied}
-use Rattle.crs_nodes.specs.Copied.{IsPlainMethod}
+use Rattle.crs_nodes.proofs.CopiedLemmas.{IsPlainMethod, method-copied}
 use Rattle.crs_nodes.specs.Cursor.{item}
 use Rattle.crs_nodes.proofs.copied.method.Goals as goal
 

@@ -3,9 +3,9 @@ use Rattle.std.proofs.lemmas.Option.{IfSome_then}
 use Rattle.crs_text.specs.declared.items.ItemKind.TheVariants as items
 use Rattle.crs_shape.specs.declared.class.Class.TheVariants as class
 use Rattle.crs_value.specs.Prelude.{ahead, item_at, ReadsParameter}
-use Rattle.crs_nodes.specs.Copied.{IsNext, IsPlainParameter}
+use Rattle.crs_nodes.specs.Copied.{IsNext}
 use Rattle.crs_nodes.specs.Cursor.{item}
-use Rattle.crs_nodes.proofs.CopiedLemmas.{parameter-copied}
+use Rattle.crs_nodes.proofs.CopiedLemmas.{IsPlainParameter, parameter-copied}
 use Rattle.crs_nodes.proofs.copied.parameter.Goals as goal
 
 pub returns : goal.returns

@@ -1,4 +1,4 @@
--- A bridge: items without their places and kinds of delimiters: all places 0 and all delimiters
+-- Items without their places and kinds of delimiters: all places 0 and all delimiters
 -- square, as canonical items have them.
 use Rattle.std.specs.Prelude.{true}
 use Rattle.crs_text.specs.Items.{Item, leaf, node, Siblings, End, More}
