@@ -1,6 +1,6 @@
 -- A bridge: ellipsoids, prime meridians, reference frames and ensembles in their one form, and as
 -- items.
-use Rattle.std.specs.Prelude.{ℕ, ◌==◌, Bool, List, [], Option, Some, None, codes, map}
+use Rattle.std.specs.Prelude.{ℕ, ◌==◌, Bool, List, Option, Some, None, codes, map}
 use Rattle.std.specs.Prelude.{if◌then◌else◌}
 use Rattle.std.specs.Option.{option_map}
 use Rattle.crs_decimal.specs.Value.{Value}
@@ -11,8 +11,9 @@ use Rattle.crs_value.specs.Values.{EllipsoidParts, MeridianParts, MemberParts, D
 use Rattle.crs_value.specs.declared.values.frame.Frame.{Frame}
 use Rattle.crs_value.specs.declared.values.frame.Frame.TheVariants as frame
 use Rattle.crs_value.specs.declared.values.level.Level.{Level}
+use Rattle.crs_same.specs.PartsOfFrames.{or_greenwich}
 use Rattle.crs_normal.specs.Ordered.{in_order}
-use Rattle.crs_normal.specs.SpelledItems.{each, node_of, number_item, number_node, opt, text_item, text_node, item_ident, item_unit, norm_length, norm_units, set_idents, whole_value}
+use Rattle.crs_normal.specs.SpelledItems.{each, node_of, number_item, number_node, opt, text_item, text_node, item_ident, item_unit, norm_length, norm_units, set_idents}
 
 -- ---- ellipsoids: the unit is written
 
@@ -41,8 +42,7 @@ is_zero value = value.digits == 0
 
 -- what a missing prime meridian is: Greenwich at longitude 0
 abbrev pub greenwich : MeridianParts
-greenwich =
-    record { name = codes "Greenwich"; longitude = whole_value 0; unit = None; identifiers = [] }
+greenwich = or_greenwich None
 
 -- a prime meridian that is written: at longitude 0 without a unit
 abbrev pub norm_given : Level → MeridianParts → MeridianParts

@@ -13,7 +13,7 @@ use Rattle.crs_shape.specs.Words.{unit_word}
 use Rattle.crs_value.specs.Values.{IdentParts, UnitParts}
 use Rattle.crs_value.specs.Kept.{kept}
 use Rattle.crs_value.specs.declared.values.level.Level.{Level}
-use Rattle.crs_matching.specs.SameParts.{kind_as}
+use Rattle.crs_matching.specs.SameParts.{kind_as, or_metre}
 use Rattle.crs_normal.specs.Ordered.{in_order}
 use Rattle.crs_shape.specs.declared.unit_kind.UnitKind.TheVariants as kinds
 
@@ -98,8 +98,7 @@ norm_units level asked (Some u) = Some (norm_unit level asked u)
 
 -- what a missing unit of length is
 abbrev pub metre : UnitParts
-metre =
-    record { kind = kinds.Length; name = codes "metre"; factor = whole_value 1; identifiers = [] }
+metre = or_metre None
 
 -- a unit of length; a missing one is the metre
 abbrev pub norm_length : Level → Option UnitParts → UnitParts
