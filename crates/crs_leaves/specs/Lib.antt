@@ -1,2 +1,2 @@
-pub mod Direct
+pub mod FromItems
 pub mod Openings

@@ -5,7 +5,7 @@ ghost use Rattle.crs_value.specs.Reading.{Holds, item_at, those, ReadsAll};
 ghost use Rattle.crs_value.specs.Reads.{ReadsAxis};
 ghost use Rattle.crs_value.specs.Values.{AxisParts};
 ghost use Rattle.crs_normal.specs.SpelledSystems.{axis_at, is_at, is_number};
-ghost use Rattle.crs_leaves.specs.Direct.{IsReadAt};
+ghost use Rattle.crs_leaves.specs.FromItems.{IsReadAt};
 
 use crate::numbers::decimal_of;
 use crs_decimal::Decimal;

@@ -4,7 +4,7 @@ ghost use Rattle.crs_decimal.specs.Plain.{plain};
 ghost use Rattle.crs_decimal.specs.Value.{Value};
 ghost use Rattle.crs_normal.specs.SpelledItems.{whole_value};
 ghost use Rattle.crs_nodes.specs.Found.{IsNumber};
-ghost use Rattle.crs_leaves.specs.Direct.{Writes};
+ghost use Rattle.crs_leaves.specs.FromItems.{Writes};
 
 use crate::texts::{append, write_decimal};
 use crs_decimal::{Decimal, plain_of};

@@ -2,4 +2,4 @@ pub mod CopiedAxisLemmas
 pub mod CopiedDatumLemmas
 pub mod CopiedLemmas
 pub mod CopiedUsageLemmas
-pub mod DirectFlatLemmas
+pub mod FlatNodeLemmas

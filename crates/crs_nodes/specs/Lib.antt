@@ -1,3 +1,3 @@
 pub mod Copied
-pub mod Cursor
 pub mod Found
+pub mod Node

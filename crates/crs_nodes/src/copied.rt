@@ -13,7 +13,7 @@ ghost use Rattle.crs_normal.specs.SpelledItems.{is_short, item_ident};
 ghost use Rattle.crs_normal.specs.SpelledSystems.{item_axis, norm_axis};
 ghost use Rattle.crs_nodes.specs.Copied.{IsDirectionWord, IsEnd, IsNext, IsOpened, IsPlainBox, IsPlainEllipsoid};
 ghost use Rattle.crs_nodes.specs.Copied.{IsPlainNumber, IsPlainOrder, IsSaidKind, IsSaidUnit, IsShortIdent, IsTextNode};
-ghost use Rattle.crs_nodes.specs.Cursor.{item};
+ghost use Rattle.crs_nodes.specs.Node.{item};
 
 use crate::node::Node;
 use crs_decimal::{are_digits, is_plain};

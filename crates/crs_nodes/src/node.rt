@@ -48,7 +48,7 @@ impl<'i, 'a> Node<'i, 'a> {
     ghost use Rattle.crs_value.specs.Reading.{Holds, ReadsFirst, ReadsIfAny, ReadsOne, ReadsOptional};
     ghost use Rattle.crs_value.specs.Reads.{ReadsDirection, ReadsKind, ReadsNumberOf, ReadsText, ReadsTextOf, ReadsUnit, single_of, ReadsNumberAt, ReadsUnitOf, parameter_units};
     ghost use Rattle.crs_value.specs.Values.{UnitParts};
-    ghost use Rattle.crs_nodes.specs.Cursor.{IsFirst, args, item};
+    ghost use Rattle.crs_nodes.specs.Node.{IsFirst, args, item};
     ghost use Rattle.crs_nodes.specs.Found.{IsNumber, SaysIfAny};
 
     /// The first argument of this class. Profile.

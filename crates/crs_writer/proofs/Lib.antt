@@ -1,12 +1,12 @@
 pub mod AxisLemmas
 pub mod ChainLemmas
 pub mod CopyLemmas
-pub mod CursorLemmas
-pub mod DirectLemmas
-pub mod DirectPartLemmas
 pub mod EncloseLemmas
 pub mod FlatLemmas
+pub mod FoundLemmas
 pub mod GatherLemmas
+pub mod NodeTextLemmas
+pub mod NothingWrittenLemmas
 pub mod PieceLemmas
 pub mod SetLemmas
 pub mod SpanLemmas

@@ -5,8 +5,8 @@ ghost use Rattle.crs_shape.specs.declared.class.Class.{Class};
 ghost use Rattle.crs_value.specs.FoundArguments.{from_found};
 ghost use Rattle.crs_value.specs.Reading.{Holds, ReadsEach};
 ghost use Rattle.crs_normal.specs.Ordered.{put};
-ghost use Rattle.crs_nodes.specs.Cursor.{item};
-ghost use Rattle.crs_leaves.specs.Direct.{Writes};
+ghost use Rattle.crs_nodes.specs.Node.{item};
+ghost use Rattle.crs_leaves.specs.FromItems.{Writes};
 ghost use Rattle.crs_writer.specs.Parts.{SaysFirst};
 ghost use Rattle.crs_writer.specs.Spans.{AreInOrder, texts_at};
 

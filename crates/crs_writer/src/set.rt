@@ -1,7 +1,7 @@
 //! Sets: each spelling once, in ascending order of the bytes.
 ghost use Rattle.std.specs.Prelude.{◌≡◌, ◌∷◌, ◌++◌, List, map, OnOk};
 ghost use Rattle.crs_normal.specs.Ordered.{put, put_all};
-ghost use Rattle.crs_leaves.specs.Direct.{Writes};
+ghost use Rattle.crs_leaves.specs.FromItems.{Writes};
 ghost use Rattle.crs_writer.specs.Members.{set_text, spellings};
 ghost use Rattle.crs_writer.specs.SetText.{commas};
 ghost use Rattle.crs_writer.specs.Spans.{AreInOrder, texts_at};

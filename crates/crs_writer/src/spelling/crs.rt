@@ -16,9 +16,9 @@ ghost use Rattle.crs_normal.specs.SpelledFrames.{item_frame, item_meridian, norm
 ghost use Rattle.crs_normal.specs.SpelledItems.{each, node_of, opt, text_item, item_ident, item_unit, norm_units, set_idents};
 ghost use Rattle.crs_normal.specs.SpelledSystems.{norm_system, system_items};
 ghost use Rattle.crs_normal.specs.SpelledUsages.{norm_tail, tail_items};
-ghost use Rattle.crs_nodes.specs.Cursor.{item};
+ghost use Rattle.crs_nodes.specs.Node.{item};
 ghost use Rattle.crs_nodes.specs.Found.{SaysIfAny};
-ghost use Rattle.crs_leaves.specs.Direct.{IsRead, Writes};
+ghost use Rattle.crs_leaves.specs.FromItems.{IsRead, Writes};
 ghost use Rattle.crs_leaves.specs.Openings.{named_node};
 ghost use Rattle.crs_writer.specs.CrsText.{crs_text};
 

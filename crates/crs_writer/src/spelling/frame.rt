@@ -10,9 +10,9 @@ ghost use Rattle.crs_value.specs.Values.{DatumParts, EnsembleParts};
 ghost use Rattle.crs_value.specs.declared.values.frame.Frame.{Frame};
 ghost use Rattle.crs_normal.specs.PartTexts.{datum_text, ensemble_text, frame_text, member_text};
 ghost use Rattle.crs_normal.specs.SpelledFrames.{item_datum, item_frame, norm_datum, norm_frame};
-ghost use Rattle.crs_nodes.specs.Cursor.{item};
+ghost use Rattle.crs_nodes.specs.Node.{item};
 ghost use Rattle.crs_nodes.specs.Found.{SaysIfAny};
-ghost use Rattle.crs_leaves.specs.Direct.{Writes};
+ghost use Rattle.crs_leaves.specs.FromItems.{Writes};
 ghost use Rattle.crs_writer.specs.Parts.{datum_node};
 
 use crate::members::{MembersPart, ReadAs};

@@ -12,7 +12,7 @@ ghost use Rattle.crs_normal.specs.SpelledDynamic.{item_deformation_model, norm_d
 ghost use Rattle.crs_normal.specs.SpelledFrames.{greenwich, is_zero, item_meridian, norm_meridian};
 ghost use Rattle.crs_normal.specs.SpelledItems.{each, number_item, opt, item_ident, item_unit, norm_length, set_idents};
 ghost use Rattle.crs_nodes.specs.Found.{SaysIfAny};
-ghost use Rattle.crs_leaves.specs.Direct.{Writes};
+ghost use Rattle.crs_leaves.specs.FromItems.{Writes};
 ghost use Rattle.crs_leaves.specs.Openings.{named_node};
 
 use crate::members::ReadAs;

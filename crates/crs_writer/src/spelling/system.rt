@@ -17,9 +17,9 @@ ghost use Rattle.crs_normal.specs.PartTexts.{axis_meridian_text, axis_text};
 ghost use Rattle.crs_normal.specs.SpelledItems.{each, number_node, opt, word_item, item_ident, item_unit, norm_units, set_idents};
 ghost use Rattle.crs_normal.specs.SpelledSystems.{axes_from, axis_at, item_axis, item_axis_meridian, item_head, norm_axis};
 ghost use Rattle.crs_normal.specs.SpelledSystems.{norm_axis_meridians, norm_system, system_items, with_axis};
-ghost use Rattle.crs_nodes.specs.Cursor.{args, item};
+ghost use Rattle.crs_nodes.specs.Node.{args, item};
 ghost use Rattle.crs_nodes.specs.Found.{SaysIfAny};
-ghost use Rattle.crs_leaves.specs.Direct.{Writes};
+ghost use Rattle.crs_leaves.specs.FromItems.{Writes};
 ghost use Rattle.crs_leaves.specs.Openings.{named_node, numbered_node};
 
 use crate::members::ReadAs;

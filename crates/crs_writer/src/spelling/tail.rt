@@ -15,9 +15,9 @@ ghost use Rattle.crs_normal.specs.PartTexts.{box_text, extent_text, usage_text};
 ghost use Rattle.crs_normal.specs.SpelledItems.{node_from, number_item, opt, text_node, each, item_unit, norm_length, item_ident, set_idents};
 ghost use Rattle.crs_normal.specs.SpelledUsages.{item_box, item_extent, norm_extent, item_usage, norm_tail};
 ghost use Rattle.crs_normal.specs.SpelledUsages.{set_usages, tail_items};
-ghost use Rattle.crs_nodes.specs.Cursor.{item};
+ghost use Rattle.crs_nodes.specs.Node.{item};
 ghost use Rattle.crs_nodes.specs.Found.{SaysIfAny};
-ghost use Rattle.crs_leaves.specs.Direct.{Writes};
+ghost use Rattle.crs_leaves.specs.FromItems.{Writes};
 ghost use Rattle.crs_leaves.specs.Openings.{enclosed, numbered_node};
 
 use crate::members::ReadAs;

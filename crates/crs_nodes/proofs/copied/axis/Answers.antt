@@ -2,7 +2,7 @@ use Rattle.std.proofs.Common.{rules}
 use Rattle.crs_text.specs.declared.items.ItemKind.TheVariants as items
 use Rattle.crs_value.specs.Prelude.{ahead, item_at}
 use Rattle.crs_nodes.specs.Copied.{IsNext}
-use Rattle.crs_nodes.specs.Cursor.{item}
+use Rattle.crs_nodes.specs.Node.{item}
 use Rattle.crs_nodes.proofs.CopiedAxisLemmas.{IsPlainAxis, axis-copied}
 use Rattle.crs_nodes.proofs.copied.axis.Goals as goal
 

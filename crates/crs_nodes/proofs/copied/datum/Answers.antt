@@ -1,6 +1,6 @@
 use Rattle.std.proofs.Common.{rules}
 use Rattle.crs_nodes.proofs.CopiedDatumLemmas.{IsPlainDatum, datum-copied}
-use Rattle.crs_nodes.specs.Cursor.{item}
+use Rattle.crs_nodes.specs.Node.{item}
 use Rattle.crs_nodes.proofs.copied.datum.Goals as goal
 
 pub returns : goal.returns

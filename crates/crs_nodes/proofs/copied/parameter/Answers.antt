@@ -4,7 +4,7 @@ use Rattle.crs_text.specs.declared.items.ItemKind.TheVariants as items
 use Rattle.crs_shape.specs.declared.class.Class.TheVariants as class
 use Rattle.crs_value.specs.Prelude.{ahead, item_at, ReadsParameter}
 use Rattle.crs_nodes.specs.Copied.{IsNext}
-use Rattle.crs_nodes.specs.Cursor.{item}
+use Rattle.crs_nodes.specs.Node.{item}
 use Rattle.crs_nodes.proofs.CopiedLemmas.{IsPlainParameter, parameter-copied}
 use Rattle.crs_nodes.proofs.copied.parameter.Goals as goal
 

@@ -1,6 +1,6 @@
 use Rattle.std.proofs.Common.{rules}
 use Rattle.crs_nodes.proofs.CopiedUsageLemmas.{IsPlainUsage, usage-copied}
-use Rattle.crs_nodes.specs.Cursor.{item}
+use Rattle.crs_nodes.specs.Node.{item}
 use Rattle.crs_nodes.proofs.copied.usage.Goals as goal
 
 pub returns : goal.returns

@@ -1,6 +1,6 @@
 use Rattle.std.proofs.Common.{rules}
 use Rattle.crs_value.specs.Prelude.{item_at}
-use Rattle.crs_nodes.proofs.DirectFlatLemmas.{leaves-by}
+use Rattle.crs_nodes.proofs.FlatNodeLemmas.{leaves-by}
 use Rattle.crs_nodes.proofs.lookup.is_flat.Goals as goal
 
 pub returns : goal.returns

@@ -1,5 +1,5 @@
 use Rattle.std.proofs.Common.{rules}
-use Rattle.crs_nodes.proofs.DirectFlatLemmas.{none-among}
+use Rattle.crs_nodes.proofs.FlatNodeLemmas.{none-among}
 use Rattle.crs_nodes.proofs.node.Node.is_flat.Goals as goal
 
 pub returns : goal.returns

@@ -2,7 +2,7 @@ use Rattle.std.proofs.lemmas.Result.{on_ok_weaker}
 use Rattle.crs_text.specs.Prelude.{End, More, Siblings}
 use Rattle.crs_normal.specs.Prelude.{each, item_ident, item_unit, norm_units, number_item, opt, set_idents}
 use Rattle.crs_leaves.specs.Openings.{opened}
-use Rattle.crs_writer.proofs.DirectLemmas.{closed}
+use Rattle.crs_writer.proofs.NodeTextLemmas.{closed}
 use Rattle.crs_writer.proofs.FlatLemmas.{then-unit, told}
 use Rattle.crs_writer.proofs.PieceLemmas.{then-more}
 use Rattle.crs_writer.proofs.spelling.common.write_measured.Goals as goal

@@ -4,7 +4,7 @@ use Rattle.std.specs.Option.{option_map}
 use Rattle.crs_text.specs.Prelude.{End, More, Siblings}
 use Rattle.crs_leaves.specs.Openings.{opened}
 use Rattle.crs_normal.specs.Prelude.{each, item_ellipsoid, item_ident, item_member, norm_ellipsoid, number_node, opt, set_idents, set_members}
-use Rattle.crs_writer.proofs.DirectLemmas.{closed}
+use Rattle.crs_writer.proofs.NodeTextLemmas.{closed}
 use Rattle.crs_writer.proofs.FlatLemmas.{then-part, then-set, told}
 use Rattle.crs_writer.proofs.PieceLemmas.{then-more}
 use Rattle.crs_writer.proofs.WrittenLemmas.{members-written}

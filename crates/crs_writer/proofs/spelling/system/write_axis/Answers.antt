@@ -6,7 +6,7 @@ use Rattle.crs_normal.specs.Prelude.{each, number_node, opt, word_item, item_axi
 use Rattle.crs_leaves.specs.Openings.{opened}
 use Rattle.crs_writer.specs.Parts.{opt_text}
 use Rattle.crs_writer.proofs.PieceLemmas.{then-more}
-use Rattle.crs_writer.proofs.DirectLemmas.{closed}
+use Rattle.crs_writer.proofs.NodeTextLemmas.{closed}
 use Rattle.crs_writer.proofs.FlatLemmas.{then-along, then-number, then-unit, told}
 use Rattle.crs_writer.proofs.spelling.system.write_axis.Goals as goal
 

@@ -4,9 +4,9 @@ use Rattle.crs_shape.specs.Prelude.{asked_kind}
 use Rattle.crs_shape.specs.declared.class.Class.TheVariants as class
 use Rattle.crs_value.specs.Prelude.{ReadsAxisMeridian, ReadsUnit}
 use Rattle.crs_normal.specs.Prelude.{whole_value}
-use Rattle.crs_nodes.specs.Cursor.{item}
+use Rattle.crs_nodes.specs.Node.{item}
 use Rattle.crs_nodes.specs.declared.node.Node.{Node}
-use Rattle.crs_writer.proofs.CursorLemmas.{first-said}
+use Rattle.crs_writer.proofs.FoundLemmas.{first-said}
 use Rattle.crs_writer.proofs.FlatLemmas.{through}
 use Rattle.crs_writer.proofs.SystemLemmas.{placed}
 use Rattle.crs_writer.proofs.spelling.system.write_axis_of.Goals as goal

@@ -4,7 +4,7 @@ use Rattle.crs_text.specs.Prelude.{End}
 use Rattle.crs_normal.specs.Prelude.{item_ident, opt, set_idents, text_node}
 use Rattle.crs_leaves.specs.Openings.{text_behind}
 use Rattle.crs_writer.proofs.PieceLemmas.{then-each}
-use Rattle.crs_writer.proofs.DirectLemmas.{last-text}
+use Rattle.crs_writer.proofs.NodeTextLemmas.{last-text}
 use Rattle.crs_writer.proofs.FlatLemmas.{told}
 use Rattle.crs_writer.proofs.spelling.tail.write_end.Goals as goal
 

@@ -3,7 +3,7 @@ use Rattle.crs_shape.specs.declared.class.Class.TheVariants as class
 use Rattle.crs_text.specs.Prelude.{item_text}
 use Rattle.crs_value.specs.Prelude.{ReadsIdent}
 use Rattle.crs_normal.specs.Prelude.{item_ident}
-use Rattle.crs_writer.proofs.DirectPartLemmas.{idents-dropped, idents-kept, none-written, retold, untold}
+use Rattle.crs_writer.proofs.NothingWrittenLemmas.{idents-dropped, idents-kept, none-written, retold, untold}
 use Rattle.crs_writer.proofs.spelling.common.RefNodeIdentsPart.put.Goals as goal
 
 pub returns-then-is_flat : goal.returns-then-is_flat

@@ -1,6 +1,6 @@
 use Rattle.crs_shape.specs.declared.class.Class.TheVariants as class
 use Rattle.crs_value.specs.Prelude.{ReadsMeridian, ReadsUnit, ReadsDynamic}
-use Rattle.crs_writer.proofs.CursorLemmas.{first-said}
+use Rattle.crs_writer.proofs.FoundLemmas.{first-said}
 use Rattle.crs_writer.proofs.FlatLemmas.{written}
 use Rattle.crs_writer.proofs.spelling.crs.BaseReadAs.write_of.Goals as goal
 

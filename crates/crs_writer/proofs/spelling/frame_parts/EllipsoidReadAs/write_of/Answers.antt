@@ -1,6 +1,6 @@
 use Rattle.crs_shape.specs.declared.class.Class.TheVariants as class
 use Rattle.crs_value.specs.Prelude.{ReadsUnit}
-use Rattle.crs_writer.proofs.CursorLemmas.{first-said}
+use Rattle.crs_writer.proofs.FoundLemmas.{first-said}
 use Rattle.crs_writer.proofs.FlatLemmas.{written}
 use Rattle.crs_writer.proofs.spelling.frame_parts.EllipsoidReadAs.write_of.Goals as goal
 

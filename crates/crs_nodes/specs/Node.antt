@@ -1,10 +1,11 @@
--- A bridge: the item that a cursor is at.
+-- A bridge: the item that a node is of, and its arguments.
 use Rattle.std.specs.Prelude.{◌≡◌, List, [], ◌∷◌, Option, Some, None}
 use Rattle.crs_text.specs.Items.{Item, arguments, rest_of, here}
 use Rattle.crs_shape.specs.declared.class.Class.{Class}
 use Rattle.crs_value.specs.Reading.{item_at, those}
 use Rattle.crs_nodes.specs.declared.node.Node.{Node}
 
+-- the item of a node
 abbrev pub item : Node → Item
 item n = item_at n.items.now n.id
 

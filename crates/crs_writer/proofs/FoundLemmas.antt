@@ -1,11 +1,11 @@
--- What the arguments of a cursor's item say.
+-- What the arguments of a node say.
 use Rattle.std.proofs.Common.{◌≡◌, List, [], ◌∷◌, Option, Some, None, sym, subst}
 use Rattle.std.specs.Option.{option_copied}
 use denote.Bor.{Bor}
 use Rattle.crs_text.specs.Prelude.{Item}
 use Rattle.crs_shape.specs.declared.class.Class.{Class}
 use Rattle.crs_value.specs.Prelude.{ReadsEach, ReadsFirst, ReadsOptional}
-use Rattle.crs_nodes.specs.Cursor.{IsFirst, args, item}
+use Rattle.crs_nodes.specs.Node.{IsFirst, args, item}
 use Rattle.crs_nodes.specs.Found.{SaysIfAny}
 use Rattle.crs_nodes.specs.declared.node.Node.{Node}
 use Rattle.crs_writer.proofs.FlatLemmas.{through}
