@@ -37,7 +37,7 @@ impl<'s, T: Canonical> Set<'s, T> {
         Set { members }
     }
 
-    /// Whether each member of either set has a same member in the other.
+    /// Whether each member of either set has a same member in the other. Time: the product of the two lengths.
     pub fn same(&self, other: &Set<'s, T>, level: Level) -> bool
         ensures { IsTrue result ↔ SameSet (T.Same level) self.now other.now }
     {
