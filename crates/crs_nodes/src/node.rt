@@ -21,7 +21,7 @@ pub struct Chain<'i, 'a> {
     pub few: bool,
 }
 
-// A node of fewer arguments has few members of each set.
+// A node of fewer arguments has few members of each set, which aren't counted by themselves.
 const FEW_ARGUMENTS: usize = 32;
 
 /// An item as one of a class. What is found in an item from which no value of the class is read isn't promised; an

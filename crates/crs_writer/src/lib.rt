@@ -1,4 +1,4 @@
-//! The canonical text of a text, written straight from its items.
+//! Writers of canonical spellings, from a value or straight from an item, and `Canon`, a canonical text with its level.
 #![tactic(auto)]
 
 mod canon_text;

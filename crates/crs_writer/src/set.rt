@@ -14,15 +14,15 @@ use crs_value::Level;
 use std::alloc::{AllocError, Global};
 use std::collections::BTreeSet;
 
-/// The room that a member's spelling is given at first, which most don't exceed: a vector that grows from nothing is
-/// copied several times on its way there. Profile.
-pub const MEMBER_ROOM: usize = 128;
+// The room that a member's spelling is given at first, which most don't exceed: a vector that grows from nothing is
+// copied several times on its way there.
+pub(crate) const MEMBER_ROOM: usize = 128;
 
-/// Up to this many members are few: each is compared with all that are there. Profile.
-pub const FEW: usize = 16;
+// A slice of fewer members has few: each is compared with all that are there. Of a node its number of arguments decides.
+pub(crate) const FEW: usize = 16;
 
-/// The room that the spellings of a few members are given at first. Profile.
-pub const FEW_ROOM: usize = 1024;
+// The room that the spellings of a few members are given at first.
+const FEW_ROOM: usize = 1024;
 
 // Appends spellings in order, a comma before each.
 fn write_sorted(out: &mut Vec<u8>, sorted: &BTreeSet<Vec<u8>>) -> Appended

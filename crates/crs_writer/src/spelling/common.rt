@@ -150,7 +150,7 @@ pub(crate) fn write_named<I: IdentsPart>(
 // ---- units
 
 // A comma, the keyword of a kind of unit, the opening delimiter and a quote.
-pub fn unit_opening(kind: UnitKind) -> &'static str
+fn unit_opening(kind: UnitKind) -> &'static str
     ensures { result.now ≡ 44 ∷ (unit_word kind ++ 91 ∷ 34 ∷ []) }
 {
     match kind {
@@ -171,7 +171,7 @@ fn bare_opening(kind: UnitKind) -> &'static [u8]
     }
 }
 
-pub fn write_metre(out: &mut Vec<u8>) -> Appended
+fn write_metre(out: &mut Vec<u8>) -> Appended
     ensures { OnOk result (out.new.items ≡ out.old.items ++ 44 ∷ item_text (item_unit metre)) }
 {
     append(out, b",LENGTHUNIT[\"metre\",1]")

@@ -40,7 +40,7 @@ use crs_value::{
 use std::alloc::AllocError;
 
 // The keyword of a geodetic CRS whose coordinate system has this type, the opening delimiter and a quote.
-pub fn geodetic_opening(system_type: SystemType) -> &'static str
+fn geodetic_opening(system_type: SystemType) -> &'static str
     ensures { result.now ≡ geodetic_keyword system_type ++ 91 ∷ 34 ∷ [] }
 {
     match system_type {

@@ -67,7 +67,7 @@ fn write_datum<'a, E: Part<Ellipsoid<'a>>, N: NumberPart, I: IdentsPart>(
     append(out, b"]")
 }
 
-// Of a value.
+// The reference frame that a value is, after an opening.
 #[tactic(auto, using(crate::proofs::FlatLemmas::value_rules))]
 fn write_datum_in(out: &mut Vec<u8>, opening: &[u8], datum: &Datum<'_>, level: Level) -> Appended
     ensures { OnOk result (out.new.items ≡ out.old.items ++ datum_node level opening.now datum.now) }
@@ -77,7 +77,7 @@ fn write_datum_in(out: &mut Vec<u8>, opening: &[u8], datum: &Datum<'_>, level: L
     write_datum(out, opening, (datum.name, &datum.identifiers), parts, level)
 }
 
-// Of an item.
+// The reference frame that is read from an item, after an opening.
 fn write_datum_of(out: &mut Vec<u8>, opening: &[u8], node: &Node<'_, '_>, level: Level) -> Appended
     ensures { OnOk result (Writes (ReadsDatum node.now.class (item node.now)) (datum_node level opening.now)
         out.old.items out.new.items) }
@@ -88,7 +88,7 @@ fn write_datum_of(out: &mut Vec<u8>, opening: &[u8], node: &Node<'_, '_>, level:
     write_datum(out, opening, (node.text(), node), parts, level)
 }
 
-// Of an item, after a comma, as a geodetic one.
+// The geodetic reference frame that is read from an item, after a comma.
 fn write_geodetic_datum(out: &mut Vec<u8>, node: &Node<'_, '_>, level: Level) -> Appended
     ensures { OnOk result (Writes (ReadsDatum node.now.class (item node.now))
         (λ d. 44 ∷ item_text (item_datum (codes "DATUM") (norm_datum level d))) out.old.items out.new.items) }
@@ -111,7 +111,7 @@ impl Spell for Datum<'_> {
     }
 }
 
-// The other parts are the ellipsoid and the accuracy.
+// An ensemble; its other parts are the ellipsoid and the accuracy.
 fn write_ensemble<
     'a,
     M: MembersPart<Member<'a>>,

@@ -106,7 +106,7 @@ impl<'a> ReadAs<'a> for Meridian<'a> {
     }
 }
 
-pub fn write_greenwich(out: &mut Vec<u8>) -> Appended
+fn write_greenwich(out: &mut Vec<u8>) -> Appended
     ensures { OnOk result (out.new.items ≡ out.old.items ++ 44 ∷ item_text (item_meridian greenwich)) }
 {
     append(out, b",PRIMEM[\"Greenwich\",0]")
