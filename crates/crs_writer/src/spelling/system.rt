@@ -108,9 +108,9 @@ impl Spell for Axis<'_> {
     }
 }
 
-// The type of an axis's system, and the axis's position.
+// A position in a coordinate system of a type.
 #[derive(Drop)]
-pub(crate) struct Seat {
+pub(crate) struct SystemPosition {
     system_type: SystemType,
     position: u64,
 }
@@ -132,10 +132,10 @@ pub(crate) trait SystemPart: Copy {
         ensures { (s : SystemParts) → Says self.now s → length s.axes ≡ result };
 
     // The axis of a system of this type at a position after a comma, if there is one.
-    fn put_axis(&self, out: &mut Vec<u8>, seat: Seat, level: Level) -> Appended
-        ensures { OnOk result ((s : SystemParts) → s.system_type ≡ seat.system_type → Says self.now s →
+    fn put_axis(&self, out: &mut Vec<u8>, at: SystemPosition, level: Level) -> Appended
+        ensures { OnOk result ((s : SystemParts) → s.system_type ≡ at.system_type → Says self.now s →
             out.new.items ≡ out.old.items ++ others_text (each item_axis
-            (with_axis level s seat.position (axis_at seat.position 1 s.axes) []) End)) };
+            (with_axis level s at.position (axis_at at.position 1 s.axes) []) End)) };
 }
 
 fn write_head<N: NumberPart, I: IdentsPart>(
@@ -166,11 +166,11 @@ fn write_axes<S: SystemPart>(
 {
     let count = system.axis_count();
     for index in 0..count {
-        let seat = Seat {
+        let at = SystemPosition {
             system_type,
             position: index as u64 + 1,
         };
-        system.put_axis(out, seat, level)?;
+        system.put_axis(out, at, level)?;
     }
     Ok(())
 }
@@ -240,10 +240,10 @@ impl<'b, 'a> SystemPart for &'b System<'a> {
         self.axes.as_slice().len()
     }
 
-    fn put_axis(&self, out: &mut Vec<u8>, seat: Seat, level: Level) -> Appended {
-        match axis_at(self.axes.as_slice(), seat.position) {
+    fn put_axis(&self, out: &mut Vec<u8>, at: SystemPosition, level: Level) -> Appended {
+        match axis_at(self.axes.as_slice(), at.position) {
             None => Ok(()),
-            Some(axis) => write_axis_in(out, *self, axis, seat.position, level),
+            Some(axis) => write_axis_in(out, *self, axis, at.position, level),
         }
     }
 }
@@ -294,24 +294,24 @@ fn write_axis_of<'i, 'a>(
     out: &mut Vec<u8>,
     crs: &Node<'i, 'a>,
     axis: &Node<'i, 'a>,
-    seat: Seat,
+    at: SystemPosition,
     level: Level,
 ) -> Appended
-    ensures { OnOk result ((s : SystemParts) (a : AxisParts) → s.system_type ≡ seat.system_type →
+    ensures { OnOk result ((s : SystemParts) (a : AxisParts) → s.system_type ≡ at.system_type →
         ReadsIfAny ReadsUnit Class.AxisUnit crs.now.class (item crs.now) s.unit →
         ReadsAxis axis.now.class (item axis.now) a →
-        out.new.items ≡ out.old.items ++ 44 ∷ item_text (item_axis (norm_axis level s seat.position a))) }
+        out.new.items ≡ out.old.items ++ 44 ∷ item_text (item_axis (norm_axis level s at.position a))) }
 {
-    if let Some(bytes) = copied::axis(axis, seat.position, level) {
+    if let Some(bytes) = copied::axis(axis, at.position, level) {
         return append_item(out, bytes);
     }
     append(out, b",")?;
     let direction = axis.direction();
-    let asked = seat.system_type.asked_kind(direction);
+    let asked = at.system_type.asked_kind(direction);
     let meridian = axis.first(Class::AxisMeridian);
     let unit = unit_of(crs, axis);
     let along = (direction, meridian.as_ref());
-    let measure = (Some(seat.position), asked, unit.as_ref());
+    let measure = (Some(at.position), asked, unit.as_ref());
     write_axis(out, (axis.text(), axis), along, measure, level)
 }
 
@@ -338,12 +338,12 @@ impl<'c, 'i, 'a> SystemPart for &'c Node<'i, 'a> {
         axes::axis_count(self.items, self.id, self.class)
     }
 
-    fn put_axis(&self, out: &mut Vec<u8>, seat: Seat, level: Level) -> Appended {
+    fn put_axis(&self, out: &mut Vec<u8>, at: SystemPosition, level: Level) -> Appended {
         let items = self.items;
         let class = Class::Axis;
-        match axes::axis_at(items, self.id, self.class, seat.position) {
+        match axes::axis_at(items, self.id, self.class, at.position) {
             None => Ok(()),
-            Some(id) => write_axis_of(out, *self, &Node { items, id, class }, seat, level),
+            Some(id) => write_axis_of(out, *self, &Node { items, id, class }, at, level),
         }
     }
 }
