@@ -2,7 +2,7 @@
 ghost use Rattle.crs_text.specs.Items.{HasId};
 
 use crate::lookup;
-use crs_shape::Class;
+use crs_shape::{Class, stands_as};
 use crs_text::{ItemId, ItemKind, Items};
 use crs_value::{Direction, UnitKind};
 
@@ -46,7 +46,7 @@ impl<'i, 'a> Node<'i, 'a> {
     ghost use Rattle.crs_shape.specs.declared.unit_kind.UnitKind.{UnitKind};
     ghost use Rattle.crs_value.specs.FoundArguments.{from_found};
     ghost use Rattle.crs_value.specs.Reading.{Holds, ReadsFirst, ReadsIfAny, ReadsOne, ReadsOptional};
-    ghost use Rattle.crs_value.specs.Reads.{ReadsDirection, ReadsKind, ReadsNumberOf, ReadsText, ReadsTextOf, ReadsUnit, single_of, ReadsNumberAt, ReadsUnitOf, parameter_units};
+    ghost use Rattle.crs_value.specs.Reads.{LacksUsage, ReadsDirection, ReadsKind, ReadsNumberOf, ReadsText, ReadsTextOf, ReadsUnit, single_of, ReadsNumberAt, ReadsUnitOf, parameter_units};
     ghost use Rattle.crs_value.specs.Values.{UnitParts};
     ghost use Rattle.crs_nodes.specs.Node.{IsFirst, args, item};
     ghost use Rattle.crs_nodes.specs.Found.{IsNumber, SaysIfAny};
@@ -80,12 +80,23 @@ impl<'i, 'a> Node<'i, 'a> {
         }
     }
 
-    /// Whether there is an argument of this class. Profile.
-    #[inline(always)]
-    pub fn has(&self, class: Class) -> bool
-        ensures { IsFalse result ↔ (args class self.now ≡ []) }
+    /// Whether a part of a usage is bare: an argument by itself, as in few CRSs. Profile.
+    pub fn has_bare(&self) -> bool
+        ensures { IsFalse result ↔ LacksUsage self.now.class (item self.now) }
     {
-        self.first(class).is_some()
+        let (items, parent) = (self.items, self.class);
+        let mut at = items.arg(self.id, 0);
+        while let Some(id) = at {
+            if stands_as(items, id, parent, Class::Scope)
+                || stands_as(items, id, parent, Class::Area)
+                || stands_as(items, id, parent, Class::BoundingBox)
+                || stands_as(items, id, parent, Class::VerticalExtent)
+            {
+                return true;
+            }
+            at = items.next(id);
+        }
+        false
     }
 
     /// Whether no argument is a node, as in most nodes that have no identifiers. Profile.

@@ -1,13 +1,12 @@
 //! Usages and their extents, and the ends of CRSs: usages, identifiers and remark.
-ghost use Rattle.std.specs.Prelude.{◌≡◌, ◌++◌, ◌<◌, ℕ, List, OnOk, Option, Some, codes, length, slice_set, ◌↔◌};
-ghost use Rattle.std.specs.Prelude.{IsFalse};
+ghost use Rattle.std.specs.Prelude.{◌≡◌, ◌++◌, ◌<◌, ℕ, List, OnOk, Option, Some, codes, length, slice_set};
 ghost use Rattle.std.specs.Option.{option_copied, option_map};
 ghost use Rattle.crs_decimal.specs.Value.{Value};
 ghost use Rattle.crs_text.specs.Items.{End, More, Siblings};
 ghost use Rattle.crs_text.specs.Written.{item_text, others_text};
 ghost use Rattle.crs_value.specs.Kept.{kept_one};
 ghost use Rattle.crs_value.specs.Reading.{ReadsIfAny};
-ghost use Rattle.crs_value.specs.Reads.{ReadsBox, ReadsExtent, ReadsUsage, LacksUsage, ReadsTail, ReadsTextOf};
+ghost use Rattle.crs_value.specs.Reads.{ReadsBox, ReadsExtent, ReadsUsage, ReadsTail, ReadsTextOf};
 ghost use Rattle.crs_value.specs.Values.{BoxParts, ExtentParts, UnitParts, IdentParts, TailParts};
 ghost use Rattle.crs_value.specs.declared.values.level.Level.TheVariants as levels;
 ghost use Rattle.crs_matching.specs.SameParts.{usages_of};
@@ -222,16 +221,6 @@ impl<'b, 'a> TailPart for &'b Tail<'a> {
 
 // ---- of an item
 
-// Whether a part of a usage is bare.
-fn has_bare(node: &Node<'_, '_>) -> bool
-    ensures { IsFalse result ↔ LacksUsage node.now.class (item node.now) }
-{
-    node.has(Class::Scope)
-        || node.has(Class::Area)
-        || node.has(Class::BoundingBox)
-        || node.has(Class::VerticalExtent)
-}
-
 // The usages that the level keeps; the bare parts are together one usage more.
 fn write_usages_of<'a>(node: &Node<'_, 'a>, out: &mut Vec<u8>, level: Level) -> Appended
     ensures { OnOk result (Writes (ReadsTail node.now.class (item node.now))
@@ -239,7 +228,7 @@ fn write_usages_of<'a>(node: &Node<'_, 'a>, out: &mut Vec<u8>, level: Level) -> 
 {
     if keeps(level) {
         let usages = node.all(Class::Usage);
-        if has_bare(node) {
+        if node.has_bare() {
             write_set_with::<Usage<'a>, _, _>(out, node, &usages, Level::Full)
         } else {
             write_set::<Usage<'a>, _>(out, &usages, Level::Full)
