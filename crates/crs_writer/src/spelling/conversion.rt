@@ -7,7 +7,7 @@ ghost use Rattle.crs_normal.specs.PartTexts.{conversion_text, geoid_model_text, 
 use crate::members::{MembersPart, ReadAs};
 use crate::parts::{Appended, IdentsPart, Part, Spell};
 use crate::set::write_set;
-use crate::spelling::common::{write_measured, write_named};
+use crate::spelling::idents_and_units::{write_measured, write_named};
 use crs_leaves::{append, open_text};
 use crs_nodes::{Node, copied};
 use crs_shape::Class;

@@ -21,7 +21,7 @@ use crate::parts::{
     write_optional_number, write_part,
 };
 use crate::set::write_set;
-use crate::spelling::common::write_named;
+use crate::spelling::idents_and_units::write_named;
 use crs_leaves::{append, append_item, open_text, write_optional_text};
 use crs_nodes::{Node, copied};
 use crs_shape::Class;

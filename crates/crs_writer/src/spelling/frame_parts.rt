@@ -19,7 +19,7 @@ use crate::members::ReadAs;
 use crate::parts::{
     Appended, IdentsPart, NumberPart, Part, Spell, UnitPart, write_number_node, write_optional,
 };
-use crate::spelling::common::{write_length, write_measured, write_named};
+use crate::spelling::idents_and_units::{write_length, write_measured, write_named};
 use crs_leaves::{append, open_text};
 use crs_nodes::Node;
 use crs_shape::Class;

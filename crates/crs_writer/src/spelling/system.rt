@@ -26,7 +26,7 @@ use crate::members::ReadAs;
 use crate::parts::{
     Appended, IdentsPart, NumberPart, Part, Spell, UnitPart, write_optional, write_optional_number,
 };
-use crate::spelling::common::write_optional_unit;
+use crate::spelling::idents_and_units::write_optional_unit;
 use crs_leaves::{append, append_item, axes, is_at, open_text};
 use crs_nodes::{Node, copied};
 use crs_shape::Class;

@@ -22,7 +22,7 @@ ghost use Rattle.crs_leaves.specs.Openings.{enclosed, numbered_node};
 use crate::members::ReadAs;
 use crate::parts::{Appended, IdentsPart, NumberPart, Part, Spell, UnitPart, write_optional};
 use crate::set::{write_set, write_set_with};
-use crate::spelling::common::write_length;
+use crate::spelling::idents_and_units::write_length;
 use crs_leaves::{append, write_optional_text};
 use crs_nodes::{Node, copied, keeps};
 use crs_shape::Class;

@@ -6,7 +6,7 @@ use Rattle.crs_leaves.specs.Openings.{opened, text_behind}
 use Rattle.crs_writer.proofs.PieceLemmas.{then-opt}
 use Rattle.crs_writer.proofs.NodeTextLemmas.{closed, last-text, then-one, then-text}
 use Rattle.crs_writer.proofs.FlatLemmas.{told}
-use Rattle.crs_writer.proofs.spelling.common.write_ident.Goals as goal
+use Rattle.crs_writer.proofs.spelling.idents_and_units.write_ident.Goals as goal
 
 pub returns : goal.returns
 returns c = on_ok_weaker c.append.result (λ closes ident a k v i u.

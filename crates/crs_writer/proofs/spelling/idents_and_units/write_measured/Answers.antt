@@ -5,7 +5,7 @@ use Rattle.crs_leaves.specs.Openings.{opened}
 use Rattle.crs_writer.proofs.NodeTextLemmas.{closed}
 use Rattle.crs_writer.proofs.FlatLemmas.{then-unit, told}
 use Rattle.crs_writer.proofs.PieceLemmas.{then-more}
-use Rattle.crs_writer.proofs.spelling.common.write_measured.Goals as goal
+use Rattle.crs_writer.proofs.spelling.idents_and_units.write_measured.Goals as goal
 
 pub returns : goal.returns
 returns g c = on_ok_weaker c.append.result (λ closes name number unit ids n v u i.

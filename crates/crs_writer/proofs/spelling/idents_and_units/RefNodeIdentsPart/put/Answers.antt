@@ -4,7 +4,7 @@ use Rattle.crs_text.specs.Prelude.{item_text}
 use Rattle.crs_value.specs.Prelude.{ReadsIdent}
 use Rattle.crs_normal.specs.Prelude.{item_ident}
 use Rattle.crs_writer.proofs.NothingWrittenLemmas.{idents-dropped, idents-kept, none-written, retold, untold}
-use Rattle.crs_writer.proofs.spelling.common.RefNodeIdentsPart.put.Goals as goal
+use Rattle.crs_writer.proofs.spelling.idents_and_units.RefNodeIdentsPart.put.Goals as goal
 
 pub returns-then-is_flat : goal.returns-then-is_flat
 returns-then-is_flat c =
