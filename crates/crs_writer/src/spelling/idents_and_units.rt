@@ -255,6 +255,7 @@ pub(crate) fn write_length<U: UnitPart>(
 }
 
 // A node of a name and a measure, after an opening. The measure is a number, and its unit, of the kind that is asked.
+#[tactic(auto, using(crate::proofs::FlatLemmas::flat_rules))]
 pub(crate) fn write_measured<N: NumberPart, U: UnitPart, I: IdentsPart>(
     out: &mut Vec<u8>,
     opening: &[u8],
