@@ -19,7 +19,6 @@ use crs_writer::pieces::{gather, gather_all, write_bare_unit};
 use std::alloc::{AllocError, Global};
 use std::collections::BTreeSet;
 
-// These bytes.
 fn append_bytes(out: &mut Vec<u8>, bytes: &[u8]) -> Result<(), AllocError>
     ensures { AppendsOrNothing result (λ written. written ≡ bytes.now) out.old.items out.new.items }
 {
