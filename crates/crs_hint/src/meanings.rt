@@ -5,10 +5,10 @@ pub fn meaning(number: u8) -> &'static str {
     match number {
         1 =>
             "This byte begins no token: outside quotes a text has delimiters, commas, numbers and words alone.",
-        2 => "A number is expected here, and this doesn't have the form of one.",
+        2 => "This begins as a number does, and doesn't have the form of one.",
         3 => {
             "This number is outside the bounds: 38 digits from the first to the last that isn't zero, a power of ten \
-             from -40 to 40, and 100 digits written."
+             from -40 to 40, 100 digits written, and 3 of an exponent."
         }
         4 => "The bytes of this quoted text aren't UTF-8.",
         5 =>

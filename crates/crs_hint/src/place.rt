@@ -125,9 +125,9 @@ fn by_comma(before: &[u8], there: &[u8]) -> Option<Hint<'static>> {
             let is_of_thousands = digit_count(there) == 3 && ends_with_thousands(before);
             said(if is_of_thousands {
                 "A number too many: most likely commas separate thousands or stand for decimal \
-                 points, here or before (6378137 for 6,378,137; 0.5 for 0,5)."
+                 points, here or before (write 6378137, not 6,378,137, and 0.5, not 0,5)."
             } else {
-                "A number too many: most likely a comma stands for a decimal point, here or before (0,5 for 0.5)."
+                "A number too many: most likely a comma stands for a decimal point, here or before (write 0.5, not 0,5)."
             })
         }
         _ => None,
