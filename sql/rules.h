@@ -9,7 +9,7 @@
 #include "crsdesk.h"
 
 /* Why a line of a rules file is refused, in words; `name` has `room` bytes for those of the numbers of texts. */
-static const char *why_refused(uint64_t number, char *name, size_t room)
+static const char *why_refused(uint32_t number, char *name, size_t room)
 {
     size_t length;
 
@@ -23,7 +23,7 @@ static const char *why_refused(uint64_t number, char *name, size_t room)
     case 44:
         return "a node that stood in a set before";
     default:
-        if (crsdesk_refusal_name((uint32_t)number, name, room - 1, &length) != CRSDESK_OK)
+        if (crsdesk_refusal_name(number, name, room - 1, &length) != CRSDESK_OK)
             length = 0;
         name[length] = '\0';
         return name;

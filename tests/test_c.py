@@ -39,7 +39,7 @@ OTHER_LAYOUTS = [
     ("    char bytes[240];", "    char bytes[232];", "crsdesk_piece"),
     ("    size_t length;   /*", "    uint32_t length, more;   /*", "crsdesk_piece"),
     ("    size_t line;     /*", "    uint32_t line, more;     /*", "crsdesk_rules_standing"),
-    ("    uint64_t number; /* why", "    uint32_t more, number; /* why", "crsdesk_rules_standing"),
+    ("    uint32_t number; /* why", "    uint32_t more, number; /* why", "crsdesk_rules_standing"),
     ("    size_t length;                  /*", "    uint64_t first; size_t length;  /*", "crsdesk_form"),
     ("    size_t column; /*", "    uint32_t column, more; /*", "crsdesk_explained"),
     ("    size_t node;   /*", "    uint64_t first; size_t node;   /*", "crsdesk_explained"),

@@ -363,7 +363,7 @@ struct crsdesk_rules {
 struct crsdesk_rules_standing {
     size_t line;     /* the file's first refused line, counted from 1 */
     size_t place;    /* where in the line, in bytes from its first, which is 0 */
-    uint64_t number; /* why: 1 to 8 as of a refused text, 41 to 44 of a statement */
+    uint32_t number; /* why: 1 to 8 as of a refused text, 41 to 44 of a statement */
     uint32_t code;
 };
 

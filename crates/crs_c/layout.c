@@ -71,7 +71,7 @@ static int is_marked_piece(struct crsdesk_piece it)
 
 static int is_marked_rules_standing(struct crsdesk_rules_standing it)
 {
-    return it.line == 1111111111111111112u && it.place == 2222222222222222223u && it.number == 3333333333333333334u
+    return it.line == 1111111111111111112u && it.place == 2222222222222222223u && it.number == 2222222228u
            && it.code == 4000000010u;
 }
 

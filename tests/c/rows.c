@@ -762,7 +762,7 @@ static int add_file(const struct bytes *file, size_t number, struct answer *answ
     struct crsdesk_rules_standing told = crsdesk_rules_add(rules, at, file->length);
     give_back(at, file->length);
     if (told.code == CRSDESK_REFUSED)
-        appendf(answer, "file %zu: line %zu, %lu at %zu", number, told.line, (unsigned long)told.number, told.place);
+        appendf(answer, "file %zu: line %zu, %u at %zu", number, told.line, (unsigned)told.number, told.place);
     else if (told.code != CRSDESK_OK || told.line != 0 || told.number != 0 || told.place != 0)
         wrong(answer, "a code that a rules file doesn't have here, or a refusal where none is told");
     return told.code == CRSDESK_OK;

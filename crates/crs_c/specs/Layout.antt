@@ -53,7 +53,7 @@ marks =
       rules_standing = record {
         line = 1111111111111111112;
         place = 2222222222222222223;
-        number = 3333333333333333334;
+        number = 2222222228;
         code = 4000000010;
       };
       form = record { length = 5555555555555555556; refused = marked_refusal; code = 4000000011 };

@@ -106,7 +106,7 @@ pub extern "C" fn crsdesk_layout_marks() -> Marks
         rules_standing: RulesStanding {
             line: 1_111_111_111_111_111_112,
             place: 2_222_222_222_222_222_223,
-            number: 3_333_333_333_333_333_334,
+            number: 2_222_222_228,
             code: 4_000_000_010,
         },
         form: Form {

@@ -43,7 +43,7 @@ pub struct RulesStanding {
     /// The place in that line.
     pub place: usize,
     /// The number of the refusal.
-    pub number: u64,
+    pub number: u32,
     /// The code.
     pub code: u32,
 }
@@ -80,7 +80,7 @@ fn file_fault(fault: RulesFault) -> RulesStanding
         RulesFault::Refused(refusal) => RulesStanding {
             line: refusal.line,
             place: refusal.place,
-            number: refusal.number,
+            number: u32::from(refusal.number),
             code: REFUSED,
         },
         RulesFault::Memory(_) => without_line(NO_MEMORY),

@@ -12,7 +12,7 @@ pub struct RulesRefusal {
     /// The line.
     pub line: usize,
     /// The number of the refusal.
-    pub number: u64,
+    pub number: u8,
     /// The place in the line.
     pub place: usize,
 }

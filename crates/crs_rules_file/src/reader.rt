@@ -65,7 +65,7 @@ impl Model for RulesReader {
 }
 
 // The refusal with this number at an item's first byte.
-fn refused(line: usize, items: &Items<'_>, id: ItemId, number: u64) -> RulesFault
+fn refused(line: usize, items: &Items<'_>, id: ItemId, number: u8) -> RulesFault
     requires { HasId items.now id }
     ensures { result ≡ RulesFault.Refused (refused_at number line (item_at items.now id)) }
 {
@@ -368,7 +368,7 @@ fn fault_in(line: usize, fault: Fault) -> RulesFault
     match fault {
         Fault::Refused(refusal) => RulesFault::Refused(RulesRefusal {
             line,
-            number: u64::from(refusal.number()),
+            number: refusal.number(),
             place: refusal.place(),
         }),
         Fault::Memory(error) => RulesFault::Memory(error),

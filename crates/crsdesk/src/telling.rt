@@ -39,16 +39,13 @@ pub fn tell_refused(rt: &HostRuntime, name: &str, refusal: &RulesRefusal) {
 }
 
 // What the number of a refused line of a rules file means: 1 to 8 are those of a text.
-fn meaning_of(number: u64) -> &'static str {
+fn meaning_of(number: u8) -> &'static str {
     match number {
         41 => "neither SAME nor UNCOUNTED",
         42 => "no node or word that may stand here",
         43 => "a node of another kind than the first of its set",
         44 => "a node that stood in a set before",
-        _ => u8::try_from(number)
-            .ok()
-            .and_then(|number| Refusal::new(number, 0))
-            .map_or("", |refusal| refusal.name()),
+        _ => Refusal::new(number, 0).map_or("", |refusal| refusal.name()),
     }
 }
 

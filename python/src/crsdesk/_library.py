@@ -58,7 +58,7 @@ class RulesStanding(ctypes.Structure):
     _fields_ = [
         ("line", ctypes.c_size_t),
         ("place", ctypes.c_size_t),
-        ("number", ctypes.c_uint64),
+        ("number", ctypes.c_uint32),
         ("code", ctypes.c_uint32),
     ]
 
