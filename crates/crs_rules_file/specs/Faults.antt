@@ -1,11 +1,9 @@
--- A bridge: faults of a line's text, of an item, and out of memory.
+-- A bridge: faults of a line's text, and out of memory.
 use Rattle.std.specs.Prelude.{◌≡◌, ℕ}
-use Rattle.crs_text.specs.Items.{Item, place_of}
 use Rattle.crs_text.specs.declared.fault.Fault.{Fault}
 use Rattle.crs_text.specs.declared.fault.Fault.TheVariants as text_faults
 use Rattle.crs_rules_file.specs.declared.fault.RulesFault.{RulesFault}
 use Rattle.crs_rules_file.specs.declared.fault.RulesFault.TheVariants as faults
-use Rattle.crs_rules_file.specs.declared.fault.RulesRefusal.{RulesRefusal}
 
 -- a fault is out of memory
 abbrev pub IsMemory : RulesFault → Type 0
@@ -18,7 +16,3 @@ IsFaultIn line (text_faults.Refused refusal) (faults.Refused f) =
     (f.line ≡ line) × (f.number ≡ refusal.number) × (f.place ≡ refusal.place)
 IsFaultIn line (text_faults.Refused refusal) (faults.Memory e) = ⊥
 IsFaultIn line (text_faults.Memory e) fault = IsMemory fault
-
--- this line is refused with this number, at an item's first byte
-abbrev pub refused_at : ℕ → ℕ → Item → RulesRefusal
-refused_at n line item = record { line = line; number = n; place = place_of item }

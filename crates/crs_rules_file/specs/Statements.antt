@@ -1,6 +1,6 @@
 -- The statements of a rules file: what each adds to those before it, or why it is refused.
 use Rattle.std.specs.Prelude.{◌≡◌, ◌⊎◌, ℕ, IsTrue, IsFalse, IfSome, List, [], ◌∷◌, ◌++◌}
-use Rattle.std.specs.Prelude.{true, Option, Some, None, codes, if◌then◌else◌}
+use Rattle.std.specs.Prelude.{Bool, true, Option, Some, None, codes, if◌then◌else◌}
 use Rattle.std.specs.Str.{str_eq_ignore_ascii_case}
 use Rattle.crs_text.specs.Items.{Item, leaf, node, Siblings, End, More, arguments, place_of, raw_of}
 use Rattle.crs_text.specs.Tokens.{number, text, word}
@@ -39,9 +39,9 @@ abbrev pub listed : Siblings → List Item
 listed End = []
 listed (More item items) = item ∷ listed items
 
--- the line of a reading is refused with this number, at an item's first byte
-abbrev pub refused : ℕ → Reading → Item → RulesRefusal
-refused n r item = record { line = r.line; number = n; place = place_of item }
+-- this line is refused with this number, at an item's first byte
+abbrev pub refused_at : ℕ → ℕ → Item → RulesRefusal
+refused_at n line item = record { line = line; number = n; place = place_of item }
 
 -- a fault that is a refusal is one of these
 abbrev pub IsRefusedBy : (RulesRefusal → Type 0) → RulesFault → Type 0
@@ -85,10 +85,10 @@ pub record Adds (first : Option MemberParts) (m : MemberParts) (r : Reading) (it
 -- 42: no node that may stand there; 43: of another class than the set; 44: it stood in a set before
 abbrev pub FaultOfNode : Option MemberParts → Reading → Item → RulesRefusal → Type 0
 FaultOfNode first r item f =
-    ((f ≡ refused 42 r item) × ((m : MemberParts) → ¬ (Says item m)))
+    ((f ≡ refused_at 42 r.line item) × ((m : MemberParts) → ¬ (Says item m)))
     ⊎ ((m : MemberParts) × Says item m ×
-    (((f ≡ refused 43 r item) × ¬ (IsOfSet first m))
-    ⊎ ((f ≡ refused 44 r item) × IsOfSet first m × OneIs (λ n. m ≡ n) r.seen)))
+    (((f ≡ refused_at 43 r.line item) × ¬ (IsOfSet first m))
+    ⊎ ((f ≡ refused_at 44 r.line item) × IsOfSet first m × OneIs (λ n. m ≡ n) r.seen)))
 
 -- a further node of the set that this one begins
 abbrev pub Joins : MemberParts → Reading → Item → Reading → Type 0
@@ -141,19 +141,25 @@ Drops r item s =
 
 -- 42: an item that names nothing
 abbrev pub FaultOfWord : Reading → Item → RulesRefusal → Type 0
-FaultOfWord r item f = (f ≡ refused 42 r item) × (with_item item r.rules.uncounted ≡ None)
+FaultOfWord r item f = (f ≡ refused_at 42 r.line item) × (with_item item r.rules.uncounted ≡ None)
 
 -- ---- statements
+
+-- whether an item is the statement of this keyword, letter case aside
+abbrev pub is_statement : List ℕ → Item → Bool
+is_statement keyword item = str_eq_ignore_ascii_case keyword (raw_of item)
 
 -- a statement leads from one reading to another
 abbrev pub States : Reading → Item → Reading → Type 0
 States r item s =
-    (IsTrue (str_eq_ignore_ascii_case (codes "SAME") (raw_of item)) × AddsSet r (arguments item) s)
-    ⊎ (IsTrue (str_eq_ignore_ascii_case (codes "UNCOUNTED") (raw_of item)) × Over Drops r (listed (arguments item)) s)
+    (IsTrue (is_statement (codes "SAME") item) × AddsSet r (arguments item) s)
+    ⊎ (IsTrue (is_statement (codes "UNCOUNTED") item) × Over Drops r (listed (arguments item)) s)
 
 -- the fault of a statement; 41: it is neither
 abbrev pub FaultOfStatement : Reading → Item → RulesRefusal → Type 0
 FaultOfStatement r item f =
-    (IsTrue (str_eq_ignore_ascii_case (codes "SAME") (raw_of item)) × FaultOfSet r (arguments item) f)
-    ⊎ ((IsTrue (str_eq_ignore_ascii_case (codes "UNCOUNTED") (raw_of item)) × FaultOver Drops FaultOfWord r (listed (arguments item)) f)
-    ⊎ ((f ≡ refused 41 r item) × IsFalse (str_eq_ignore_ascii_case (codes "SAME") (raw_of item)) × IsFalse (str_eq_ignore_ascii_case (codes "UNCOUNTED") (raw_of item))))
+    (IsTrue (is_statement (codes "SAME") item) × FaultOfSet r (arguments item) f)
+    ⊎ ((IsTrue (is_statement (codes "UNCOUNTED") item)
+    × FaultOver Drops FaultOfWord r (listed (arguments item)) f)
+    ⊎ ((f ≡ refused_at 41 r.line item) × IsFalse (is_statement (codes "SAME") item)
+    × IsFalse (is_statement (codes "UNCOUNTED") item)))

@@ -8,10 +8,10 @@ ghost use Rattle.crs_value.specs.Reading.{Holds, ahead, item_at};
 ghost use Rattle.crs_rules_file.specs.RulesFile.{FaultOfLine, Reads, ReadsFile, RefusesFile, SpellsRules, is_idle, start};
 ghost use Rattle.crs_rules_file.specs.Statements.{Adds, AddsSet, Drops, FaultOfNode, FaultOfSet, FaultOfStatement};
 ghost use Rattle.crs_rules_file.specs.Statements.{FaultOfWord, FaultOver, IsRefusedBy, Joins, Over, States};
-ghost use Rattle.crs_rules_file.specs.Statements.{IsOfSet, joined, listed};
+ghost use Rattle.crs_rules_file.specs.Statements.{IsOfSet, joined, listed, refused_at};
 ghost use Rattle.crs_rules_file.specs.Grown.{HasGrown};
 ghost use Rattle.crs_rules_file.specs.Marks.{IsMarked, gone_back};
-ghost use Rattle.crs_rules_file.specs.Faults.{IsFaultIn, refused_at};
+ghost use Rattle.crs_rules_file.specs.Faults.{IsFaultIn};
 
 use crate::fault::{RulesFault, RulesRefusal};
 use crate::member::{Member, kind_of, member_at};
