@@ -1,27 +1,47 @@
 //! Why the bytes of a rules file gave no rules.
+use crs_text::Refusal;
 use std::alloc::AllocError;
 use thiserror::Error;
 
+// A statement of another keyword.
+pub(crate) const NO_STATEMENT: u8 = 41;
+// An argument that may not stand there.
+pub(crate) const NOT_HERE: u8 = 42;
+// A node of another class than the first of its set.
+pub(crate) const OTHER_CLASS: u8 = 43;
+// A node that stood in a set before.
+pub(crate) const REPEATED: u8 = 44;
+
 /// The first refused line of a rules file: its number, counted from 1, the number of the refusal, and its place in the
-/// line, in bytes from 0.
-///
-/// 1 to 8: the line is no node, as a refused text; 41: it is no statement; 42: an argument that may not stand there; 43: a
-/// node of another class than the first of its set; 44: a node that stood in a set before. Profile.
+/// line, in bytes from 0. Profile.
 #[derive(Clone, Copy, Debug)]
 pub struct RulesRefusal {
     /// The line.
     pub line: usize,
-    /// The number of the refusal.
+    /// The number of the refusal: 1 to 8 as of a refused text, since the line is no node, and 41 to 44 of a statement.
     pub number: u8,
     /// The place in the line.
     pub place: usize,
+}
+
+impl RulesRefusal {
+    /// What its number means, in words; of 1 to 8 the name of a text's refusal. Profile.
+    pub fn meaning(&self) -> &'static str {
+        match self.number {
+            NO_STATEMENT => "neither SAME nor UNCOUNTED",
+            NOT_HERE => "no node or word that may stand here",
+            OTHER_CLASS => "a node of another kind than the first of its set",
+            REPEATED => "a node that stood in a set before",
+            number => Refusal::new(number, 0).map_or("", |refusal| refusal.name()),
+        }
+    }
 }
 
 /// Why the bytes of a rules file gave no rules. Profile.
 #[derive(Debug, Drop, Error)]
 pub enum RulesFault {
     /// A line is refused.
-    #[error("line {}: refused {} at {}", .0.line, .0.number, .0.place)]
+    #[error("line {}: refused {} at {}: {}", .0.line, .0.number, .0.place, .0.meaning())]
     Refused(RulesRefusal),
     /// Memory was refused.
     #[error("out of memory")]

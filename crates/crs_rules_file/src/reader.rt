@@ -13,7 +13,7 @@ ghost use Rattle.crs_rules_file.specs.Grown.{HasGrown};
 ghost use Rattle.crs_rules_file.specs.Marks.{IsMarked, gone_back};
 ghost use Rattle.crs_rules_file.specs.Faults.{IsFaultIn};
 
-use crate::fault::{RulesFault, RulesRefusal};
+use crate::fault::{NO_STATEMENT, NOT_HERE, OTHER_CLASS, REPEATED, RulesFault, RulesRefusal};
 use crate::member::{Member, kind_of, member_at};
 use crate::seen::Seen;
 use crate::words::{is_word, with_item};
@@ -83,6 +83,32 @@ fn is_of_set(first: Option<&Member<'_>>, member: &Member<'_>) -> bool
     match first {
         None => true,
         Some(first) => member.class == first.class,
+    }
+}
+
+// A node counts as the first of its set, if it isn't itself the first. Out of memory, the rules are as before.
+fn join(
+    alloc: Global,
+    rules: &mut Rules,
+    first: Option<&Member<'_>>,
+    member: &Member<'_>,
+) -> Result<(), AllocError>
+    ensures joined { OnOk result (rules.new ≡ joined (option_copied first.entry) member.now rules.old) }
+    ensures unchanged { OnErr result (rules.new ≡ rules.old) }
+{
+    let Some(first) = first else {
+        return Ok(());
+    };
+    match kind_of(first.class) {
+        None => rules.alias_name(alloc, member.class, member.name, first.name),
+        Some(kind) => rules.alias_unit(
+            alloc,
+            kind,
+            member.name,
+            member.factor,
+            first.name,
+            first.factor,
+        ),
     }
 }
 
@@ -166,7 +192,7 @@ impl RulesReader {
         let mut left = bytes;
         while !left.is_empty() {
             let (line, rest) = first_line(left);
-            self.line(alloc, line)?;
+            self.read_line(alloc, line)?;
             left = rest;
         }
         Ok(())
@@ -195,17 +221,17 @@ impl RulesReader {
         ensures grown { HasGrown self.old self.new }
     {
         let Some(member) = member_at(items, id) else {
-            return Err(refused(self.line, items, id, 42));
+            return Err(refused(self.line, items, id, NOT_HERE));
         };
         if !is_of_set(first, &member) {
-            return Err(refused(self.line, items, id, 43));
+            return Err(refused(self.line, items, id, OTHER_CLASS));
         }
         match self.seen.add(alloc, &member) {
             Ok(true) => match join(alloc, &mut self.rules, first, &member) {
                 Ok(()) => Ok(member),
                 Err(error) => Err(RulesFault::Memory(error)),
             },
-            Ok(false) => Err(refused(self.line, items, id, 44)),
+            Ok(false) => Err(refused(self.line, items, id, REPEATED)),
             Err(error) => Err(RulesFault::Memory(error)),
         }
     }
@@ -264,7 +290,7 @@ impl RulesReader {
                 self.rules.set_uncounted(uncounted);
                 Ok(())
             }
-            None => Err(refused(self.line, items, id, 42)),
+            None => Err(refused(self.line, items, id, NOT_HERE)),
         }
     }
 
@@ -284,9 +310,8 @@ impl RulesReader {
         Ok(())
     }
 
-    // Reads a statement.
     #[tactic(auto, using(crate::proofs::GrownLemmas::grown_self))]
-    fn statement(&mut self, alloc: Global, items: &Items<'_>) -> Result<(), RulesFault>
+    fn read_statement(&mut self, alloc: Global, items: &Items<'_>) -> Result<(), RulesFault>
         requires { IsNode items.now }
         ensures answer { MatchResult result
             (λ _. States self.old items.now self.new)
@@ -300,12 +325,11 @@ impl RulesReader {
         if is_word("UNCOUNTED", items.raw(root)) {
             return self.drop_words(items, items.arg(root, 0));
         }
-        Err(refused(self.line, items, root, 41))
+        Err(refused(self.line, items, root, NO_STATEMENT))
     }
 
-    // Reads a line.
     #[tactic(auto, using(crate::proofs::GrownLemmas::grown_on, crate::proofs::GrownLemmas::grown_line))]
-    fn line(&mut self, alloc: Global, line: &[u8]) -> Result<(), RulesFault>
+    fn read_line(&mut self, alloc: Global, line: &[u8]) -> Result<(), RulesFault>
         requires { self.old.line + 1 < 2 ^ 64 }
         ensures answer { MatchResult result
             (λ _. Reads self.old line.now self.new)
@@ -317,35 +341,9 @@ impl RulesReader {
             return Ok(());
         }
         match read_items(alloc, line) {
-            Ok(items) => self.statement(alloc, &items),
+            Ok(items) => self.read_statement(alloc, &items),
             Err(fault) => Err(fault_in(self.line, fault)),
         }
-    }
-}
-
-// A node counts as the first of its set, if it isn't itself the first. Out of memory, the rules are as before.
-fn join(
-    alloc: Global,
-    rules: &mut Rules,
-    first: Option<&Member<'_>>,
-    member: &Member<'_>,
-) -> Result<(), AllocError>
-    ensures joined { OnOk result (rules.new ≡ joined (option_copied first.entry) member.now rules.old) }
-    ensures unchanged { OnErr result (rules.new ≡ rules.old) }
-{
-    let Some(first) = first else {
-        return Ok(());
-    };
-    match kind_of(first.class) {
-        None => rules.alias_name(alloc, member.class, member.name, first.name),
-        Some(kind) => rules.alias_unit(
-            alloc,
-            kind,
-            member.name,
-            member.factor,
-            first.name,
-            first.factor,
-        ),
     }
 }
 

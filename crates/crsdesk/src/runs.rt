@@ -310,10 +310,10 @@ fn read_rules(rt: &HostRuntime, name: &str, reader: &mut RulesReader) -> Result<
     let text = file_text(rt, name)?;
     match reader.read(rt.alloc(), &text) {
         Ok(()) => Ok(()),
-        Err(RulesFault::Refused(refusal)) => {
-            tell_refused(rt, name, &refusal);
+        Err(RulesFault::Memory(_)) => Err(Fault::Run(RunFault::Memory)),
+        Err(refused) => {
+            tell_refused(rt, name, refused);
             Err(Fault::Told)
         }
-        Err(RulesFault::Memory(_)) => Err(Fault::Run(RunFault::Memory)),
     }
 }

@@ -1,5 +1,5 @@
 //! Lines on standard error. A failure of standard error itself can't be told.
-use crs_desk::{Refusal, RulesRefusal, append_escaped};
+use crs_desk::{RulesFault, append_escaped};
 use std::alloc::{AllocError, Global};
 use std::env::{Env, FillError};
 use std::fmt::Display;
@@ -10,42 +10,24 @@ const MAX_WORD: usize = 131_072;
 
 /// `crsdesk: NAME: WHAT`, the name escaped as a line shows it.
 pub fn tell_of<D: Display + Drop>(rt: &HostRuntime, name: &str, what: D) {
+    tell(rt, name, ": ", what);
+}
+
+/// `crsdesk: NAME, line N: refused M at P: WHAT`, for the first refused line of a rules file.
+pub fn tell_refused(rt: &HostRuntime, name: &str, refused: RulesFault) {
+    tell(rt, name, ", ", refused);
+}
+
+// What is told of a name, after these words; by itself where there is no memory for the name.
+fn tell<D: Display + Drop>(rt: &HostRuntime, name: &str, words: &str, what: D) {
     match shown(rt.alloc(), name.as_bytes()) {
         Ok(bytes) => {
             let shown = str::from_utf8(&bytes).unwrap_or(name);
-            let _ = eprintln!(rt; "crsdesk: {shown}: {what}");
+            let _ = eprintln!(rt; "crsdesk: {shown}{words}{what}");
         }
         Err(_) => {
             let _ = eprintln!(rt; "crsdesk: {what}");
         }
-    }
-}
-
-/// `crsdesk: NAME, line N: refused M at P: WHAT`, for the first refused line of a rules file.
-pub fn tell_refused(rt: &HostRuntime, name: &str, refusal: &RulesRefusal) {
-    let (line, number, place) = (refusal.line, refusal.number, refusal.place);
-    let what = meaning_of(number);
-    match shown(rt.alloc(), name.as_bytes()) {
-        Ok(bytes) => {
-            let shown = str::from_utf8(&bytes).unwrap_or(name);
-            let _ = eprintln!(rt;
-                "crsdesk: {shown}, line {line}: refused {number} at {place}: {what}"
-            );
-        }
-        Err(_) => {
-            let _ = eprintln!(rt; "crsdesk: line {line}: refused {number} at {place}: {what}");
-        }
-    }
-}
-
-// What the number of a refused line of a rules file means: 1 to 8 are those of a text.
-fn meaning_of(number: u8) -> &'static str {
-    match number {
-        41 => "neither SAME nor UNCOUNTED",
-        42 => "no node or word that may stand here",
-        43 => "a node of another kind than the first of its set",
-        44 => "a node that stood in a set before",
-        _ => Refusal::new(number, 0).map_or("", |refusal| refusal.name()),
     }
 }
 
