@@ -14,4 +14,5 @@ mod sentence;
 mod writing;
 
 pub use meanings::meaning;
+pub use place::{UNEXPECTED, UNEXPECTED_END, UNKNOWN_KEYWORD};
 pub use writing::{hints, still_open};

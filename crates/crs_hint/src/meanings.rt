@@ -1,8 +1,9 @@
 //! What the numbers of refusals mean.
+use crs_text::Refusal;
 
 /// What the number of a refusal means, in a sentence. Profile.
-pub fn meaning(number: u8) -> &'static str {
-    match number {
+pub fn meaning(refusal: Refusal) -> &'static str {
+    match refusal.number() {
         1 =>
             "This byte begins no token: outside quotes a text has delimiters, commas, numbers and words alone.",
         2 => "This begins as a number does, and doesn't have the form of one.",
@@ -32,6 +33,7 @@ pub fn meaning(number: u8) -> &'static str {
         27 => "A unit is missing here, is both on an axis and shared, or is of the wrong kind.",
         28 =>
             "A factor and a semi-major axis are above zero, and an inverse flattening isn't negative.",
-        _ => "A dynamic part may not be beside an ensemble.",
+        29 => "A dynamic part may not be beside an ensemble.",
+        _ => unreachable!(),
     }
 }

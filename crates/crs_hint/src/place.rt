@@ -14,12 +14,12 @@ const BAD_NUMBER: u8 = 2;
 const NOT_UTF8: u8 = 4;
 // A quoted text has no end.
 const OPEN_TEXT: u8 = 5;
-// No text goes on with this token.
-const UNEXPECTED: u8 = 6;
-// The text ends too early.
-const UNEXPECTED_END: u8 = 7;
-// A node of a keyword that isn't known.
-const UNKNOWN_KEYWORD: u8 = 11;
+/// No text goes on with this token.
+pub const UNEXPECTED: u8 = 6;
+/// The text ends too early.
+pub const UNEXPECTED_END: u8 = 7;
+/// A node of a keyword that isn't known.
+pub const UNKNOWN_KEYWORD: u8 = 11;
 // An item that isn't allowed where it is.
 const NOT_HERE: u8 = 12;
 

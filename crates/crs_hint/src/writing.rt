@@ -7,7 +7,7 @@ use crate::place::by_place;
 use crate::sentence::BY_PROJ;
 use bstr::ByteSlice;
 use crs_streams::append_number;
-use crs_text::open_delimiter;
+use crs_text::{Refusal, open_delimiter};
 use std::alloc::{AllocError, Global};
 
 // The last number of a refusal of the text itself; those of shapes and values are above it.
@@ -20,12 +20,15 @@ type Appended = Result<(), AllocError>;
 /// looks at the text's first bytes, at the place of the refusal, and at what is open there. Profile.
 ///
 /// `AllocError`: there is no memory for them.
-pub fn hints(alloc: Global, text: &[u8], number: u8, place: usize) -> Result<Vec<u8>, AllocError> {
+pub fn hints(alloc: Global, text: &[u8], refusal: Refusal) -> Result<Vec<u8>, AllocError> {
     let whole = by_front(text);
-    let before = look_before(text, place);
-    let there = by_place(text, number, &before);
+    let before = look_before(text, refusal.place());
+    let there = by_place(text, refusal.number(), &before);
     let mut out = Vec::new(alloc);
-    for hint in [whole, beside(whole, there, number)].iter().flatten() {
+    for hint in [whole, beside(whole, there, refusal.number())]
+        .iter()
+        .flatten()
+    {
         if !out.is_empty() {
             out.push(b' ')?;
         }
@@ -48,9 +51,9 @@ fn beside<'a>(whole: Option<Hint<'_>>, there: Option<Hint<'a>>, number: u8) -> O
 /// The node that is open where a text is refused, as `CS[ at 24 is still open`; nothing where none is. Profile.
 ///
 /// `AllocError`: there is no memory for it.
-pub fn still_open(alloc: Global, text: &[u8], place: usize) -> Result<Vec<u8>, AllocError> {
+pub fn still_open(alloc: Global, text: &[u8], refusal: Refusal) -> Result<Vec<u8>, AllocError> {
     let mut out = Vec::new(alloc);
-    if let Some(at) = open_delimiter(text, place)
+    if let Some(at) = open_delimiter(text, refusal.place())
         && let [delimiter, ..] = rest(text, at)
     {
         append_node(node_at(text, at, *delimiter), &mut out)?;
