@@ -33,8 +33,8 @@ fn append_char(c: char, out: &mut Vec<u8>) -> Result<(), AllocError>
     }
 }
 
-/// Whether a character from U+0080 on steers a terminal, ends a line or changes the direction of a text. Profile.
-pub fn steers(c: char) -> bool
+/// Whether a character from U+0080 on steers a terminal, ends a line or changes the direction of a text.
+pub(crate) fn steers(c: char) -> bool
     ensures { result ≡ steers c }
 {
     matches!(
@@ -60,10 +60,8 @@ fn append_byte(byte: u8, out: &mut Vec<u8>) -> Result<(), AllocError>
     }
 }
 
-/// Appends a character by its code, as `\u202E`. Profile.
-///
-/// `AllocError`: there is no memory for it.
-pub fn append_code(code: u16, out: &mut Vec<u8>) -> Result<(), AllocError>
+/// Appends a character by its code, as `\u202E`.
+pub(crate) fn append_code(code: u16, out: &mut Vec<u8>) -> Result<(), AllocError>
     ensures { OnOk result (out.new.items ≡ out.old.items ++ (codes "\\u" ++ hex_byte (code / 256) ++ hex_byte (code % 256))) }
 {
     out.extend_from_slice(b"\\u")?;
@@ -71,10 +69,8 @@ pub fn append_code(code: u16, out: &mut Vec<u8>) -> Result<(), AllocError>
     append_hex((code % 256) as u8, out)
 }
 
-/// Appends two hexadecimal digits. Profile.
-///
-/// `AllocError`: there is no memory for them.
-pub fn append_hex(byte: u8, out: &mut Vec<u8>) -> Result<(), AllocError>
+/// Appends two hexadecimal digits.
+pub(crate) fn append_hex(byte: u8, out: &mut Vec<u8>) -> Result<(), AllocError>
     ensures { OnOk result (out.new.items ≡ out.old.items ++ hex_byte byte) }
 {
     out.extend_from_slice(&[hex_digit(byte / 16), hex_digit(byte % 16)])
