@@ -250,6 +250,7 @@ impl Catalogue {
         ensures level { self.new.level ≡ self.old.level }
         ensures unchanged { OnErr result (self.new ≡ self.old) }
     {
+        // Asks their number so that its bound is known.
         let _count = self.kept.groups.len();
         self.kept.groups.join(at, line)?;
         Ok(Placed::Group(at + 1))

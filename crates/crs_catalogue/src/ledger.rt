@@ -122,6 +122,7 @@ pub trait Adding {
     // When two lines share a group.
     ghost Share: { Self → Level → PlacedLine → PlacedLine → Type 0 };
 
+    /// Adds the text of a line of this number.
     fn add(&self, catalogue: &mut Catalogue, line: u64, text: &[u8]) -> Result<Placed, AllocError>
         ensures catalogue { IfOk result (λ place. (placed : List PlacedLine) →
             IsCatalogueBy (Form self.now) (Share self.now) placed catalogue.old →
@@ -149,6 +150,7 @@ impl Adding for ByCanon {
 /// By its form under rules.
 #[derive(Drop)]
 pub struct ByForm<'r> {
+    /// The rules.
     pub rules: &'r Rules,
 }
 

@@ -37,6 +37,7 @@ impl Groups {
         }
     }
 
+    /// How many groups there are.
     pub fn len(&self) -> usize
         ensures count { result ≡ length self.now }
         ensures small { result < 2 ^ 63 }

@@ -10,7 +10,9 @@ use std::alloc::AllocError;
 /// The groups of lines, and the refused lines with their refusals, in the order in which they came.
 #[derive(Drop)]
 pub struct KeptLines {
+    /// The groups.
     pub groups: Groups,
+    /// The refused lines: the number of each, and why.
     pub refused: Vec<(u64, Refusal)>,
 }
 

@@ -1,5 +1,5 @@
-//! Where lines are placed: groups of lines by their canonical texts, and refused lines. It is a crate of its own since
-//! the wrong bodies of catalogues that `rt ci` tries stand in it: it checks their crate once more.
+//! Where lines are placed: groups of lines by their canonical texts, and refused lines. A crate of its own, so that
+//! `rt ci`, which checks a crate again for its wrong bodies, checks little.
 #![tactic(auto)]
 
 mod groups;

@@ -38,6 +38,7 @@ pub fn rewritten_crs_is_sound()
 pub fn rules_are_sound(rules: &Rules)
     ensures { AreRules rules.now }
 {
+    // Opens `rules` so that its invariant is known.
     let _names = &rules.names;
 }
 

@@ -105,6 +105,7 @@ impl Rules {
         }) }
         ensures err { OnErr result (self.new ≡ self.old) }
     {
+        // Asks the factors so that their invariants are known.
         let _normal = (alias_factor.is_negative(), factor.is_negative());
         let alias = Vec::from_slice(alloc, alias)?;
         let name = Vec::from_slice(alloc, name)?;

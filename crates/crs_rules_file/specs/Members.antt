@@ -13,7 +13,7 @@ use Rattle.crs_shape.specs.declared.unit_kind.UnitKind.TheVariants as kind
 use Rattle.crs_value.specs.Checks.{IsAboveZero}
 use Rattle.crs_value.specs.Reading.{is_same}
 
--- the classes of nodes that may count as one; a keyword is that of the first that has it
+-- the classes of nodes that may count as one; a keyword counts for the first class here that has it
 abbrev pub subjects : List Class
 subjects =
     class.GeodeticFrame ∷ class.VerticalFrame ∷ class.Member ∷ class.Ellipsoid

@@ -161,7 +161,7 @@ fn rename<'a>(alloc: Global, crs: &mut Crs<'a>, rules: &'a Rules)
     }
 }
 
-// A CRS under rules. Out of memory nothing is said of it.
+// A CRS under rules. Out of memory it may be rewritten in part.
 pub(crate) fn rewrite<'a>(
     alloc: Global,
     crs: &mut Crs<'a>,
