@@ -3,13 +3,13 @@ use crs_text::Refusal;
 use std::alloc::AllocError;
 use thiserror::Error;
 
-// A statement of another keyword.
+// The numbers of refused statements; `meaning` says when.
 pub(crate) const NO_STATEMENT: u8 = 41;
-// An argument that may not stand there.
+
 pub(crate) const NOT_HERE: u8 = 42;
-// A node of another class than the first of its set.
+
 pub(crate) const OTHER_CLASS: u8 = 43;
-// A node that stood in a set before.
+
 pub(crate) const REPEATED: u8 = 44;
 
 /// The first refused line of a rules file: its number, counted from 1, the number of the refusal, and its place in the

@@ -32,10 +32,8 @@ pub fn read_rules(alloc: Global, bytes: &[u8]) -> Result<Rules, RulesFault>
     ensures { MatchResult result (SpellsRules bytes.now) (IsRefusedBy (RefusesFile start bytes.now)) }
 {
     let mut reader = RulesReader::new(alloc);
-    match reader.read(alloc, bytes) {
-        Ok(()) => Ok(reader.into_rules()),
-        Err(fault) => Err(fault),
-    }
+    reader.read(alloc, bytes)?;
+    Ok(reader.into_rules())
 }
 
 // Where a reader is: its line, how many nodes of sets, names and units there are, and what doesn't count.
