@@ -8,7 +8,7 @@ use Rattle.crs_rules.specs.declared.uncounted.Uncounted.{Uncounted}
 use Rattle.crs_rules_file.specs.Grown.{Extends, HasGrown}
 use Rattle.crs_rules_file.specs.Marks.{IsMarked, gone_back}
 use Rattle.crs_rules_file.specs.Members.{MemberParts, kind_of}
-use Rattle.crs_rules_file.specs.Seen.{IsAdded}
+use Rattle.crs_rules_file.specs.AddedNodes.{IsAdded}
 use Rattle.crs_rules_file.specs.Statements.{Reading, joined, with_alias}
 use Rattle.crs_rules_file.specs.declared.reader.Mark.{Mark}
 

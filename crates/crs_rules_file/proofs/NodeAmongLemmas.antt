@@ -6,7 +6,7 @@ use Rattle.crs_value.specs.Prelude.{OneIs}
 use Rattle.crs_rules_file.specs.Equality.{members_equal}
 use Rattle.crs_rules_file.specs.EqualityLaws.{members-decide}
 use Rattle.crs_rules_file.specs.Members.{MemberParts}
-use Rattle.crs_rules_file.specs.Seen.{IsAdded}
+use Rattle.crs_rules_file.specs.AddedNodes.{IsAdded}
 
 -- a test that tells the node finds it where it is
 among : (m : MemberParts) (test : MemberParts → Bool) → ((x : MemberParts) → (test x ≡ true) ↔ (m ≡ x))

@@ -1,3 +1,4 @@
+pub mod AddedNodes
 pub mod Equality
 pub mod EqualityLaws
 pub mod Faults
@@ -7,5 +8,4 @@ pub mod Members
 pub mod Named
 pub mod OrderOfLines
 pub mod RulesFile
-pub mod Seen
 pub mod Statements

@@ -3,7 +3,7 @@ ghost use Rattle.std.specs.Prelude.{◌≡◌, [], IfOk, OnErr, length, take};
 ghost use Rattle.std.specs.Cmp.{partial_equiv_from_equiv};
 ghost use Rattle.crs_rules_file.specs.Equality.{digest_of, factors_equal, member_writes, members_equal};
 ghost use Rattle.crs_rules_file.specs.EqualityLaws.{members-equivalence, members-hash};
-ghost use Rattle.crs_rules_file.specs.Seen.{IsAdded};
+ghost use Rattle.crs_rules_file.specs.AddedNodes.{IsAdded};
 
 use crate::member::Member;
 use crs_decimal::Decimal;

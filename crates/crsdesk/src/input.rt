@@ -1,5 +1,5 @@
 //! What texts are read from: standard input, and files by their names.
-use crate::telling::tell_of;
+use crate::messages::tell_of;
 use crs_desk::{Inputs, RunFault};
 use std::fs::File;
 use std::io;

@@ -4,18 +4,18 @@
 
 mod fault;
 mod input;
+mod messages;
 mod order;
 mod output;
 mod runs;
-mod telling;
 
 use crs_desk::{Request, RequestFault, RunFault, request};
 use fault::Fault;
+use messages::tell_bad_words;
 use order::WORDS;
 use runs::answer;
 use std::process::ExitCode;
 use std::{env, io};
-use telling::tell_bad_words;
 
 const FAULT: u8 = 2;
 

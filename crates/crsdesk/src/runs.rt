@@ -2,9 +2,9 @@
 //! rules are read before all others.
 use crate::fault::Fault;
 use crate::input::{Input, Opener, tell_fault};
+use crate::messages::{tell_of, tell_refused};
 use crate::order::order_of;
 use crate::output::Output;
-use crate::telling::{tell_of, tell_refused};
 use crs_desk::{
     CanonText, CheckText, ExplainOptions, ExplainText, ExplainedForms, FileTask, Filling, ForText,
     GroupFlags, Level, LineWord, Listing, Manner, OfLine, PLAIN, PairAnswer, Request, Rules,
