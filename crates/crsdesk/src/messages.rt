@@ -20,21 +20,13 @@ pub fn tell_refused(rt: &HostRuntime, name: &str, refused: RulesFault) {
 
 // What is told of a name, after these words; by itself where there is no memory for the name.
 fn tell<D: Display + Drop>(rt: &HostRuntime, name: &str, words: &str, what: D) {
-    match shown(rt.alloc(), name.as_bytes()) {
-        Ok(bytes) => {
-            let shown = str::from_utf8(&bytes).unwrap_or(name);
-            let _ = eprintln!(rt; "crsdesk: {shown}{words}{what}");
-        }
-        Err(_) => {
-            let _ = eprintln!(rt; "crsdesk: {what}");
-        }
+    let mut shown = Vec::new(rt.alloc());
+    if append_escaped(name.as_bytes(), &mut shown).is_ok() {
+        let shown = str::from_utf8(&shown).unwrap_or(name);
+        let _ = eprintln!(rt; "crsdesk: {shown}{words}{what}");
+    } else {
+        let _ = eprintln!(rt; "crsdesk: {what}");
     }
-}
-
-fn shown(alloc: Global, name: &[u8]) -> Result<Vec<u8>, AllocError> {
-    let mut shown = Vec::new(alloc);
-    append_escaped(name, &mut shown)?;
-    Ok(shown)
 }
 
 /// A line for each word of the command line that isn't UTF-8, with its bytes: those outside ASCII as `\xHH`.
@@ -52,10 +44,9 @@ pub fn tell_bad_words(rt: &HostRuntime) {
 }
 
 fn tell_bad_word(rt: &HostRuntime, number: usize, word: &[u8]) {
-    if str::from_utf8(word).is_ok() {
-        return;
-    }
-    if let Ok(shown) = bytes_shown(rt.alloc(), word) {
+    if str::from_utf8(word).is_err()
+        && let Ok(shown) = bytes_shown(rt.alloc(), word)
+    {
         let _ = eprintln!(rt; "crsdesk: word {number}: {shown}");
     }
 }
