@@ -1,5 +1,6 @@
--- Parts in the order of no words.
-use Rattle.std.proofs.Common.{◌≡◌, ◌∙◌, ◌∷◌, [], List, Bool, true, ap, cond, refl, sym}
+-- Parts in the order of no words, and whether there are any.
+use Rattle.std.proofs.Common.{◌≡◌, ◌∙◌, ◌∷◌, ◌==◌, [], List, Bool, true, false, ap, arith, cond, length, refl, sym, true≢false}
+use Rattle.std.proofs.lemmas.Bool.{eqb-true}
 use Rattle.std.specs.List.{filter}
 use Rattle.std.specs.List.Sorted.{ties}
 use Rattle.std.specs.Ordering.{is_lt, nat_cmp}
@@ -24,3 +25,13 @@ kept [] ordered is = nil_from_length ordered (length_permutation [] ordered is.a
 kept (part ∷ parts) ordered is =
     sym (filter-all (ties-none part) (λ other. refl) ordered)
     ∙ (is.as_before part ∙ filter-all (ties-none part) (λ other. refl) (part ∷ parts))
+
+-- what follows where there are none, and where there are some
+pub where-none : {A S : Type 0} (P : List A → Type 0) (parts : List A) → (length parts == 0) ≡ true → (P [] → S) → P parts → S
+where-none P [] e then p = then p
+where-none P (part ∷ parts) e then p = let f = eqb-true (length (part ∷ parts)) 0 e in absurd (omega (arith, f))
+
+pub where-some : {A S : Type 0} (P : List A → Type 0) (parts : List A) → (length parts == 0) ≡ false →
+    ((part : A) (further : List A) → P (part ∷ further) → S) → P parts → S
+where-some P [] e then p = absurd (true≢false e)
+where-some P (part ∷ parts) e then p = then part parts p

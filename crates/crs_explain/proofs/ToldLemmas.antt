@@ -98,7 +98,7 @@ module _ (tell : NamesTell) (level : Level) (form : IsCanonicalForm IsParameter 
   abbrev IsAmong : ParameterParts → List ParameterParts → Type 0
   IsAmong x ys = (y : ParameterParts) × IsIn y ys × SameParameter level x y
 
-  -- parameters of a name that stands once on either side are the same
+  -- parameters of a name that stands once on each side are the same
   abbrev AreSameByName : (xs ys : List ParameterParts) → Type 0
   AreSameByName xs ys =
       (name : List ℕ) (x y : ParameterParts) → named_once name xs ≡ Some x → named_once name ys ≡ Some y → SameParameter level x y

@@ -37,7 +37,7 @@ abbrev pub AreTextsOfOne : Level → List ℕ → (first second : Content) → L
 AreTextsOfOne level path first second texts =
     (one : PartTexts) × (texts ≡ one ∷ []) × AreTextsAt level path first second one
 
--- ---- how a set of parameters that differs is told: of each name that stands once on either side what differs in its parameter, and then the other parameters that one side lacks
+-- ---- how a set of parameters that differs is told: of each name that stands once on each side what differs in its parameter, and then the other parameters that one side lacks
 
 -- the parts of two parameters of one name: number, unit, identifiers; `UNIT` is a kind of its own
 abbrev pub parts_of_parameter : Level → ParameterParts → ParameterParts → Parts
@@ -63,7 +63,7 @@ abbrev pub AreTextsOfParts : Level → List ℕ → Parts → List PartTexts →
 AreTextsOfParts level front parts texts =
     (found : List DifferenceParts) × Differences parts found × AreTextsBehind level front found texts
 
--- the texts of what differs in the parameter of a name that stands once on either side
+-- the texts of what differs in the parameter of a name that stands once on each side
 abbrev pub AreTextsOfName : Level → List ℕ → List ℕ → (x y : Option ParameterParts) → List PartTexts → Type 0
 AreTextsOfName level path name (Some x) (Some y) texts =
     AreTextsOfParts level (parameter_path path name) (parts_of_parameter level x y) texts

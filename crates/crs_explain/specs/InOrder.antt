@@ -1,5 +1,6 @@
 -- The parts that differ in an order of their own, by words of their paths.
-use Rattle.std.specs.Prelude.{◌≡◌, ◌==◌, ◌&&◌, ◌||◌, [], ◌∷◌, ℕ, List, Bool, false, true, if◌then◌else◌, nat_lt, not, take}
+use Rattle.std.specs.Prelude.{◌≡◌, ◌==◌, ◌&&◌, ◌||◌, [], ◌∷◌, ℕ, List, Bool, false, true, if◌then◌else◌, not, take}
+use Rattle.std.specs.Char.{is_ascii_lowercase}
 use Rattle.std.specs.List.{flat_map, prefix_len}
 use Rattle.std.specs.List.Sorted.{IsNonDecreasingBy, IsPermutation, IsStableByKey}
 use Rattle.std.specs.Ordering.{nat_cmp}
@@ -9,10 +10,10 @@ use Rattle.crs_value.specs.declared.values.level.Level.{Level}
 use Rattle.crs_explain.specs.Differing.{AreDifferenceTexts, PartTexts, difference_line}
 use Rattle.crs_explain.specs.Json.{difference_object}
 
--- a byte of a word: slashes, the digits of an axis's position and the bracket before a name are below
--- its letters
+-- a byte of a word of a path: a slash, the digits of an axis's position or the bracket before a name
+-- ends it
 abbrev pub is_of_word : ℕ → Bool
-is_of_word b = nat_lt 91 b
+is_of_word b = is_ascii_lowercase b
 
 -- the word with which some bytes of a path begin
 abbrev pub word_at : List ℕ → List ℕ

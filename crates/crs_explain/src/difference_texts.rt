@@ -14,7 +14,7 @@ ghost use Rattle.crs_explain.specs.Appended.{AppendsTexts};
 ghost use Rattle.crs_explain.specs.Differing.{AreDifferenceTexts, AreTexts, AreTextsOf, AreTextsOfName, AreTextsOfNames, AreTextsOfOne, AreTextsOfOthers};
 ghost use Rattle.crs_explain.specs.Differing.{AreTextsOfParts, AreTextsOfSet, PartTexts, are_empty, parameter_path, parts_of_parameter};
 
-use crate::Result;
+use crate::Made;
 use crs_canon::{
     append_lacking_members, append_unit, append_unpaired, named_once, paired_names, write_content,
 };
@@ -46,7 +46,7 @@ impl Model for DifferenceTexts {
     ghost view = { λ d. record { path = d.path.items; first = d.first.items; second = d.second.items } };
 }
 
-type Texts = Vec<DifferenceTexts>;
+pub(crate) type Texts = Vec<DifferenceTexts>;
 
 // A path to what is told, and the level at which it is written.
 #[derive(Clone, Copy)]
@@ -57,7 +57,7 @@ struct At<'p> {
 }
 
 /// The texts of each part in which two CRSs differ at a level, in the order of the canonical text; none exactly where
-/// they are the same. Of parameters those whose name stands once on either side, among at most 64, are told by
+/// they are the same. Of parameters those whose name stands once on each side, among at most 64, are told by
 /// themselves, in order of the names, by the number at `conversion/parameters["NAME"]`, the unit at `/unit` and the
 /// identifiers at `/id` behind that, each where it differs; then come the texts of the others. Profile.
 ///
@@ -67,7 +67,7 @@ pub fn differing_parts<'a>(
     a: &Crs<'a>,
     b: &Crs<'a>,
     level: Level,
-) -> Result<Vec<DifferenceTexts>>
+) -> Made<Vec<DifferenceTexts>>
     ensures { IfOk result (λ texts. AreDifferenceTexts level a.now b.now texts.items) }
 {
     let differences = differences(alloc, a, b, level)?;
@@ -76,14 +76,14 @@ pub fn differing_parts<'a>(
     Ok(texts)
 }
 
-// Appends the texts of differences that it owns. A function that lends them is slow to prove where it is lent nothing
-// before them.
-fn append_texts(
+/// Appends the texts of differences that it owns. A function that lends them is slow to prove where it is lent nothing
+/// before them.
+pub(crate) fn append_texts(
     out: &mut Texts,
     alloc: Global,
     level: Level,
     differences: Differences<'_, '_>,
-) -> Result<()>
+) -> Made<()>
     ensures { OnOk result (AppendsTexts (AreTexts level differences.entry) out.old.items out.new.items) }
 {
     for difference in differences.as_slice() {
@@ -97,7 +97,7 @@ fn append_part(
     level: Level,
     difference: &Difference<'_, '_>,
     out: &mut Texts,
-) -> Result<()>
+) -> Made<()>
     ensures { OnOk result (AppendsTexts
         (AreTextsOf level (path_text difference.now.path) difference.now.first difference.now.second)
         out.old.items out.new.items) }
@@ -110,12 +110,7 @@ fn append_part(
 }
 
 impl At<'_> {
-    fn append(
-        self,
-        first: &Content<'_, '_>,
-        second: &Content<'_, '_>,
-        out: &mut Texts,
-    ) -> Result<()>
+    fn append(self, first: &Content<'_, '_>, second: &Content<'_, '_>, out: &mut Texts) -> Made<()>
         ensures { OnOk result (AppendsTexts (AreTextsOf self.entry.level self.entry.path.now first.now second.now)
             out.old.items out.new.items) }
     {
@@ -135,7 +130,7 @@ impl At<'_> {
         first: &Content<'_, '_>,
         second: &Content<'_, '_>,
         out: &mut Texts,
-    ) -> Result<()>
+    ) -> Made<()>
         ensures { OnOk result (AppendsTexts (AreTextsOfOne self.entry.level self.entry.path.now first.now second.now)
             out.old.items out.new.items) }
     {
@@ -145,7 +140,7 @@ impl At<'_> {
     }
 
     // Appends texts of what is at this path with a step behind it.
-    fn push(self, step: &[u8], first: Vec<u8>, second: Vec<u8>, out: &mut Texts) -> Result<()>
+    fn push(self, step: &[u8], first: Vec<u8>, second: Vec<u8>, out: &mut Texts) -> Made<()>
         ensures { OnOk result (out.new.items ≡ out.old.items ++ (record {
           path = self.entry.path.now ++ step.now;
           first = first.items;
@@ -162,7 +157,7 @@ impl At<'_> {
         Ok(())
     }
 
-    fn content_text(self, content: &Content<'_, '_>) -> Result<Vec<u8>>
+    fn content_text(self, content: &Content<'_, '_>) -> Made<Vec<u8>>
         ensures { IfOk result (λ text. IsContentText self.entry.level content.now text.items) }
     {
         let mut text = Vec::new(self.alloc);
@@ -181,7 +176,7 @@ struct Sets<'s, 'a> {
 
 impl Sets<'_, '_> {
     // Appends the texts of what differs.
-    fn append(self, out: &mut Texts) -> Result<()>
+    fn append(self, out: &mut Texts) -> Made<()>
         ensures { OnOk result (AppendsTexts (AreTextsOfSet self.entry.at.level self.entry.at.path.now
             self.entry.these.now self.entry.others.now) out.old.items out.new.items) }
     {
@@ -190,7 +185,7 @@ impl Sets<'_, '_> {
         self.append_others(out)
     }
 
-    fn append_names(self, names: &BTreeSet<Vec<u8>>, out: &mut Texts) -> Result<()>
+    fn append_names(self, names: &BTreeSet<Vec<u8>>, out: &mut Texts) -> Made<()>
         ensures { OnOk result (AppendsTexts (AreTextsOfNames self.entry.at.level self.entry.at.path.now
             self.entry.these.now self.entry.others.now (map (λ name. name.items) names.now.keys)) out.old.items out.new.items) }
     {
@@ -200,7 +195,7 @@ impl Sets<'_, '_> {
         Ok(())
     }
 
-    fn append_name(self, name: &[u8], out: &mut Texts) -> Result<()>
+    fn append_name(self, name: &[u8], out: &mut Texts) -> Made<()>
         ensures { OnOk result (AppendsTexts (AreTextsOfName self.entry.at.level self.entry.at.path.now name.now
             (named_once name.now self.entry.these.now) (named_once name.now self.entry.others.now)) out.old.items out.new.items) }
     {
@@ -216,7 +211,7 @@ impl Sets<'_, '_> {
         }
     }
 
-    fn append_others(self, out: &mut Texts) -> Result<()>
+    fn append_others(self, out: &mut Texts) -> Made<()>
         ensures { OnOk result (AppendsTexts (AreTextsOfOthers self.entry.at.level self.entry.at.path.now
             self.entry.these.now self.entry.others.now) out.old.items out.new.items) }
     {
@@ -229,7 +224,7 @@ impl Sets<'_, '_> {
     }
 }
 
-fn unpaired_text(at: At<'_>, these: &[Parameter<'_>], others: &[Parameter<'_>]) -> Result<Vec<u8>>
+fn unpaired_text(at: At<'_>, these: &[Parameter<'_>], others: &[Parameter<'_>]) -> Made<Vec<u8>>
     ensures { IfOk result (λ text. IsContentText at.entry.level
         (content.Parameters (unpaired these.now others.now) (unpaired others.now these.now)) text.items) }
 {
@@ -245,7 +240,7 @@ fn are_empty(first: &[u8], second: &[u8]) -> bool
 }
 
 // The path to the parameter of this name in the set at this path.
-fn parameter_path(alloc: Global, path: &[u8], name: &[u8]) -> Result<Vec<u8>>
+fn parameter_path(alloc: Global, path: &[u8], name: &[u8]) -> Made<Vec<u8>>
     ensures { IfOk result (λ text. text.items ≡ parameter_path path.now name.now) }
 {
     let mut text = Vec::from_slice(alloc, path)?;
@@ -256,7 +251,7 @@ fn parameter_path(alloc: Global, path: &[u8], name: &[u8]) -> Result<Vec<u8>>
 }
 
 impl At<'_> {
-    fn append_parameter(self, a: &Parameter<'_>, b: &Parameter<'_>, out: &mut Texts) -> Result<()>
+    fn append_parameter(self, a: &Parameter<'_>, b: &Parameter<'_>, out: &mut Texts) -> Made<()>
         ensures { OnOk result (AppendsTexts (AreTextsOfParts self.entry.level self.entry.path.now
             (parts_of_parameter self.entry.level a.now b.now)) out.old.items out.new.items) }
     {
@@ -265,7 +260,7 @@ impl At<'_> {
         self.append_identifiers(&a.identifiers, &b.identifiers, out)
     }
 
-    fn append_value(self, a: &Decimal, b: &Decimal, out: &mut Texts) -> Result<()>
+    fn append_value(self, a: &Decimal, b: &Decimal, out: &mut Texts) -> Made<()>
         ensures { OnOk result (AppendsTexts (AreTextsOfParts self.entry.level self.entry.path.now
             (numbers [] a.now b.now)) out.old.items out.new.items) }
     {
@@ -275,7 +270,7 @@ impl At<'_> {
         self.append_one(&Content::Number(*a), &Content::Number(*b), out)
     }
 
-    fn append_units(self, a: Option<&Unit<'_>>, b: Option<&Unit<'_>>, out: &mut Texts) -> Result<()>
+    fn append_units(self, a: Option<&Unit<'_>>, b: Option<&Unit<'_>>, out: &mut Texts) -> Made<()>
         ensures { OnOk result (AppendsTexts (AreTextsOfParts self.entry.level self.entry.path.now (units (step.Unit ∷ [])
             self.entry.level kinds.Plain kinds.Plain (option_copied a.entry) (option_copied b.entry)))
             out.old.items out.new.items) }
@@ -291,7 +286,7 @@ impl At<'_> {
         a: &List<Ident<'a>>,
         b: &List<Ident<'a>>,
         out: &mut Texts,
-    ) -> Result<()>
+    ) -> Made<()>
         ensures { OnOk result (AppendsTexts (AreTextsOfParts self.entry.level self.entry.path.now
             (identifiers (step.Id ∷ []) self.entry.level a.now b.now)) out.old.items out.new.items) }
     {
@@ -304,7 +299,7 @@ impl At<'_> {
     }
 }
 
-fn unit_text(at: At<'_>, unit: Option<&Unit<'_>>) -> Result<Vec<u8>>
+fn unit_text(at: At<'_>, unit: Option<&Unit<'_>>) -> Made<Vec<u8>>
     ensures { IfOk result (λ text.
         IsContentText at.entry.level (given (content.Unit kinds.Plain) (option_copied unit.entry)) text.items) }
 {
@@ -317,11 +312,7 @@ fn unit_text(at: At<'_>, unit: Option<&Unit<'_>>) -> Result<Vec<u8>>
 }
 
 // Of the identifiers that the level keeps.
-fn identifiers_text(
-    at: At<'_>,
-    these: &List<Ident<'_>>,
-    others: &List<Ident<'_>>,
-) -> Result<Vec<u8>>
+fn identifiers_text(at: At<'_>, these: &List<Ident<'_>>, others: &List<Ident<'_>>) -> Made<Vec<u8>>
     ensures { IfOk result (λ text. IsContentText at.entry.level
         (content.Identifiers (kept at.entry.level these.now) (kept at.entry.level others.now)) text.items) }
 {

@@ -7,12 +7,13 @@ ghost use Rattle.crs_explain.specs.InOrder.{AreOrderedTexts, has_step_from, is_o
 ghost use Rattle.crs_explain.specs.Json.{difference_object};
 ghost use Rattle.crs_same.specs.SameCrs.{SameCrs};
 
-use crate::difference_texts::{DifferenceTexts, differing_parts};
+use crate::difference_texts::{DifferenceTexts, append_texts};
 use crate::names::Name;
-use crate::{Pieces, Result};
-use crs_same::same;
+use crate::{Made, Pieces};
+use crs_same::{differences, laws};
 use crs_streams::append_escaped;
 use crs_streams::json::{append_text, append_value_member};
+use crs_value::laws::crs_is_sound;
 use crs_value::{Crs, Level};
 use std::alloc::Global;
 
@@ -28,14 +29,20 @@ pub fn ordered_parts<'a>(
     b: &Crs<'a>,
     level: Level,
     words: &[Name],
-) -> Result<Option<Vec<DifferenceTexts>>>
+) -> Made<Option<Vec<DifferenceTexts>>>
     ensures { IfOk result (λ found. MatchOption found (SameCrs level a.now b.now)
         (λ texts. (¬ SameCrs level a.now b.now) × AreOrderedTexts words.now level a.now b.now texts.items)) }
 {
-    if same(a, b, level) {
+    laws::first_difference_is_first_part();
+    laws::no_part_differs_where_same();
+    crs_is_sound(a);
+    crs_is_sound(b);
+    let differences = differences(alloc, a, b, level)?;
+    if differences.as_slice().is_empty() {
         return Ok(None);
     }
-    let mut texts = differing_parts(alloc, a, b, level)?;
+    let mut texts = Vec::new(alloc);
+    append_texts(&mut texts, alloc, level, differences)?;
     texts.sort_by_key(|part| rank(words, part))?;
     Ok(Some(texts))
 }
@@ -45,7 +52,7 @@ pub fn ordered_parts<'a>(
 /// escaped, as `\n`, `\x1B`, `\u202E` and `\\`. Profile.
 ///
 /// `AllocError`: there is no memory for it.
-pub fn difference_lines(alloc: Global, differences: &[DifferenceTexts]) -> Result<Vec<u8>>
+pub fn difference_lines(alloc: Global, differences: &[DifferenceTexts]) -> Made<Vec<u8>>
     ensures { IfOk result (λ lines. lines.items ≡ flat_map difference_line differences.now) }
 {
     let mut lines = Vec::new(alloc);
@@ -64,7 +71,7 @@ pub fn difference_lines(alloc: Global, differences: &[DifferenceTexts]) -> Resul
 /// second, `null` for what has none. Profile.
 ///
 /// `AllocError`: there is no memory for it.
-pub fn difference_objects(alloc: Global, differences: &[DifferenceTexts]) -> Result<Vec<u8>>
+pub fn difference_objects(alloc: Global, differences: &[DifferenceTexts]) -> Made<Vec<u8>>
     ensures { IfOk result (λ objects. objects.items ≡ flat_map difference_object differences.now) }
 {
     let mut objects = Vec::new(alloc);
@@ -82,7 +89,7 @@ pub fn difference_objects(alloc: Global, differences: &[DifferenceTexts]) -> Res
 /// nothing escaped and no bytes where there is no value. Profile.
 ///
 /// `AllocError`: there is no memory for it.
-pub fn difference_pieces(alloc: Global, differences: &[DifferenceTexts]) -> Result<Pieces>
+pub fn difference_pieces(alloc: Global, differences: &[DifferenceTexts]) -> Made<Pieces>
     ensures { IfOk result (λ pieces. pieces ≡ flat_map part_pieces differences.now) }
 {
     let mut pieces = Pieces::new(alloc);
@@ -95,7 +102,7 @@ pub fn difference_pieces(alloc: Global, differences: &[DifferenceTexts]) -> Resu
 }
 
 // `none` where there are no bytes.
-fn append_value(bytes: &[u8], out: &mut Vec<u8>) -> Result<()>
+fn append_value(bytes: &[u8], out: &mut Vec<u8>) -> Made<()>
     ensures { OnOk result (out.new.items ≡ out.old.items ++ shown bytes.now) }
 {
     if bytes.is_empty() {
@@ -140,5 +147,5 @@ fn word_length(path: &[u8]) -> usize
     ensures value { result ≡ prefix_len is_of_word path.now }
     ensures within { result ≤ length path.now }
 {
-    path.iter().take_while(|byte| **byte > b'[').count()
+    path.iter().take_while(|b| b.is_ascii_lowercase()).count()
 }

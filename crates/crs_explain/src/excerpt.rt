@@ -2,7 +2,7 @@
 ghost use Rattle.std.specs.Prelude.{◌≡◌, ◌++◌, ◌≤◌, ◌-◌, ℕ, List, IfOk, IfSome, OnOk, length, take, drop};
 ghost use Rattle.crs_explain.specs.Excerpt.{IsExcerpt, blanks, blanks_below, is_hidden, printed, printed_text, shown_place};
 
-use crate::Result;
+use crate::Made;
 use crate::place::rest_of;
 use bstr::{ByteSlice, ByteVec};
 use crs_text::position_of;
@@ -21,7 +21,7 @@ const BYTES_BEFORE: usize = 200;
 const BYTES_BEHIND: usize = 100;
 
 /// The piece of the line at a place, and a caret under the place, a line each.
-pub(crate) fn excerpt(alloc: Global, text: &[u8], place: usize) -> Result<Vec<u8>>
+pub(crate) fn excerpt(alloc: Global, text: &[u8], place: usize) -> Made<Vec<u8>>
     requires { place ≤ length text.now }
     ensures { IfOk result (λ lines. IsExcerpt text.now place lines.items) }
 {
@@ -86,7 +86,7 @@ fn behind_place(bytes: &[u8]) -> &[u8]
 }
 
 // Appends bytes as they are printed.
-fn append_printed(bytes: &[u8], out: &mut Vec<u8>) -> Result<()>
+fn append_printed(bytes: &[u8], out: &mut Vec<u8>) -> Made<()>
     ensures { OnOk result (out.new.items ≡ out.old.items ++ printed_text bytes.now) }
 {
     for c in bytes.chars() {
@@ -96,7 +96,7 @@ fn append_printed(bytes: &[u8], out: &mut Vec<u8>) -> Result<()>
 }
 
 // Appends blanks as wide as bytes that are printed.
-fn append_blanks(bytes: &[u8], out: &mut Vec<u8>) -> Result<()>
+fn append_blanks(bytes: &[u8], out: &mut Vec<u8>) -> Made<()>
     ensures { OnOk result (out.new.items ≡ out.old.items ++ blanks_below bytes.now) }
 {
     for c in bytes.chars() {

@@ -8,12 +8,20 @@ ghost use Rattle.crs_explain.specs.Expected.{IsExpected, IsExpectedIn, IsShapeEx
 use crate::names::{Name, append_listed, push_names};
 use crate::place::{found_text, name_text, rest_of, word_at};
 use crate::system::{axes_expected, word_expected};
-use crate::{Pieces, Result};
+use crate::{Made, Pieces};
+use crs_hint::UNKNOWN_KEYWORD;
 use crs_shape::{Class, Expected, classes, expected, nearest};
 use crs_streams::append_number;
 use crs_text::{Fault, Items, Refusal, laws, read_items};
 use std::alloc::Global;
 use std::marker::Model;
+
+// A part that a node must have and lacks: the last number of a shape.
+const MISSING: u8 = 13;
+/// A type of coordinate system or a direction that isn't known.
+pub(crate) const UNKNOWN_WORD: u8 = 21;
+// More or fewer axes than the dimension.
+const AXIS_COUNT: u8 = 25;
 
 /// What is found at a place, and the names of what could stand there. Profile.
 #[derive(Drop)]
@@ -56,7 +64,7 @@ impl ExpectedTexts {
     }
 
     /// Appends the line of what is found and what could stand there; nothing where there are no names.
-    pub(crate) fn append_line(&self, out: &mut Vec<u8>) -> Result<()>
+    pub(crate) fn append_line(&self, out: &mut Vec<u8>) -> Made<()>
         ensures { OnOk result (out.new.items ≡ out.old.items ++ expected_line self.now) }
     {
         if self.names.is_empty() {
@@ -67,7 +75,7 @@ impl ExpectedTexts {
     }
 
     /// Adds that line, the keyword of the node, and what is found to pieces.
-    pub(crate) fn push_found(&self, alloc: Global, out: &mut Pieces) -> Result<()>
+    pub(crate) fn push_found(&self, alloc: Global, out: &mut Pieces) -> Made<()>
         ensures { OnOk result (out.new ≡ out.old ++ expected_line self.now ∷ self.now.node ∷ self.now.found ∷ []) }
     {
         let mut line = Vec::new(alloc);
@@ -86,14 +94,11 @@ pub(crate) fn or_nothing<'e>(
     requires { nothing.now ≡ or_nothing None }
     ensures { result.now ≡ or_nothing expected.now }
 {
-    match expected {
-        Some(expected) => expected,
-        None => nothing,
-    }
+    expected.as_ref().unwrap_or(nothing)
 }
 
 // `: found AXIS, expected CS`, and a line feed.
-fn append_rest(found: &[u8], names: &[Name], out: &mut Vec<u8>) -> Result<()>
+fn append_rest(found: &[u8], names: &[Name], out: &mut Vec<u8>) -> Made<()>
     ensures { OnOk result (out.new.items ≡ out.old.items
         ++ (codes ": found " ++ found.now ++ codes ", expected " ++ listed names.now ++ 10 ∷ [])) }
 {
@@ -105,7 +110,7 @@ fn append_rest(found: &[u8], names: &[Name], out: &mut Vec<u8>) -> Result<()>
 }
 
 // `in GEOGCRS at 0`, or `at 0` where there is no keyword.
-fn append_node(word: &[u8], place: usize, out: &mut Vec<u8>) -> Result<()>
+fn append_node(word: &[u8], place: usize, out: &mut Vec<u8>) -> Made<()>
     ensures { OnOk result (out.new.items ≡ out.old.items ++ node_at word.now place) }
 {
     if word.is_empty() {
@@ -123,7 +128,7 @@ pub(crate) fn expectation(
     alloc: Global,
     text: &[u8],
     refusal: Refusal,
-) -> Result<Option<ExpectedTexts>>
+) -> Made<Option<ExpectedTexts>>
     ensures { IfOk result (IsExpected text.now refusal) }
 {
     laws::one_answer();
@@ -140,16 +145,14 @@ fn in_items(
     text: &[u8],
     items: &Items<'_>,
     refusal: Refusal,
-) -> Result<Option<ExpectedTexts>>
+) -> Made<Option<ExpectedTexts>>
     ensures { IfOk result (IsExpectedIn text.now refusal items.now) }
 {
     let (number, place) = (refusal.number(), refusal.place());
     match number {
-        11..=13 => shape_expected(alloc, text, items, place),
-        // A word that isn't known.
-        21 => word_expected(alloc, text, items, place).map(Some),
-        // More or fewer axes than the dimension.
-        25 => axes_expected(alloc, items, place).map(Some),
+        UNKNOWN_KEYWORD..=MISSING => shape_expected(alloc, text, items, place),
+        UNKNOWN_WORD => word_expected(alloc, text, items, place).map(Some),
+        AXIS_COUNT => axes_expected(alloc, items, place).map(Some),
         _ => Ok(None),
     }
 }
@@ -160,7 +163,7 @@ fn shape_expected(
     text: &[u8],
     items: &Items<'_>,
     place: usize,
-) -> Result<Option<ExpectedTexts>>
+) -> Made<Option<ExpectedTexts>>
     ensures { IfOk result (IsShapeExpected text.now place items.now) }
 {
     let Some(expected) = expected(items) else {
@@ -182,7 +185,7 @@ fn shape_expected(
 }
 
 // The expected keyword that the word nearly is with which these bytes begin; nothing where none is near.
-fn meant_at(alloc: Global, there: &[u8], expected: &Expected) -> Result<Vec<u8>> {
+fn meant_at(alloc: Global, there: &[u8], expected: &Expected) -> Made<Vec<u8>> {
     match nearest(word_at(there), expected) {
         Some(keyword) => Vec::from_slice(alloc, keyword.spelling()),
         None => Ok(Vec::new(alloc)),
@@ -190,7 +193,7 @@ fn meant_at(alloc: Global, there: &[u8], expected: &Expected) -> Result<Vec<u8>>
 }
 
 // The keyword of a node, with which these bytes begin; nothing where it is of no class.
-fn node_text(alloc: Global, there: &[u8], parent: Option<Class>) -> Result<Vec<u8>>
+fn node_text(alloc: Global, there: &[u8], parent: Option<Class>) -> Made<Vec<u8>>
     ensures { IfOk result (λ node. node.items ≡ node_word parent there.now) }
 {
     match parent {
@@ -200,7 +203,7 @@ fn node_text(alloc: Global, there: &[u8], parent: Option<Class>) -> Result<Vec<u
 }
 
 // The classes that may come, in the order of the table.
-fn classes_in(alloc: Global, expected: &Expected) -> Result<Vec<Class>>
+fn classes_in(alloc: Global, expected: &Expected) -> Made<Vec<Class>>
     ensures { IfOk result (λ found. found.items ≡ filter (may_come expected.now) every_class) }
 {
     classes()

@@ -22,5 +22,5 @@ pub use names::Name as StepWord;
 pub use pieces::Pieces;
 pub use refusal::{ExplanationPieces, refusal_object, refusal_pieces, refusal_text};
 
-/// What is made where there is memory for it.
-pub type Result<T> = std::result::Result<T, std::alloc::AllocError>;
+/// A value, or `AllocError`.
+pub(crate) type Made<T> = std::result::Result<T, std::alloc::AllocError>;

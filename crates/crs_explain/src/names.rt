@@ -5,15 +5,15 @@ ghost use Rattle.crs_explain.specs.Expectation.{listed};
 ghost use Rattle.crs_explain.specs.Expected.{class_names, names_of};
 ghost use Rattle.crs_streams.specs.Json.{json_array, json_more, json_text};
 
-use crate::{Pieces, Result};
+use crate::{Made, Pieces};
 use crs_shape::{Class, keywords};
 use crs_streams::json::append_text;
 use crs_text::Keyword;
 use std::alloc::Global;
 use std::marker::Model;
 
-/// A name of what could stand at a place; or a word of a path, as `datum`, and of an axis without its position, as
-/// `axis`. Profile.
+/// A word of a path, as `datum`, that of an axis without its position, as `axis`; inside the crate also a name of what
+/// could stand at a place. Profile.
 #[derive(Drop)]
 pub struct Name {
     bytes: Vec<u8>,
@@ -28,10 +28,10 @@ impl Model for Name {
 }
 
 impl Name {
-    /// The name or the word of these bytes. A word that no path has matches no step.
+    /// The word, or the name, of these bytes. A word that no path has matches no step.
     ///
     /// `AllocError`: there is no memory for it.
-    pub fn new(alloc: Global, bytes: &[u8]) -> Result<Name>
+    pub fn new(alloc: Global, bytes: &[u8]) -> Made<Name>
         ensures { IfOk result (λ name. name ≡ bytes.now) }
     {
         let bytes = Vec::from_slice(alloc, bytes)?;
@@ -47,7 +47,7 @@ impl Name {
 }
 
 /// Adds a name behind others.
-pub(crate) fn push_name(bytes: &[u8], out: &mut Vec<Name>) -> Result<()>
+pub(crate) fn push_name(bytes: &[u8], out: &mut Vec<Name>) -> Made<()>
     ensures { OnOk result (out.new.items ≡ out.old.items ++ bytes.now ∷ []) }
 {
     out.push(Name::new(*out.allocator(), bytes)?)?;
@@ -55,7 +55,7 @@ pub(crate) fn push_name(bytes: &[u8], out: &mut Vec<Name>) -> Result<()>
 }
 
 /// Appends names with commas between, and an `or` before the last.
-pub(crate) fn append_listed(names: &[Name], out: &mut Vec<u8>) -> Result<()>
+pub(crate) fn append_listed(names: &[Name], out: &mut Vec<u8>) -> Made<()>
     ensures { OnOk result (out.new.items ≡ out.old.items ++ listed names.now) }
 {
     match names {
@@ -75,7 +75,7 @@ pub(crate) fn append_listed(names: &[Name], out: &mut Vec<u8>) -> Result<()>
 }
 
 /// Adds each name to pieces.
-pub(crate) fn push_each(names: &[Name], out: &mut Pieces) -> Result<()>
+pub(crate) fn push_each(names: &[Name], out: &mut Pieces) -> Made<()>
     ensures { OnOk result (out.new ≡ out.old ++ names.now) }
 {
     for name in names {
@@ -85,7 +85,7 @@ pub(crate) fn push_each(names: &[Name], out: &mut Pieces) -> Result<()>
 }
 
 /// Appends an array of texts.
-pub(crate) fn append_array(names: &[Name], out: &mut Vec<u8>) -> Result<()>
+pub(crate) fn append_array(names: &[Name], out: &mut Vec<u8>) -> Made<()>
     ensures { OnOk result (out.new.items ≡ out.old.items ++ json_array json_text names.now) }
 {
     match names {
@@ -100,7 +100,7 @@ pub(crate) fn append_array(names: &[Name], out: &mut Vec<u8>) -> Result<()>
 }
 
 // Texts, each after a comma.
-fn append_more(names: &[Name], out: &mut Vec<u8>) -> Result<()>
+fn append_more(names: &[Name], out: &mut Vec<u8>) -> Made<()>
     ensures { OnOk result (out.new.items ≡ out.old.items ++ json_more json_text names.now) }
 {
     for name in names {
@@ -111,7 +111,7 @@ fn append_more(names: &[Name], out: &mut Vec<u8>) -> Result<()>
 }
 
 /// Adds the names of classes, and the end of the node where it may end.
-pub(crate) fn push_names(classes: &[Class], may_end: bool, out: &mut Vec<Name>) -> Result<()>
+pub(crate) fn push_names(classes: &[Class], may_end: bool, out: &mut Vec<Name>) -> Made<()>
     ensures { OnOk result (out.new.items ≡ out.old.items ++ names_of classes.now may_end) }
 {
     for class in classes {
@@ -124,7 +124,7 @@ pub(crate) fn push_names(classes: &[Class], may_end: bool, out: &mut Vec<Name>) 
 }
 
 // The names of a class: its first keyword, or what it is where it has none.
-fn push_class(class: Class, out: &mut Vec<Name>) -> Result<()>
+fn push_class(class: Class, out: &mut Vec<Name>) -> Made<()>
     ensures { OnOk result (out.new.items ≡ out.old.items ++ class_names class) }
 {
     if class == Class::Number {
@@ -142,7 +142,7 @@ fn push_class(class: Class, out: &mut Vec<Name>) -> Result<()>
     }
 }
 
-fn push_two(first: &[u8], second: &[u8], out: &mut Vec<Name>) -> Result<()>
+fn push_two(first: &[u8], second: &[u8], out: &mut Vec<Name>) -> Made<()>
     ensures { OnOk result (out.new.items ≡ out.old.items ++ first.now ∷ second.now ∷ []) }
 {
     push_name(first, out)?;

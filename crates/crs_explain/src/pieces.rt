@@ -2,7 +2,7 @@
 ghost use Rattle.std.specs.Prelude.{◌≡◌, ◌++◌, ◌∷◌, [], OnOk};
 ghost use Rattle.crs_explain.specs.Pieces.{ends_from, joined};
 
-use crate::Result;
+use crate::Made;
 use std::alloc::Global;
 use std::marker::Model;
 
@@ -53,7 +53,7 @@ impl Pieces {
     }
 
     /// Adds a text behind the others.
-    pub(crate) fn push(&mut self, text: &[u8]) -> Result<()>
+    pub(crate) fn push(&mut self, text: &[u8]) -> Made<()>
         ensures { OnOk result (self.new ≡ self.old ++ text.now ∷ []) }
     {
         // The room for the end is asked for first, so that the last push can't fail.

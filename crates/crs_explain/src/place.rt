@@ -3,14 +3,14 @@ ghost use Rattle.std.specs.Prelude.{◌≡◌, ◌≤◌, IfOk, drop, length, ta
 ghost use Rattle.std.specs.List.{prefix_len};
 ghost use Rattle.crs_explain.specs.Found.{first_byte, found_in, is_of_word, named_by, opens, opens_after_white, word_of, word_shown};
 
-use crate::Result;
+use crate::Made;
 use std::alloc::Global;
 
 // How many bytes of a word are shown.
 const SHOWN: usize = 40;
 
 /// What begins at the front of these bytes, or the delimiter that closes there.
-pub(crate) fn found_text(alloc: Global, there: &[u8]) -> Result<Vec<u8>>
+pub(crate) fn found_text(alloc: Global, there: &[u8]) -> Made<Vec<u8>>
     ensures { IfOk result (λ found. found.items ≡ found_in there.now) }
 {
     match first_byte(there) {
@@ -49,14 +49,14 @@ fn opens(bytes: &[u8]) -> bool
 }
 
 /// A word in capitals, or the front of a long one.
-pub(crate) fn name_text(alloc: Global, word: &[u8]) -> Result<Vec<u8>>
+pub(crate) fn name_text(alloc: Global, word: &[u8]) -> Made<Vec<u8>>
     ensures { IfOk result (λ name. name.items ≡ named_by word.now) }
 {
     shown_text(alloc, word)?.to_ascii_uppercase(alloc)
 }
 
 /// A word as it is written, or the front of a long one.
-pub(crate) fn shown_text(alloc: Global, word: &[u8]) -> Result<Vec<u8>>
+pub(crate) fn shown_text(alloc: Global, word: &[u8]) -> Made<Vec<u8>>
     ensures { IfOk result (λ shown. shown.items ≡ word_shown word.now) }
 {
     if word.len() <= SHOWN {

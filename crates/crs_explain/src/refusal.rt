@@ -5,12 +5,12 @@ ghost use Rattle.crs_explain.specs.Json.{IsRefusalObject, expected_members, plac
 ghost use Rattle.crs_explain.specs.Lines.{in_line};
 
 use crate::excerpt::excerpt;
-use crate::expected::{ExpectedTexts, expectation, or_nothing};
+use crate::expected::{ExpectedTexts, UNKNOWN_WORD, expectation, or_nothing};
 use crate::names::{append_array, push_each};
 use crate::place::word_at;
 use crate::units::units;
-use crate::{Pieces, Result};
-use crs_hint::{hints, meaning, still_open};
+use crate::{Made, Pieces};
+use crs_hint::{UNEXPECTED, UNEXPECTED_END, UNKNOWN_KEYWORD, hints, meaning, still_open};
 use crs_streams::json::{
     append_key, append_number_member, append_text, append_text_member, append_value_member,
 };
@@ -21,6 +21,9 @@ use std::marker::Model;
 
 // The most bytes of a line of words.
 const MOST: usize = 1000;
+
+// A unit that is missing, given twice, or of the wrong kind.
+const BAD_UNIT: u8 = 27;
 
 // What is explained of a refusal. Of words there are no bytes where nothing is to be said.
 struct ExplanationOf {
@@ -64,7 +67,7 @@ impl Model for ExplanationOf {
 
 impl ExplanationOf {
     // Appends its sentences, a line each.
-    fn append_sentences(&self, out: &mut Vec<u8>) -> Result<()>
+    fn append_sentences(&self, out: &mut Vec<u8>) -> Made<()>
         ensures { OnOk result (out.new.items ≡ out.old.items ++ sentence_lines self.now.sentences) }
     {
         append_line_if_any(&self.clue, out)?;
@@ -73,7 +76,7 @@ impl ExplanationOf {
     }
 
     // Adds each of them to pieces.
-    fn push_sentences(&self, out: &mut Pieces) -> Result<()>
+    fn push_sentences(&self, out: &mut Pieces) -> Made<()>
         ensures { OnOk result (out.new ≡ out.old ++ self.now.sentences.open_or_meant
             ∷ self.now.sentences.meaning ∷ self.now.sentences.hints ∷ []) }
     {
@@ -83,7 +86,7 @@ impl ExplanationOf {
     }
 
     // Appends them as members of an object.
-    fn append_sentence_members(&self, out: &mut Vec<u8>) -> Result<()>
+    fn append_sentence_members(&self, out: &mut Vec<u8>) -> Made<()>
         ensures { OnOk result (out.new.items ≡ out.old.items ++ sentence_members self.now.sentences) }
     {
         append_value_member(b"clue", &self.clue, out)?;
@@ -93,15 +96,15 @@ impl ExplanationOf {
 }
 
 // The explanation of a text's refusal. Time is linear in the text.
-fn explanation(alloc: Global, text: &[u8], refusal: Refusal) -> Result<ExplanationOf>
+fn explanation(alloc: Global, text: &[u8], refusal: Refusal) -> Made<ExplanationOf>
     requires { refusal.place ≤ length text.now }
     ensures { IfOk result (Explains text.now refusal) }
 {
-    let (number, place) = (refusal.number(), refusal.place());
+    let place = refusal.place();
     let position = position_of(text, place);
     let excerpt = excerpt(alloc, text, place)?;
     let expected = expectation(alloc, text, refusal)?;
-    let hints = hints(alloc, text, number, place)?;
+    let hints = hints(alloc, text, refusal)?;
     let meant: &[u8] = match &expected {
         Some(expected) if hints.is_empty() => &expected.meant,
         _ => b"",
@@ -112,23 +115,25 @@ fn explanation(alloc: Global, text: &[u8], refusal: Refusal) -> Result<Explanati
         excerpt,
         expected,
         clue: words_of(alloc, &clue)?,
-        meaning: words_of(alloc, meaning(number).as_bytes())?,
+        meaning: words_of(alloc, meaning(refusal).as_bytes())?,
         hints: words_of(alloc, &hints)?,
     })
 }
 
-// What is open at the place, which units are asked for, or which name was meant; that has no bytes where there is none.
-fn clue(alloc: Global, text: &[u8], refusal: Refusal, meant: &[u8]) -> Result<Vec<u8>> {
+// What is open at the place, which units are asked for, or which name was meant; empty where there is none.
+fn clue(alloc: Global, text: &[u8], refusal: Refusal, meant: &[u8]) -> Made<Vec<u8>> {
     match refusal.number() {
-        6 | 7 => still_open(alloc, text, refusal.place()),
-        11 | 21 if !meant.is_empty() => [b"Did you mean ", meant, b"?"].concat(alloc),
-        27 => units(alloc, text, refusal.place()),
+        UNEXPECTED | UNEXPECTED_END => still_open(alloc, text, refusal),
+        UNKNOWN_KEYWORD | UNKNOWN_WORD if !meant.is_empty() => {
+            [b"Did you mean ", meant, b"?"].concat(alloc)
+        }
+        BAD_UNIT => units(alloc, text, refusal.place()),
         _ => Ok(Vec::new(alloc)),
     }
 }
 
 // The words of a line: the first of these, with blanks for line feeds.
-fn words_of(alloc: Global, words: &[u8]) -> Result<Vec<u8>>
+fn words_of(alloc: Global, words: &[u8]) -> Made<Vec<u8>>
     ensures { IfOk result (λ line. AreWords line.items) }
 {
     let mut line = Vec::new(alloc);
@@ -150,7 +155,7 @@ fn in_line(byte: u8) -> u8
 /// which units are asked for; what the number means, and a hint where one applies. Each line has its line feed.
 ///
 /// `AllocError`: there is no memory for it. Time is linear in the text. Profile.
-pub fn refusal_text(alloc: Global, text: &[u8], refusal: Refusal) -> Result<Vec<u8>>
+pub fn refusal_text(alloc: Global, text: &[u8], refusal: Refusal) -> Made<Vec<u8>>
     requires { refusal.place ≤ length text.now }
     ensures { IfOk result (λ told. IsExplained text.now refusal told.items) }
 {
@@ -192,7 +197,7 @@ impl Model for ExplanationPieces {
 /// sentence has no line feed, and no bytes where nothing is to be said.
 ///
 /// `AllocError`: there is no memory for it. Time is linear in the text. Profile.
-pub fn refusal_pieces(alloc: Global, text: &[u8], refusal: Refusal) -> Result<ExplanationPieces>
+pub fn refusal_pieces(alloc: Global, text: &[u8], refusal: Refusal) -> Made<ExplanationPieces>
     requires { refusal.place ≤ length text.now }
     ensures { IfOk result (AreExplainedPieces text.now refusal) }
 {
@@ -218,7 +223,7 @@ pub fn refusal_pieces(alloc: Global, text: &[u8], refusal: Refusal) -> Result<Ex
 /// `first `; no bytes say nothing.
 ///
 /// `AllocError`: there is no memory for it. Time is linear in the text. Profile.
-pub fn refusal_object(alloc: Global, which: &[u8], text: &[u8], refusal: Refusal) -> Result<Vec<u8>>
+pub fn refusal_object(alloc: Global, which: &[u8], text: &[u8], refusal: Refusal) -> Made<Vec<u8>>
     requires { refusal.place ≤ length text.now }
     ensures { IfOk result (λ object. IsRefusalObject which.now text.now refusal object.items) }
 {
@@ -234,7 +239,7 @@ pub fn refusal_object(alloc: Global, which: &[u8], text: &[u8], refusal: Refusal
 }
 
 // `refused N NAME at P, line L, column C`, and a line feed.
-fn append_head(refusal: Refusal, position: Position, out: &mut Vec<u8>) -> Result<()>
+fn append_head(refusal: Refusal, position: Position, out: &mut Vec<u8>) -> Made<()>
     ensures { OnOk result (out.new.items ≡ out.old.items ++ head refusal position) }
 {
     append_refusal(out, refusal)?;
@@ -242,7 +247,7 @@ fn append_head(refusal: Refusal, position: Position, out: &mut Vec<u8>) -> Resul
 }
 
 // `, line L, column C`, and a line feed.
-fn append_position(position: Position, out: &mut Vec<u8>) -> Result<()>
+fn append_position(position: Position, out: &mut Vec<u8>) -> Made<()>
     ensures { OnOk result (out.new.items ≡ out.old.items ++ (codes ", line " ++ decimal position.line
         ++ codes ", column " ++ decimal position.column ++ 10 ∷ [])) }
 {
@@ -253,7 +258,7 @@ fn append_position(position: Position, out: &mut Vec<u8>) -> Result<()>
     out.extend_from_slice(b"\n")
 }
 
-fn append_line_if_any(words: &[u8], out: &mut Vec<u8>) -> Result<()>
+fn append_line_if_any(words: &[u8], out: &mut Vec<u8>) -> Made<()>
     ensures { OnOk result (out.new.items ≡ out.old.items ++ line_if_any words.now) }
 {
     if words.is_empty() {
@@ -262,7 +267,7 @@ fn append_line_if_any(words: &[u8], out: &mut Vec<u8>) -> Result<()>
     append_line(words, out)
 }
 
-fn append_line(words: &[u8], out: &mut Vec<u8>) -> Result<()>
+fn append_line(words: &[u8], out: &mut Vec<u8>) -> Made<()>
     ensures { OnOk result (out.new.items ≡ out.old.items ++ (words.now ++ 10 ∷ [])) }
 {
     out.extend_from_slice(words)?;
@@ -270,7 +275,7 @@ fn append_line(words: &[u8], out: &mut Vec<u8>) -> Result<()>
 }
 
 // `"text":"first",`, or nothing where there is one text.
-fn append_which(which: &[u8], out: &mut Vec<u8>) -> Result<()>
+fn append_which(which: &[u8], out: &mut Vec<u8>) -> Made<()>
     ensures { OnOk result (out.new.items ≡ out.old.items ++ which_member which.now) }
 {
     if which.is_empty() {
@@ -281,7 +286,7 @@ fn append_which(which: &[u8], out: &mut Vec<u8>) -> Result<()>
     out.extend_from_slice(b",")
 }
 
-fn append_place(refusal: Refusal, position: Position, out: &mut Vec<u8>) -> Result<()>
+fn append_place(refusal: Refusal, position: Position, out: &mut Vec<u8>) -> Made<()>
     ensures { OnOk result (out.new.items ≡ out.old.items ++ place_members refusal position) }
 {
     out.extend_from_slice(b"\"refused\":")?;
@@ -292,7 +297,7 @@ fn append_place(refusal: Refusal, position: Position, out: &mut Vec<u8>) -> Resu
     append_number_member(b"column", position.column, out)
 }
 
-fn append_expected(expected: &Option<ExpectedTexts>, out: &mut Vec<u8>) -> Result<()>
+fn append_expected(expected: &Option<ExpectedTexts>, out: &mut Vec<u8>) -> Made<()>
     ensures { OnOk result (out.new.items ≡ out.old.items ++ expected_members expected.now) }
 {
     let Some(expected) = expected else {

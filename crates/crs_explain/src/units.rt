@@ -2,7 +2,7 @@
 ghost use Rattle.crs_text.specs.Items.{HasId};
 ghost use Rattle.crs_value.specs.Reading.{Holds};
 
-use crate::Result;
+use crate::Made;
 use crate::place::name_text;
 use crate::system::{around, crs_around, is_called, part_around, raw_at};
 use crs_shape::{Direction, SystemType, UnitKind};
@@ -16,7 +16,7 @@ const UNITS: [Keyword; 3] = [Keyword::LengthUnit, Keyword::AngleUnit, Keyword::P
 /// For a unit on an axis, or where there is none, `found LENGTHUNIT in AXIS at 66, expected ANGLEUNIT`; for one that all
 /// axes share `found LENGTHUNIT for all axes, expected ANGLEUNIT for AXIS at 66, LENGTHUNIT for AXIS at 84`; nothing
 /// where the text has no items, or no unit is at the place or missing there.
-pub(crate) fn units(alloc: Global, text: &[u8], place: usize) -> Result<Vec<u8>> {
+pub(crate) fn units(alloc: Global, text: &[u8], place: usize) -> Made<Vec<u8>> {
     match read_items(alloc, text) {
         Ok(items) => units_of(alloc, &items, place),
         Err(Fault::Refused(_)) => Ok(Vec::new(alloc)),
@@ -24,7 +24,7 @@ pub(crate) fn units(alloc: Global, text: &[u8], place: usize) -> Result<Vec<u8>>
     }
 }
 
-fn units_of(alloc: Global, items: &Items<'_>, place: usize) -> Result<Vec<u8>> {
+fn units_of(alloc: Global, items: &Items<'_>, place: usize) -> Made<Vec<u8>> {
     let crs = crs_around(items, place);
     let part = part_around(items, place);
     let system = InCrs { items, crs };
@@ -55,7 +55,7 @@ struct InCrs<'i, 'a> {
 impl InCrs<'_, '_> {
     // `found LENGTHUNIT in AXIS at 66, expected ANGLEUNIT`, or that there is a unit for all axes too; nothing where no
     // unit is found and none is missing.
-    fn append_of_axis(&self, axis: ItemId, found: ItemId, out: &mut Vec<u8>) -> Result<()>
+    fn append_of_axis(&self, axis: ItemId, found: ItemId, out: &mut Vec<u8>) -> Made<()>
         requires axis { HasId self.now.items.now axis }
         requires found { HasId self.now.items.now found }
     {
@@ -93,7 +93,7 @@ impl InCrs<'_, '_> {
     }
 
     // `found LENGTHUNIT for all axes, expected ANGLEUNIT for AXIS at 66, LENGTHUNIT for AXIS at 84`
-    fn append_of_all(&self, unit: ItemId, out: &mut Vec<u8>) -> Result<()>
+    fn append_of_all(&self, unit: ItemId, out: &mut Vec<u8>) -> Made<()>
         requires { HasId self.now.items.now unit }
     {
         let items = self.items;
