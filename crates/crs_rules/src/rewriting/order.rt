@@ -163,7 +163,7 @@ fn arrange_compound(alloc: Global, value: &mut Compound<'_>) -> Result<(), Alloc
     arrange_vertical(alloc, &mut value.vertical)
 }
 
-// Puts the axes of a CRS that have no orders in order of their texts. Out of memory some may be.
+// Puts the axes of a CRS that have no orders in order of their texts. Out of memory it may be rewritten in part.
 pub(super) fn arrange_crs(alloc: Global, crs: &mut Crs<'_>) -> Result<(), AllocError>
     requires { IsOrderlessCrs crs.old }
     ensures { OnOk result (crs.new ≡ arranged_crs (axis_text levels.Full) crs.old) }
