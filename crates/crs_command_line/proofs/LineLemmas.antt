@@ -18,6 +18,7 @@ use Rattle.crs_command_line.specs.CommandLine.{asked, desk, file_operands, files
 use Rattle.crs_requests.specs.declared.requests.Request.{Request}
 use Rattle.crs_requests.specs.declared.requests.Request.TheVariants.{Files}
 use Rattle.crs_requests.specs.declared.requests.Task.{Task}
+use Rattle.crs_requests.specs.declared.word.WordKind.TheVariants.{FileName}
 use Rattle.crs_command_line.proofs.OperandLemmas.{built_same}
 
 -- ---- words, of which some are written out
@@ -268,7 +269,7 @@ abbrev pub ReadsFiles : CommandName → Task → Type 0
 ReadsFiles n wanted = (names : List Text) (last word : Text)
     → (is_plain_word word ≡ true → Goes (built_at n) (walk_from nothing_held) word (at_files [] word))
     × (is_plain_word word ≡ true → Goes (built_at n) (at_files names last) word (at_files (names ++ last ∷ []) word))
-    × (request_of (name_of n, finished (built_at n).rules (with_files names last)) ≡ Some (over wanted true (names ++ last ∷ []) []))
+    × (request_of (name_of n, finished (built_at n).rules (with_files names last)) ≡ Some (over wanted FileName (names ++ last ∷ []) []))
     × (ends (built_at n) (at_files names last) ≡ true)
 
 -- names are taken to the last
@@ -287,9 +288,9 @@ files_run n wanted reads names last (word ∷ words) usual =
     )
 
 -- files are asked for where there are some
-over-some : (wanted : Task) (names : List Text) (last : Text) → over wanted true (names ++ last ∷ []) [] ≡ Files wanted (names ++ last ∷ []) []
+over-some : (wanted : Task) (names : List Text) (last : Text) → over wanted FileName (names ++ last ∷ []) [] ≡ Files wanted (names ++ last ∷ []) []
 over-some wanted [] last = refl
-over-some wanted (name ∷ names) last = grind arith
+over-some wanted (name ∷ names) last = refl
 
 pub files_asked : (n : CommandName) (wanted : Task) → ReadsFiles n wanted → (program name : Text) (names : List Text)
     → list_all is_plain_word (name ∷ names) ≡ true → asked (program ∷ name_of n ∷ name ∷ names) ≡ Some (Files wanted (name ∷ names) [])

@@ -2,8 +2,9 @@
 ghost use Rattle.std.specs.Prelude.{◌≡◌, ◌≢◌, ◌<◌, ℕ, [], ◌∷◌, ◌++◌, List, Some, IsSome, true, false, codes};
 ghost use Rattle.std.specs.List.{list_all};
 ghost use Rattle.clap.specs.Words.{Text, takes};
-ghost use Rattle.crs_requests.specs.Requests.{plainly, standard};
+ghost use Rattle.crs_requests.specs.Requests.{level_alone, standard};
 ghost use Rattle.crs_command_line.specs.CommandLine.{asked, desk, is_plain_word};
+ghost use Rattle.crs_requests.specs.declared.requests.Layout.TheVariants.{Lines, OneText};
 ghost use Rattle.crs_requests.specs.declared.requests.Request.TheVariants.{Canon, Check, Same, Group, Texts, Files};
 ghost use Rattle.crs_requests.specs.declared.requests.Task.TheVariants as task;
 
@@ -76,15 +77,15 @@ pub fn group_has_flags()
 /// reads lines anyway, has no such flag.
 pub fn canon_and_check_have_lines()
     ensures canon { (program : Text) →
-        asked (program ∷ codes "canon" ∷ codes "--lines" ∷ []) ≡ Some (Texts (task.Canon (codes "full") true) [] []) }
+        asked (program ∷ codes "canon" ∷ codes "--lines" ∷ []) ≡ Some (Texts (task.Canon (codes "full") Lines) [] []) }
     ensures before { (program level : Text) → is_plain_word level ≡ true →
         asked (program ∷ codes "canon" ∷ codes "--lines" ∷ codes "--level" ∷ level ∷ [])
-        ≡ Some (Texts (task.Canon level true) [] []) }
+        ≡ Some (Texts (task.Canon level Lines) [] []) }
     ensures after { (program level : Text) → is_plain_word level ≡ true →
         asked (program ∷ codes "canon" ∷ codes "--level" ∷ level ∷ codes "--lines" ∷ [])
-        ≡ Some (Texts (task.Canon level true) [] []) }
+        ≡ Some (Texts (task.Canon level Lines) [] []) }
     ensures check { (program : Text) →
-        asked (program ∷ codes "check" ∷ codes "--lines" ∷ []) ≡ Some (Texts (task.Check true) [] []) }
+        asked (program ∷ codes "check" ∷ codes "--lines" ∷ []) ≡ Some (Texts (task.Check Lines) [] []) }
     ensures check_alone { (program : Text) → asked (program ∷ codes "check" ∷ []) ≡ Some Check }
     ensures canon_twice { (program : Text) →
         takes desk (program ∷ codes "canon" ∷ codes "--lines" ∷ codes "--lines" ∷ []) ≡ false }
@@ -101,34 +102,34 @@ pub fn canon_and_check_have_lines()
 /// which parts `explain` is to tell first.
 pub fn explain_takes_texts_and_options()
     ensures alone { (program : Text) →
-        asked (program ∷ codes "explain" ∷ []) ≡ Some (Texts (task.Explain (plainly (codes "full"))) [] []) }
+        asked (program ∷ codes "explain" ∷ []) ≡ Some (Texts (task.Explain (level_alone (codes "full"))) [] []) }
     ensures one { (program first : Text) → is_plain_word first ≡ true →
         asked (program ∷ codes "explain" ∷ first ∷ [])
-        ≡ Some (Texts (task.Explain (plainly (codes "full"))) (first ∷ []) []) }
+        ≡ Some (Texts (task.Explain (level_alone (codes "full"))) (first ∷ []) []) }
     ensures two { (program first second : Text) → is_plain_word first ≡ true → is_plain_word second ≡ true →
         asked (program ∷ codes "explain" ∷ first ∷ second ∷ [])
-        ≡ Some (Texts (task.Explain (plainly (codes "full"))) (first ∷ second ∷ []) []) }
+        ≡ Some (Texts (task.Explain (level_alone (codes "full"))) (first ∷ second ∷ []) []) }
     ensures dashes { (program first second : Text) →
         asked (program ∷ codes "explain" ∷ codes "--" ∷ first ∷ second ∷ [])
-        ≡ Some (Texts (task.Explain (plainly (codes "full"))) (first ∷ second ∷ []) []) }
+        ≡ Some (Texts (task.Explain (level_alone (codes "full"))) (first ∷ second ∷ []) []) }
     ensures level { (program level : Text) → is_plain_word level ≡ true →
         asked (program ∷ codes "explain" ∷ codes "--level" ∷ level ∷ [])
-        ≡ Some (Texts (task.Explain (plainly level)) [] []) }
+        ≡ Some (Texts (task.Explain (level_alone level)) [] []) }
     ensures before { (program level first second : Text) → is_plain_word level ≡ true →
         is_plain_word first ≡ true → is_plain_word second ≡ true →
         asked (program ∷ codes "explain" ∷ codes "--level" ∷ level ∷ first ∷ second ∷ [])
-        ≡ Some (Texts (task.Explain (plainly level)) (first ∷ second ∷ []) []) }
+        ≡ Some (Texts (task.Explain (level_alone level)) (first ∷ second ∷ []) []) }
     ensures after { (program level first second : Text) → is_plain_word level ≡ true →
         is_plain_word first ≡ true → is_plain_word second ≡ true →
         asked (program ∷ codes "explain" ∷ first ∷ second ∷ codes "--level" ∷ level ∷ [])
-        ≡ Some (Texts (task.Explain (plainly level)) (first ∷ second ∷ []) []) }
+        ≡ Some (Texts (task.Explain (level_alone level)) (first ∷ second ∷ []) []) }
     ensures json { (program : Text) → asked (program ∷ codes "explain" ∷ codes "--json" ∷ [])
-        ≡ Some (Texts (task.Explain (record { level = codes "full"; json = true; first = [] })) [] []) }
+        ≡ Some (Texts (task.Explain (record { level = codes "full"; json = true; order = [] })) [] []) }
     ensures once { (program word : Text) → asked (program ∷ codes "explain" ∷ (codes "--first=" ++ word) ∷ [])
-        ≡ Some (Texts (task.Explain (record { level = codes "full"; json = false; first = word ∷ [] })) [] []) }
+        ≡ Some (Texts (task.Explain (record { level = codes "full"; json = false; order = word ∷ [] })) [] []) }
     ensures twice { (program one other : Text) →
         asked (program ∷ codes "explain" ∷ (codes "--first=" ++ one) ∷ (codes "--first=" ++ other) ∷ [])
-        ≡ Some (Texts (task.Explain (record { level = codes "full"; json = false; first = one ∷ other ∷ [] })) [] []) }
+        ≡ Some (Texts (task.Explain (record { level = codes "full"; json = false; order = one ∷ other ∷ [] })) [] []) }
 {}
 
 /// The words after `canon`, `check` and `group` are files, however many they are, where no word is a flag. The level is
@@ -136,9 +137,9 @@ pub fn explain_takes_texts_and_options()
 /// word is a flag.
 pub fn words_are_files()
     ensures canon { (program name : Text) (names : List Text) → list_all is_plain_word (name ∷ names) ≡ true →
-        asked (program ∷ codes "canon" ∷ name ∷ names) ≡ Some (Files (task.Canon (codes "full") false) (name ∷ names) []) }
+        asked (program ∷ codes "canon" ∷ name ∷ names) ≡ Some (Files (task.Canon (codes "full") OneText) (name ∷ names) []) }
     ensures check { (program name : Text) (names : List Text) → list_all is_plain_word (name ∷ names) ≡ true →
-        asked (program ∷ codes "check" ∷ name ∷ names) ≡ Some (Files (task.Check false) (name ∷ names) []) }
+        asked (program ∷ codes "check" ∷ name ∷ names) ≡ Some (Files (task.Check OneText) (name ∷ names) []) }
     ensures group { (program name : Text) (names : List Text) → list_all is_plain_word (name ∷ names) ≡ true →
         asked (program ∷ codes "group" ∷ name ∷ names)
         ≡ Some (Files (task.Group (codes "full") (record { repeated = false; names = false; json = false })) (name ∷ names) []) }
@@ -147,10 +148,10 @@ pub fn words_are_files()
         ≡ Some (Files (task.Same (codes "full")) (first ∷ second ∷ []) []) }
     ensures one { (program first : Text) → is_plain_word first ≡ true →
         asked (program ∷ codes "explain" ∷ codes "--files" ∷ first ∷ [])
-        ≡ Some (Files (task.Explain (plainly (codes "full"))) (first ∷ []) []) }
+        ≡ Some (Files (task.Explain (level_alone (codes "full"))) (first ∷ []) []) }
     ensures two { (program first second : Text) → is_plain_word first ≡ true → is_plain_word second ≡ true →
         asked (program ∷ codes "explain" ∷ codes "--files" ∷ first ∷ second ∷ [])
-        ≡ Some (Files (task.Explain (plainly (codes "full"))) (first ∷ second ∷ []) []) }
+        ≡ Some (Files (task.Explain (level_alone (codes "full"))) (first ∷ second ∷ []) []) }
 {}
 
 /// The words after each `--rules` are rules files, where no word is a flag: a task over standard input, where the line
@@ -158,10 +159,10 @@ pub fn words_are_files()
 pub fn rules_are_named()
     ensures canon { (program file : Text) → is_plain_word file ≡ true →
         asked (program ∷ codes "canon" ∷ codes "--rules" ∷ file ∷ [])
-        ≡ Some (Files (task.Canon (codes "full") false) standard (file ∷ [])) }
+        ≡ Some (Files (task.Canon (codes "full") OneText) standard (file ∷ [])) }
     ensures twice { (program one other : Text) →
         asked (program ∷ codes "canon" ∷ (codes "--rules=" ++ one) ∷ (codes "--rules=" ++ other) ∷ [])
-        ≡ Some (Files (task.Canon (codes "full") false) standard (one ∷ other ∷ [])) }
+        ≡ Some (Files (task.Canon (codes "full") OneText) standard (one ∷ other ∷ [])) }
     ensures same { (program file first second : Text) → is_plain_word file ≡ true →
         is_plain_word first ≡ true → is_plain_word second ≡ true →
         asked (program ∷ codes "same" ∷ codes "--rules" ∷ file ∷ first ∷ second ∷ [])

@@ -2,7 +2,7 @@
 #![tactic(auto)]
 
 pub use crs_requests::{
-    ExplainOptions, GroupFlags, LineWord, LineWords, Request, RequestFault, Task,
+    ExplainOptions, GroupFlags, Layout, LineWord, LineWords, Request, RequestFault, Task,
 };
 pub use line::{VERSION, request};
 

@@ -1,5 +1,7 @@
 //! The reading of command lines.
-use crs_desk::{ExplainOptions, GroupFlags, LineWord, Request, RequestFault, Task, request};
+use crs_desk::{
+    ExplainOptions, GroupFlags, Layout, LineWord, Request, RequestFault, Task, request,
+};
 use crs_suite::{Answer, about_value};
 use std::alloc::{AllocError, Global};
 use std::str;
@@ -50,12 +52,12 @@ fn put_asked(out: &mut Answer, asked: &Request) {
             put_word(out, second);
         }
         Request::Group(level) => put_command(out, "group", level),
-        Request::Texts(task, texts, rules) => {
+        Request::Texts { task, texts, rules } => {
             put_task(out, task);
             put_named(out, " texts", texts.as_slice());
             put_named(out, " rules", rules.as_slice());
         }
-        Request::Files(task, names, rules) => {
+        Request::Files { task, names, rules } => {
             put_task(out, task);
             put_named(out, " files", names.as_slice());
             put_named(out, " rules", rules.as_slice());
@@ -65,10 +67,10 @@ fn put_asked(out: &mut Answer, asked: &Request) {
 
 fn put_task(out: &mut Answer, task: &Task) {
     match task {
-        Task::Canon(level, true) => put_command(out, "canon lines", level),
-        Task::Canon(level, false) => put_command(out, "canon", level),
-        Task::Check(true) => out.put("check lines"),
-        Task::Check(false) => out.put("check"),
+        Task::Canon(level, Layout::Lines) => put_command(out, "canon lines", level),
+        Task::Canon(level, Layout::OneText) => put_command(out, "canon", level),
+        Task::Check(Layout::Lines) => out.put("check lines"),
+        Task::Check(Layout::OneText) => out.put("check"),
         Task::Group(level, flags) => put_group(out, level, *flags),
         Task::Same(level) => put_command(out, "same", level),
         Task::Explain(options) => put_explain(out, options),
@@ -88,7 +90,7 @@ fn put_group(out: &mut Answer, level: &LineWord, flags: GroupFlags) {
 fn put_explain(out: &mut Answer, options: &ExplainOptions) {
     put_command(out, "explain", &options.level);
     out.put(if options.json { " json" } else { "" });
-    put_named(out, " first", options.first.as_slice());
+    put_named(out, " first", options.order.as_slice());
 }
 
 // The command, and its level in brackets.

@@ -1,13 +1,12 @@
 //! The request of a command line, read of the matches that `clap` gives.
 ghost use Rattle.std.specs.Prelude.{◌≡◌, IfOk, IsSome, Some, option_and_then};
 ghost use Rattle.clap.specs.Words.{found_of, rows_of, subcommand_rows_of};
-ghost use Rattle.crs_requests.specs.Requests.{request_of, same_of, same_operands};
+ghost use Rattle.crs_requests.specs.Requests.{explain_of, kind_of_words, layout_of, operands_of, request_of};
+ghost use Rattle.crs_requests.specs.Requests.{same_of, same_operands};
 
 use clap::ArgMatches;
-use crs_requests::reading::{
-    explain_request, flag_asked, group_flags, level_word, over, over_files, words_named,
-};
-use crs_requests::{LineWord, LineWords, Request, Task};
+use crs_requests::reading::{flag_asked, group_flags, level_word, over, over_files, words_named};
+use crs_requests::{ExplainOptions, Layout, LineWord, LineWords, Request, Task, WordKind};
 use std::alloc::{AllocError, Global};
 
 /// The request of a command line, by its matches. `AllocError`: memory ran out. Profile.
@@ -29,13 +28,9 @@ fn request_named(alloc: Global, name: &str, options: &ArgMatches) -> Result<Requ
     match name {
         "canon" => {
             let level = level_word(alloc, options)?;
-            over_files(
-                alloc,
-                options,
-                Task::Canon(level, flag_asked(options, "lines")),
-            )
+            over_files(alloc, options, Task::Canon(level, layout(options)))
         }
-        "check" => over_files(alloc, options, Task::Check(flag_asked(options, "lines"))),
+        "check" => over_files(alloc, options, Task::Check(layout(options))),
         "same" => same_request(alloc, options),
         "group" => {
             let level = level_word(alloc, options)?;
@@ -54,8 +49,8 @@ fn same_request(alloc: Global, operands: &ArgMatches) -> Result<Request, AllocEr
         (Some(first), Some(second)) => {
             let level = level_word(alloc, operands)?;
             let rules = words_named(alloc, operands, "rules")?;
-            let are_files = flag_asked(operands, "files");
-            same_pair(alloc, are_files, level, rules, first, second)
+            let kind = word_kind(operands);
+            same_pair(alloc, kind, level, rules, first, second)
         }
         _ => unreachable!(),
     }
@@ -64,19 +59,68 @@ fn same_request(alloc: Global, operands: &ArgMatches) -> Result<Request, AllocEr
 // Two texts are compared, or two files, under rules where there are some.
 fn same_pair(
     alloc: Global,
-    are_files: bool,
+    kind: WordKind,
     level: LineWord,
     rules: LineWords,
     first: &str,
     second: &str,
 ) -> Result<Request, AllocError>
-    ensures { IfOk result (λ found. Some found ≡ same_operands are_files level rules (Some first.now) (Some second.now)) }
+    ensures { IfOk result (λ found. Some found ≡ same_operands (Some first.now) (Some second.now) kind level rules) }
 {
-    if are_files || !rules.is_empty() {
+    if matches!(kind, WordKind::FileName) || !rules.is_empty() {
         let words = LineWords::of(alloc, &[first, second])?;
-        return over(alloc, Task::Same(level), are_files, words, rules);
+        return over(alloc, Task::Same(level), kind, words, rules);
     }
     let first = LineWord::new(alloc, first)?;
     let second = LineWord::new(alloc, second)?;
     Ok(Request::Same(first, second, level))
+}
+
+fn explain_request(alloc: Global, operands: &ArgMatches) -> Result<Request, AllocError>
+    ensures { IfOk result (λ found. found ≡ explain_of (rows_of (found_of operands.now))) }
+{
+    let level = level_word(alloc, operands)?;
+    let order = words_named(alloc, operands, "order")?;
+    let options = ExplainOptions {
+        level,
+        json: flag_asked(operands, "json"),
+        order,
+    };
+    let words = operand_words(alloc, operands)?;
+    let rules = words_named(alloc, operands, "rules")?;
+    let kind = word_kind(operands);
+    over(alloc, Task::Explain(options), kind, words, rules)
+}
+
+// Both operands, the first alone, or none.
+fn operand_words(alloc: Global, operands: &ArgMatches) -> Result<LineWords, AllocError>
+    ensures { IfOk result (λ words. words ≡ operands_of (rows_of (found_of operands.now))) }
+{
+    match (operands.get_str("first"), operands.get_str("second")) {
+        (None, _) => LineWords::of(alloc, &[]),
+        (Some(first), None) => LineWords::of(alloc, &[first]),
+        (Some(first), Some(second)) => LineWords::of(alloc, &[first, second]),
+    }
+}
+
+// How texts stand in the input of a command.
+fn layout(options: &ArgMatches) -> Layout
+    ensures { result ≡ layout_of (rows_of (found_of options.now)) }
+{
+    if flag_asked(options, "lines") {
+        Layout::Lines
+    } else {
+        Layout::OneText
+    }
+}
+
+// What the operands of a command are.
+fn word_kind(operands: &ArgMatches) -> WordKind
+    ensures { result ≡ kind_of_words (rows_of (found_of operands.now)) }
+{
+    if flag_asked(operands, "files") {
+        WordKind::FileName
+    } else {
+        WordKind::Text
+    }
 }

@@ -1,5 +1,5 @@
 -- What the getters of the matches give, and the request that is made of it.
-use Rattle.std.proofs.Common.{◌≡◌, List, [], Option, Some, None, Bool, refl, codes, option_map, map, ap, ap₂, sym, ◌∙◌}
+use Rattle.std.proofs.Common.{◌≡◌, List, [], Option, Some, None, refl, codes, option_map, map, ap, ap₂, sym, ◌∙◌}
 use Rattle.std.specs.Prelude.{unwrap_or}
 use Rattle.std.specs.Str.{bytes_eq}
 use Rattle.std.specs.Borrow.{Bor}
@@ -7,18 +7,10 @@ use Rattle.clap.specs.declared.parser.matches.Found.{Found}
 use Rattle.clap.specs.Words.{Text, first_value, rows_of}
 use Rattle.clap.specs.Matches.{matched_of, raw_values}
 use Rattle.clap.proofs.WalkLemmas.{first_value-rows, raw_values-rows}
-use Rattle.crs_requests.specs.Requests.{has_flag, level_of, operands, operands_of, words_of}
+use Rattle.crs_requests.specs.Requests.{has_flag, level_of, words_of}
 
 abbrev nows : Option (Bor Text) → Option Text
 nows found = option_map (λ s. s.now) found
-
--- the getters' words are the operands
-pub operands_read : (f : Found) (first second a b : Option (Bor Text)) → nows first ≡ first_value f (codes "first")
-    → nows second ≡ first_value f (codes "second") → first ≡ a → second ≡ b
-    → operands (nows a) (nows b) ≡ operands_of (rows_of f)
-operands_read f first second a b one other is more =
-    sym (ap₂ (λ (o p : Option (Bor Text)). operands (nows o) (nows p)) is more)
-    ∙ ap₂ operands (one ∙ first_value-rows f (codes "first")) (other ∙ first_value-rows f (codes "second"))
 
 -- ---- the level
 

@@ -1,6 +1,6 @@
 -- What a command line asks for, by the name of its command and the matches that `clap` gives.
-use Rattle.std.specs.Prelude.{◌==◌, ◌||◌, ◌&&◌, [], ◌∷◌, Bool, true, false, not, List, Option}
-use Rattle.std.specs.Prelude.{Some, None, codes, length, unwrap_or, if◌then◌else◌}
+use Rattle.std.specs.Prelude.{◌||◌, [], ◌∷◌, Bool, false, List, Option}
+use Rattle.std.specs.Prelude.{Some, None, codes, unwrap_or, if◌then◌else◌}
 use Rattle.std.specs.Str.{bytes_eq}
 use Rattle.clap.specs.Words.{Row, Text, all_of, first_of}
 use Rattle.crs_requests.specs.declared.requests.Request.{Request}
@@ -9,6 +9,10 @@ use Rattle.crs_requests.specs.declared.requests.GroupFlags.{GroupFlags}
 use Rattle.crs_requests.specs.declared.requests.ExplainOptions.{ExplainOptions}
 use Rattle.crs_requests.specs.declared.requests.Task.{Task}
 use Rattle.crs_requests.specs.declared.requests.Task.TheVariants as task
+use Rattle.crs_requests.specs.declared.requests.Layout.{Layout}
+use Rattle.crs_requests.specs.declared.requests.Layout.TheVariants.{Lines, OneText}
+use Rattle.crs_requests.specs.declared.word.WordKind.{WordKind}
+use Rattle.crs_requests.specs.declared.word.WordKind.TheVariants as word
 
 -- the level among a command's matches: `full` where none is named
 abbrev pub level_of : List Row → Text
@@ -30,37 +34,42 @@ rules_of rows = words_of (codes "rules") rows
 abbrev pub standard : List Text
 standard = codes "-" ∷ []
 
--- whether a flag of `group` is there
-abbrev pub is_flagged : GroupFlags → Bool
-is_flagged flags = (flags.repeated || flags.names) || flags.json
+-- how texts stand in the input of a command, by its matches: a text on each line with `--lines`
+abbrev pub layout_of : List Row → Layout
+layout_of rows = if has_flag (codes "lines") rows then Lines else OneText
 
--- what a task asks of standard input, where there are neither words nor rules
+-- what the operands of `same` and `explain` are: with `--files` names of files, else texts
+abbrev pub kind_of_words : List Row → WordKind
+kind_of_words rows = if has_flag (codes "files") rows then word.FileName else word.Text
+
+-- what a task asks of standard input, where there are neither texts nor rules
 abbrev pub over_standard : Task → List Text → List Text → Request
-over_standard (task.Canon level false) words rules = Canon level
-over_standard (task.Check false) words rules = Check
-over_standard (task.Group level flags) words rules =
-    if is_flagged flags then Texts (task.Group level flags) words rules else Group level
-over_standard asked words rules = Texts asked words rules
+over_standard (task.Canon level OneText) texts rules = Canon level
+over_standard (task.Check OneText) texts rules = Check
+over_standard (task.Group level flags) texts rules =
+    if (flags.repeated || flags.names) || flags.json then Texts (task.Group level flags) texts rules
+    else Group level
+over_standard asked texts rules = Texts asked texts rules
 
--- what a task asks of words, files or else texts, or of standard input where there are none, under
--- the rules of files where there are some
-abbrev pub over : Task → Bool → List Text → List Text → Request
-over asked are_files words rules =
-    if length words == 0 && not (length rules == 0) then Files asked standard rules
-    else (if length words == 0 then over_standard asked words rules
-    else (if are_files then Files asked words rules else Texts asked words rules))
+-- what a task asks of words of a kind, or of standard input where there are none, under the rules of
+-- files where there are some
+abbrev pub over : Task → WordKind → List Text → List Text → Request
+over asked kind [] [] = over_standard asked [] []
+over asked kind [] rules = Files asked standard rules
+over asked word.Text texts rules = Texts asked texts rules
+over asked word.FileName names rules = Files asked names rules
 
 -- what a task asks of the files among a command's matches
 abbrev pub over_files : Task → List Row → Request
-over_files asked rows = over asked true (words_of (codes "file") rows) (rules_of rows)
+over_files asked rows = over asked word.FileName (words_of (codes "file") rows) (rules_of rows)
 
 -- the canonical text at a level, of one text or of each line
 abbrev pub canon_of : List Row → Request
-canon_of rows = over_files (task.Canon (level_of rows) (has_flag (codes "lines") rows)) rows
+canon_of rows = over_files (task.Canon (level_of rows) (layout_of rows)) rows
 
 -- the kind of one text or of each line
 abbrev pub check_of : List Row → Request
-check_of rows = over_files (task.Check (has_flag (codes "lines") rows)) rows
+check_of rows = over_files (task.Check (layout_of rows)) rows
 
 -- the flags of `group` among its matches
 abbrev pub group_flags : List Row → GroupFlags
@@ -74,30 +83,30 @@ group_flags rows = record {
 abbrev pub group_of : List Row → Request
 group_of rows = over_files (task.Group (level_of rows) (group_flags rows)) rows
 
--- two operands are compared at a level where both are there: files, or else texts
-abbrev pub same_operands : Bool → Text → List Text → Option Text → Option Text → Option Request
-same_operands are_files level rules (Some first) (Some second) =
-    Some (if are_files || not (length rules == 0)
-    then over (task.Same level) are_files (first ∷ second ∷ []) rules else Same first second level)
-same_operands are_files level rules first second = None
+-- two operands are compared at a level where both are there: texts, alone or under rules, or files
+abbrev pub same_operands : Option Text → Option Text → WordKind → Text → List Text → Option Request
+same_operands (Some first) (Some second) word.Text level [] = Some (Same first second level)
+same_operands (Some first) (Some second) kind level rules =
+    Some (over (task.Same level) kind (first ∷ second ∷ []) rules)
+same_operands first second kind level rules = None
 
 -- the level, the rules and the operands of `same`, among its matches
 abbrev pub same_of : List Row → Option Request
 same_of rows =
-    same_operands (has_flag (codes "files") rows) (level_of rows) (rules_of rows)
-    (first_of (codes "first") rows) (first_of (codes "second") rows)
+    same_operands (first_of (codes "first") rows) (first_of (codes "second") rows)
+    (kind_of_words rows) (level_of rows) (rules_of rows)
 
 -- the options of `explain` among its matches
 abbrev pub options_of : List Row → ExplainOptions
 options_of rows = record {
   level = level_of rows;
   json = has_flag (codes "json") rows;
-  first = words_of (codes "order") rows;
+  order = words_of (codes "order") rows;
 }
 
 -- those where a level alone is named
-abbrev pub plainly : Text → ExplainOptions
-plainly level = record { level = level; json = false; first = [] }
+abbrev pub level_alone : Text → ExplainOptions
+level_alone level = record { level = level; json = false; order = [] }
 
 -- both operands, the first alone, or none
 abbrev pub operands : Option Text → Option Text → List Text
@@ -112,8 +121,7 @@ operands_of rows = operands (first_of (codes "first") rows) (first_of (codes "se
 -- what one text spells or why it is refused, or where two differ, as the options say
 abbrev pub explain_of : List Row → Request
 explain_of rows =
-    over (task.Explain (options_of rows)) (has_flag (codes "files") rows) (operands_of rows)
-    (rules_of rows)
+    over (task.Explain (options_of rows)) (kind_of_words rows) (operands_of rows) (rules_of rows)
 
 -- the request of a command's name and of its matches
 abbrev pub request_of : Text × List Row → Option Request

@@ -2,8 +2,8 @@
 //! `clap` gives.
 #![tactic(auto)]
 
-pub use requests::{ExplainOptions, GroupFlags, Request, RequestFault, Task};
-pub use word::{LineWord, LineWords};
+pub use requests::{ExplainOptions, GroupFlags, Layout, Request, RequestFault, Task};
+pub use word::{LineWord, LineWords, WordKind};
 
 pub mod reading;
 mod requests;

@@ -1,11 +1,10 @@
-//! What `crs_line_request` makes the request of a whole command line of: words and tasks, read of the matches that `clap`
-//! gives.
+//! What `crs_line_request` makes the request of a whole command line of: words and flags, read of the matches that `clap`
+//! gives, and what a task asks of words.
 ghost use Rattle.std.specs.Prelude.{◌≡◌, IfOk};
 ghost use Rattle.clap.specs.Words.{found_of, rows_of};
-ghost use Rattle.crs_requests.specs.Requests.{explain_of, group_flags, has_flag, level_of};
-ghost use Rattle.crs_requests.specs.Requests.{operands_of, over, over_files, words_of};
+ghost use Rattle.crs_requests.specs.Requests.{group_flags, has_flag, level_of, over, over_files, words_of};
 
-use crate::{ExplainOptions, GroupFlags, LineWord, LineWords, Request, Task};
+use crate::{GroupFlags, LineWord, LineWords, Request, Task, WordKind};
 use clap::ArgMatches;
 use std::alloc::{AllocError, Global};
 
@@ -22,31 +21,37 @@ pub fn over_files(alloc: Global, options: &ArgMatches, task: Task) -> Result<Req
 {
     let files = words_named(alloc, options, "file")?;
     let rules = words_named(alloc, options, "rules")?;
-    over(alloc, task, true, files, rules)
+    over(alloc, task, WordKind::FileName, files, rules)
 }
 
-/// What a task asks of words, which name files or else are texts, or of standard input where there are none, under the
-/// rules of files where there are some. `AllocError`: memory ran out. Profile.
+/// What a task asks of words of a kind, or of standard input where there are none, under the rules of files where there are
+/// some. `AllocError`: memory ran out. Profile.
 pub fn over(
     alloc: Global,
     task: Task,
-    are_files: bool,
+    kind: WordKind,
     words: LineWords,
     rules: LineWords,
 ) -> Result<Request, AllocError>
-    ensures { IfOk result (λ found. found ≡ over task are_files words rules) }
+    ensures { IfOk result (λ found. found ≡ over task kind words rules) }
 {
     if words.is_empty() && !rules.is_empty() {
         let names = LineWords::of(alloc, &[STANDARD])?;
-        return Ok(Request::Files(task, names, rules));
+        return Ok(Request::Files { task, names, rules });
     }
     if words.is_empty() {
         return Ok(task.over_standard(words, rules));
     }
-    if are_files {
-        return Ok(Request::Files(task, words, rules));
+    match kind {
+        WordKind::Text => {
+            let texts = words;
+            Ok(Request::Texts { task, texts, rules })
+        }
+        WordKind::FileName => {
+            let names = words;
+            Ok(Request::Files { task, names, rules })
+        }
     }
-    Ok(Request::Texts(task, words, rules))
 }
 
 /// The flags of `group`. Profile.
@@ -57,34 +62,6 @@ pub fn group_flags(options: &ArgMatches) -> GroupFlags
         repeated: flag_asked(options, "repeated"),
         names: flag_asked(options, "names"),
         json: flag_asked(options, "json"),
-    }
-}
-
-/// What `explain` asks for. `AllocError`: memory ran out. Profile.
-pub fn explain_request(alloc: Global, operands: &ArgMatches) -> Result<Request, AllocError>
-    ensures { IfOk result (λ found. found ≡ explain_of (rows_of (found_of operands.now))) }
-{
-    let level = level_word(alloc, operands)?;
-    let first = words_named(alloc, operands, "order")?;
-    let options = ExplainOptions {
-        level,
-        json: flag_asked(operands, "json"),
-        first,
-    };
-    let words = operand_words(alloc, operands)?;
-    let rules = words_named(alloc, operands, "rules")?;
-    let are_files = flag_asked(operands, "files");
-    over(alloc, Task::Explain(options), are_files, words, rules)
-}
-
-// Both operands, the first alone, or none.
-fn operand_words(alloc: Global, operands: &ArgMatches) -> Result<LineWords, AllocError>
-    ensures { IfOk result (λ words. words ≡ operands_of (rows_of (found_of operands.now))) }
-{
-    match (operands.get_str("first"), operands.get_str("second")) {
-        (None, _) => LineWords::of(alloc, &[]),
-        (Some(first), None) => LineWords::of(alloc, &[first]),
-        (Some(first), Some(second)) => LineWords::of(alloc, &[first, second]),
     }
 }
 

@@ -17,29 +17,19 @@ pub struct GroupFlags {
 }
 
 /// What `explain` is asked for. Profile.
-#[derive(Debug)]
+#[derive(Debug, Drop)]
 pub struct ExplainOptions {
     /// The word after `--level`, as in a `Request`. It has a bearing on two texts alone.
     pub level: LineWord,
     /// Whether it is to write JSON.
     pub json: bool,
     /// The words after each `--first`, whatever words they are. They have a bearing on two texts alone.
-    pub first: LineWords,
-}
-
-impl Drop for ExplainOptions {
-    fn drop(self) {
-        let ExplainOptions {
-            level: _,
-            json: _,
-            first: _,
-        } = self;
-    }
+    pub order: LineWords,
 }
 
 /// What a command line asks for. A level is the word after `--level`, whatever word it is, and
 /// `full` where the line names none.
-#[derive(Debug)]
+#[derive(Debug, Drop)]
 pub enum Request {
     /// The canonical text of the text on standard input, at a level.
     Canon(LineWord),
@@ -49,33 +39,38 @@ pub enum Request {
     Same(LineWord, LineWord, LineWord),
     /// Which lines of standard input, a text each, spell the same CRS, at a level.
     Group(LineWord),
-    /// Any other task over texts, under the rules of files, by the names of these, where there are some; without texts
-    /// over standard input, and then there are no rules.
-    Texts(Task, LineWords, LineWords),
-    /// A task over files, by their names as they were written, of which `-` is standard input; there is at least one. Then
-    /// the names of the files of its rules, where there are some.
-    Files(Task, LineWords, LineWords),
+    /// Any other task over texts, under the rules of the files of these names, where there are some; without texts over
+    /// standard input, and then there are no rules.
+    Texts {
+        task: Task,
+        texts: LineWords,
+        rules: LineWords,
+    },
+    /// A task over files, by their names as they were written, of which `-` is standard input, under the rules of files,
+    /// where there are some; there is at least one name.
+    Files {
+        task: Task,
+        names: LineWords,
+        rules: LineWords,
+    },
 }
 
-// Hand-written: a derived drop is expanded wherever a value is dropped, which slows the proofs.
-impl Drop for Request {
-    fn drop(self) {
-        match self {
-            Request::Check => {}
-            Request::Canon(_) | Request::Group(_) => {}
-            Request::Same(_, _, _) => {}
-            Request::Texts(_, _, _) | Request::Files(_, _, _) => {}
-        }
-    }
+/// How texts stand in an input.
+#[derive(Clone, Copy, Debug)]
+pub enum Layout {
+    /// All of it is one text.
+    OneText,
+    /// Each line is a text, as `--lines` says.
+    Lines,
 }
 
 /// What is asked of texts. A level is the word after `--level`, as in a `Request`.
-#[derive(Debug)]
+#[derive(Debug, Drop)]
 pub enum Task {
-    /// The canonical text of each text, at a level; with the flag, `--lines`, each line is a text.
-    Canon(LineWord, bool),
-    /// Whether each text is accepted, and what it spells; with the flag, `--lines`, each line is a text.
-    Check(bool),
+    /// The canonical text of each text, at a level.
+    Canon(LineWord, Layout),
+    /// Whether each text is accepted, and what it spells.
+    Check(Layout),
     /// Which lines, a text each, spell the same CRS, at a level, for each file by itself.
     Group(LineWord, GroupFlags),
     /// Whether two texts spell the same CRS, at a level.
@@ -84,32 +79,22 @@ pub enum Task {
     Explain(ExplainOptions),
 }
 
-impl Drop for Task {
-    fn drop(self) {
-        match self {
-            Task::Check(_) => {}
-            Task::Canon(_, _) | Task::Group(_, _) => {}
-            Task::Same(_) => {}
-            Task::Explain(_) => {}
-        }
-    }
-}
-
 impl Task {
-    // What it asks of standard input, where there are neither words nor rules.
-    pub(crate) fn over_standard(self, words: LineWords, rules: LineWords) -> Request
-        ensures { result ≡ over_standard self words rules }
+    // What it asks of standard input, where there are neither texts nor rules.
+    pub(crate) fn over_standard(self, texts: LineWords, rules: LineWords) -> Request
+        ensures { result ≡ over_standard self texts rules }
     {
         match self {
-            Task::Canon(level, false) => Request::Canon(level),
-            Task::Check(false) => Request::Check,
+            Task::Canon(level, Layout::OneText) => Request::Canon(level),
+            Task::Check(Layout::OneText) => Request::Check,
             Task::Group(level, flags) => {
                 if flags.repeated || flags.names || flags.json {
-                    return Request::Texts(Task::Group(level, flags), words, rules);
+                    let task = Task::Group(level, flags);
+                    return Request::Texts { task, texts, rules };
                 }
                 Request::Group(level)
             }
-            task => Request::Texts(task, words, rules),
+            task => Request::Texts { task, texts, rules },
         }
     }
 }

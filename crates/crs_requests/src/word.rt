@@ -42,6 +42,15 @@ impl LineWord {
     }
 }
 
+/// What words of the command line are.
+#[derive(Clone, Copy, Debug)]
+pub enum WordKind {
+    /// Texts themselves.
+    Text,
+    /// Names of files.
+    FileName,
+}
+
 /// Words of the command line, in their order.
 #[derive(Debug)]
 pub struct LineWords {

@@ -95,7 +95,7 @@ fn is_request(asked: &Request, command: &str, words: &[&str]) -> bool {
             command == "Same" && [word(first), word(second), word(level)].as_slice() == words
         }
         Request::Group(level) => command == "Group" && [word(level)].as_slice() == words,
-        Request::Texts(_, _, _) | Request::Files(_, _, _) => false,
+        Request::Texts { .. } | Request::Files { .. } => false,
     }
 }
 

@@ -12,7 +12,7 @@ pub const WORDS: &str =
 /// The words of all `--first`, each of which has some with commas between them.
 pub fn order_of(alloc: Global, options: &ExplainOptions) -> Result<Vec<StepWord>, Fault> {
     let mut order = Vec::new(alloc);
-    for words in options.first.as_slice() {
+    for words in options.order.as_slice() {
         add_words(alloc, words.as_str(), &mut order)?;
     }
     Ok(order)

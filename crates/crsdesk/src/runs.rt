@@ -7,9 +7,9 @@ use crate::order::order_of;
 use crate::output::Output;
 use crs_desk::{
     CanonText, CheckText, ExplainOptions, ExplainText, ExplainedForms, FileTask, Filling, ForText,
-    GroupFlags, Level, LineWord, Listing, Manner, OfLine, PLAIN, PairAnswer, Request, Rules,
-    RulesFault, RulesReader, RunFault, SameForms, Sink, Source, Stream, Summary, Task, Told, Under,
-    read_text, run_canon, run_check, run_files, run_lines, run_same, run_text, write_answer,
+    GroupFlags, Layout, Level, LineWord, Listing, Manner, OfLine, PLAIN, PairAnswer, Request,
+    Rules, RulesFault, RulesReader, RunFault, SameForms, Sink, Source, Stream, Summary, Task, Told,
+    Under, read_text, run_canon, run_check, run_files, run_lines, run_same, run_text, write_answer,
 };
 use crs_group::run_group_listing;
 use std::path::Path;
@@ -56,10 +56,10 @@ pub fn answer(rt: &HostRuntime, wanted: &Request) -> Result<u8, Fault> {
             to_standard!(rt, run_same(level, text_of(rt, first), text_of(rt, second)))
         }
         Request::Group(level) => group(rt, level_of(level)?, PLAIN),
-        Request::Texts(task, texts, rules) => {
+        Request::Texts { task, texts, rules } => {
             under(rt, task, Words::Texts(texts.as_slice()), rules.as_slice())
         }
-        Request::Files(task, names, rules) => {
+        Request::Files { task, names, rules } => {
             under(rt, task, Words::Files(names.as_slice()), rules.as_slice())
         }
     }
@@ -148,8 +148,7 @@ impl TaskAt<'_, '_, '_> {
                 self.two_texts(&first?, &second?)
             }
             (Words::Files(names), _) => self.files(names),
-            // No line asks for this.
-            _ => Err(Fault::Told),
+            (Words::Texts([_]), _) => Err(Fault::Told),
         }
     }
 
@@ -157,13 +156,13 @@ impl TaskAt<'_, '_, '_> {
     fn standard(self) -> Result<u8, Fault> {
         let (rt, level) = (self.rt, self.level);
         match self.task {
-            Task::Canon(_, false) => over_standard!(rt, text => run_canon(level)),
-            Task::Canon(_, true) => {
+            Task::Canon(_, Layout::OneText) => over_standard!(rt, text => run_canon(level)),
+            Task::Canon(_, Layout::Lines) => {
                 let command = CanonText { level };
                 over_standard!(rt, lines => run_lines(&OfLine { command }))
             }
-            Task::Check(false) => over_standard!(rt, text => run_check()),
-            Task::Check(true) => {
+            Task::Check(Layout::OneText) => over_standard!(rt, text => run_check()),
+            Task::Check(Layout::Lines) => {
                 let command = CheckText;
                 over_standard!(rt, lines => run_lines(&OfLine { command }))
             }
@@ -172,7 +171,6 @@ impl TaskAt<'_, '_, '_> {
                 let how = manner_of(options);
                 over_standard!(rt, text => run_text(ExplainText { how }))
             }
-            // Nor for this: `same` names two.
             Task::Same(_) => Err(Fault::Told),
         }
     }
@@ -181,18 +179,18 @@ impl TaskAt<'_, '_, '_> {
     fn files(self, names: &[LineWord]) -> Result<u8, Fault> {
         let (rt, level) = (self.rt, self.level);
         let each = match (self.task, self.rules) {
-            (Task::Canon(_, false), None) => FileTask::Canon(level),
-            (Task::Canon(_, false), Some(rules)) => FileTask::Form(level, rules),
-            (Task::Canon(_, true), None) => FileTask::CanonLines(level),
-            (Task::Canon(_, true), Some(rules)) => FileTask::FormLines(level, rules),
-            (Task::Check(false), _) => FileTask::Check,
-            (Task::Check(true), _) => FileTask::CheckLines,
+            (Task::Canon(_, Layout::OneText), None) => FileTask::Canon(level),
+            (Task::Canon(_, Layout::OneText), Some(rules)) => FileTask::Form(level, rules),
+            (Task::Canon(_, Layout::Lines), None) => FileTask::CanonLines(level),
+            (Task::Canon(_, Layout::Lines), Some(rules)) => FileTask::FormLines(level, rules),
+            (Task::Check(Layout::OneText), _) => FileTask::Check,
+            (Task::Check(Layout::Lines), _) => FileTask::CheckLines,
             (Task::Group(_, flags), None) => FileTask::Group(level, listing_of(flags)),
             (Task::Group(_, flags), Some(rules)) => {
                 FileTask::FormGroup(level, listing_of(flags), rules)
             }
             (Task::Explain(options), _) => FileTask::Explain(manner_of(options)),
-            // Nor for this: two files are compared with one another.
+            // Two files are compared with one another.
             (Task::Same(_), _) => return Err(Fault::Told),
         };
         to_standard!(rt, run_files(each, names, &Opener { rt: *rt }))

@@ -17,6 +17,6 @@ pub returns : goal.returns
 returns c =
     IfOk-weaker c.same_pair.result _ _
     (λ found is. same_there (found_of c.args.operands.now) c.get_str.result c.get_str-2.result c.in-Some-Some.first
-    c.in-Some-Some.second c.flag_asked-are_files.result c.in_ok-level-in-Some-Some.level c.in_ok-rules-in-Some-Some.rules
-    c.get_str.ensures c.get_str-2.ensures (search rules) (search rules) c.flag_asked-are_files.ensures (search rules) (search rules) ∙ sym is)
+    c.in-Some-Some.second c.word_kind-kind.result c.in_ok-level-in-Some-Some.level c.in_ok-rules-in-Some-Some.rules
+    c.get_str.ensures c.get_str-2.ensures (search rules) (search rules) c.word_kind-kind.ensures (search rules) (search rules) ∙ sym is)
     c.same_pair.ensures

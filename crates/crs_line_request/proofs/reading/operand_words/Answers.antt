@@ -1,7 +1,7 @@
 use Rattle.std.proofs.Common.{◌≡◌, IfOk, List, None, Some, refl, rules, subst}
 use Rattle.clap.specs.Words.{Text, found_of}
-use Rattle.crs_requests.proofs.ReadingLemmas.{operands_read}
-use Rattle.crs_requests.proofs.reading.operand_words.Goals as goal
+use Rattle.crs_line_request.proofs.LineLemmas.{operands_read}
+use Rattle.crs_line_request.proofs.reading.operand_words.Goals as goal
 
 pub returns-in-None-default : goal.returns-in-None-default
 returns-in-None-default c =
