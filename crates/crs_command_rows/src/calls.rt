@@ -1,11 +1,11 @@
 //! Runs of commands over texts.
 use self::Outcome::{Groups, Status};
 use crs_desk::{
-    CanonText, CheckText, ExplainText, Level, Manner as Form, OfLine, PairAnswer, RunFault, Sink,
-    Source, Stream, Summary, Told, run_canon, run_check, run_lines, run_same, run_text,
-    write_answer,
+    CanonText, CheckText, ExplainText, Level, Manner as Form, OfLine, PLAIN, PairAnswer, RunFault,
+    Sink, Source, Stream, Summary, Told, read_rules, run_canon, run_check, run_lines, run_same,
+    run_text, write_answer,
 };
-use crs_group::run_group;
+use crs_group::{run_group, run_group_under};
 use crs_suite::{Manner, Page, Pieces, Row, split_line};
 use std::alloc::Global;
 
@@ -13,7 +13,7 @@ use std::alloc::Global;
 #[derive(Clone, Copy)]
 pub struct Run<'t> {
     command: Command,
-    // the second is that of a command over two
+    // the second is that of a command over two, or a rules file
     texts: [&'t [u8]; 2],
     level: Level,
     pub manner: Manner,
@@ -28,6 +28,7 @@ enum Command {
     Explain(Form),
     ExplainPair(Form),
     Group,
+    GroupUnder,
     Same,
 }
 
@@ -72,6 +73,7 @@ impl<'t> Run<'t> {
             "run_explain_pair" => Command::ExplainPair(Form::Lines),
             "run_explain_pair_objects" => Command::ExplainPair(Form::Objects),
             "run_group" => Command::Group,
+            "run_group_under" => Command::GroupUnder,
             "run_same" => Command::Same,
             _ => return None,
         };
@@ -83,13 +85,18 @@ impl<'t> Run<'t> {
         })
     }
 
-    /// The same over a row's input, which for `run_same` is two texts, one a line.
+    /// The same over a row's input: of a command over two texts its first line is one of them; of `run_group_under` it is a
+    /// rules file.
     pub fn of(words: &str, row: &'t Row<'_>) -> Option<Run<'t>> {
         let input = row.input.as_slice();
-        let (first, second) = split_line(input);
-        let is_same = words.starts_with("run_same");
-        let text = if is_same { first } else { input };
-        Run::read(words, row.level, [text, second])
+        let (line, rest) = split_line(input);
+        let run = Run::read(words, row.level, [input, &[]])?;
+        let texts = match run.command {
+            Command::Same | Command::ExplainPair(_) => [line, rest],
+            Command::GroupUnder => [rest, line],
+            _ => run.texts,
+        };
+        Some(Run { texts, ..run })
     }
 
     /// Whether each line is answered by itself.
@@ -132,6 +139,13 @@ impl<'t> Run<'t> {
                 write_answer(alloc, &PairAnswer { told, level, a, b }, &mut sink).map(Status)
             }
             Command::Group => run_group(alloc, level, &mut source, &mut sink).map(Groups),
+            // No row has rules that are refused.
+            Command::GroupUnder => match read_rules(alloc, second) {
+                Ok(rules) => {
+                    run_group_under(alloc, level, &rules, PLAIN, &mut source, &mut sink).map(Groups)
+                }
+                Err(_) => Err(RunFault::Memory),
+            },
             Command::Same => run_same(alloc, level, text, second, &mut sink).map(Status),
         };
         Ended {
