@@ -15,6 +15,7 @@ use std::alloc::{AllocError, Global};
 /// lines, with status 1; as objects of JSON `{"accepted":"KIND"}`, or the refusal in one. Profile.
 #[derive(Drop)]
 pub struct ExplainText {
+    /// Lines or objects.
     pub how: Manner,
 }
 
@@ -56,7 +57,9 @@ fn kind_line(alloc: Global, how: Manner, kind: Kind) -> Result<Vec<u8>, AllocErr
 /// come the parts whose path has the first of some words, then those with the next, and so on, then the others. Profile.
 #[derive(Clone, Copy)]
 pub struct Told<'t> {
+    /// Lines or objects.
     pub how: Manner,
+    /// The words of paths whose parts come first.
     pub words: &'t [StepWord],
 }
 

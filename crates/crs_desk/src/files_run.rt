@@ -259,10 +259,10 @@ pub enum FileTask<'r> {
     CanonLines(Level),
     /// What `OfLine` of `CheckText` writes for each line.
     CheckLines,
-    /// What `run_canon` writes, but the form under rules for the canonical text, at a level.
+    /// What `Under` writes, at a level.
     Form(Level, &'r Rules),
     /// What `run_group_under` writes, at a level, with status 1 where a line was refused.
     FormGroup(Level, Listing, &'r Rules),
-    /// What `Form` writes for each line, at a level.
+    /// What `OfLine` of `Under` writes for each line, at a level.
     FormLines(Level, &'r Rules),
 }

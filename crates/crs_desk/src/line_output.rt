@@ -11,6 +11,7 @@ use std::marker::Model;
 /// A command over the text of a line, of which a blank one is answered by an empty line. Profile.
 #[derive(Drop)]
 pub struct OfLine<C: TextCommand> {
+    /// What answers a line that isn't blank.
     pub command: C,
 }
 

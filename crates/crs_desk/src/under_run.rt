@@ -20,7 +20,9 @@ use std::alloc::{AllocError, Global};
 /// Rules, and the level at which texts have forms under them. Profile.
 #[derive(Clone, Copy)]
 pub struct Under<'r> {
+    /// The level.
     pub level: Level,
+    /// The rules.
     pub rules: &'r Rules,
 }
 
@@ -83,8 +85,11 @@ fn second_form<T: Telling>(
 /// `second` and the refusal of the first text that spells no CRS. Profile.
 #[derive(Drop)]
 pub struct SameForms<'t> {
+    /// The rules and the level.
     pub under: Under<'t>,
+    /// The first text.
     pub a: &'t [u8],
+    /// The second.
     pub b: &'t [u8],
 }
 
@@ -108,9 +113,13 @@ impl Answer for SameForms<'_> {
 /// first member, `"same_by_rules":true`. Profile.
 #[derive(Drop)]
 pub struct ExplainedForms<'t> {
+    /// How it is told.
     pub told: Told<'t>,
+    /// The rules and the level.
     pub under: Under<'t>,
+    /// The first text.
     pub a: &'t [u8],
+    /// The second.
     pub b: &'t [u8],
 }
 

@@ -28,7 +28,9 @@ pub trait TextCommand {
 /// The answer of a command for a text. Profile.
 #[derive(Drop)]
 pub struct ForText<'t, C: TextCommand> {
+    /// The command.
     pub command: C,
+    /// The text.
     pub text: &'t [u8],
 }
 

@@ -45,9 +45,13 @@ pub trait Telling: Copy {
 /// What is written for two texts, told so, at this level. Profile.
 #[derive(Drop)]
 pub struct PairAnswer<'t, T: Telling> {
+    /// How it is told.
     pub told: T,
+    /// The level.
     pub level: Level,
+    /// The first text.
     pub a: &'t [u8],
+    /// The second.
     pub b: &'t [u8],
 }
 

@@ -69,6 +69,7 @@ pub fn run_text<C: TextCommand + Drop, R: Read, W: Write>(
 /// `canon`, at this level. Profile.
 #[derive(Drop)]
 pub struct CanonText {
+    /// The level.
     pub level: Level,
 }
 
