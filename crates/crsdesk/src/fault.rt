@@ -16,6 +16,9 @@ pub enum Fault {
     /// A word after `--first` is in no path.
     #[error("no such part")]
     Part,
+    /// A request that no command line makes.
+    #[error("no such request")]
+    Unasked,
     /// A read of standard input failed, for this reason.
     #[error("read failed")]
     Read(io::Error),
@@ -34,7 +37,7 @@ pub enum Fault {
 impl Drop for Fault {
     fn drop(self) {
         match self {
-            Fault::Word | Fault::Level | Fault::Part | Fault::Told => {}
+            Fault::Word | Fault::Level | Fault::Part | Fault::Unasked | Fault::Told => {}
             Fault::Read(_) | Fault::Write(_) => {}
             Fault::Run(_) => {}
         }

@@ -148,7 +148,7 @@ impl TaskAt<'_, '_, '_> {
                 self.two_texts(&first?, &second?)
             }
             (Words::Files(names), _) => self.files(names),
-            (Words::Texts([_]), _) => Err(Fault::Told),
+            (Words::Texts([_]), _) => Err(Fault::Unasked),
         }
     }
 
@@ -171,7 +171,7 @@ impl TaskAt<'_, '_, '_> {
                 let how = manner_of(options);
                 over_standard!(rt, text => run_text(ExplainText { how }))
             }
-            Task::Same(_) => Err(Fault::Told),
+            Task::Same(_) => Err(Fault::Unasked),
         }
     }
 
@@ -191,7 +191,7 @@ impl TaskAt<'_, '_, '_> {
             }
             (Task::Explain(options), _) => FileTask::Explain(manner_of(options)),
             // Two files are compared with one another.
-            (Task::Same(_), _) => return Err(Fault::Told),
+            (Task::Same(_), _) => return Err(Fault::Unasked),
         };
         to_standard!(rt, run_files(each, names, &Opener { rt: *rt }))
     }
