@@ -18,7 +18,7 @@ complete -c crsdesk -n $none -s V -l version -d 'Print the version'
 complete -c crsdesk -n "string match -q -- '-*' (commandline -ct); and not contains -- -- (commandline -opc)" -f
 complete -c crsdesk -s h -l help -d 'Print help'
 complete -c crsdesk -n '__fish_seen_subcommand_from canon group same explain' -l level -x -a 'full definition' -d 'What counts'
-complete -c crsdesk -n '__fish_seen_subcommand_from canon group same explain' -l rules -r -d 'Compare under the rules of a file'
+complete -c crsdesk -n '__fish_seen_subcommand_from canon group same explain' -l rules -r -d 'Count as the same what the rules in a file say'
 complete -c crsdesk -n '__fish_seen_subcommand_from canon check' -l lines -d 'Take each line as a text'
 complete -c crsdesk -n '__fish_seen_subcommand_from group' -l repeated -d 'Write the groups of two lines or more alone'
 complete -c crsdesk -n '__fish_seen_subcommand_from group' -l names -d 'Take names from the fronts of lines, and write them for numbers'

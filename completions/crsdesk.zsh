@@ -13,7 +13,7 @@ _crsdesk() {
         'help:print help'
     )
     level=('--level=[what counts]:level:(full definition)')
-    rules=('*--rules=[compare under the rules of a file]:file:_files')
+    rules=('*--rules=[count as the same what the rules in a file say]:file:_files')
     lines=('--lines[take each line as a text]')
     repeated=('--repeated[write the groups of two lines or more alone]')
     names=('--names[take names from the fronts of lines, and write them for numbers]')

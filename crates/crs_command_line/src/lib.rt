@@ -4,7 +4,7 @@
 pub use crs_requests::{
     ExplainOptions, GroupFlags, Layout, LineWord, LineWords, Request, RequestFault, Task,
 };
-pub use line::{VERSION, request};
+pub use line::request;
 
 pub mod laws;
 mod line;

@@ -14,8 +14,8 @@ use crs_line_request::request_of_matches;
 use crs_requests::{Request, RequestFault};
 use std::alloc::{AllocError, Global};
 
-/// The version that `--version` prints.
-pub const VERSION: &str = "0.2.0";
+// The version that `--version` prints.
+const VERSION: &str = "0.2.0";
 
 // What help says of the commands that read files or standard input.
 const CANON_ABOUT: &str = "Writes the canonical text of each file's text";
@@ -61,7 +61,7 @@ const ORDER_HELP: &str =
     "Tells the parts first whose paths have these words, with commas between them: axis,datum";
 
 // What help says of the option `--rules`.
-const RULES_HELP: &str = "Compares under the rules of a file; given more than once, of all of them";
+const RULES_HELP: &str = "Counts as the same what the rules in a file say; repeat for more files";
 
 // What the help of a command says last: its statuses.
 const CANON_STATUS: &str = "Status: 0 and the canonical text, 1 and the refusal, 2 for a fault.";
