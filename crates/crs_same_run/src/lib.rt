@@ -1,5 +1,5 @@
-//! The run that compares two texts. It is a crate of its own since the wrong body of runs that `rt ci` tries stands in it:
-//! it checks its crate once more.
+//! The run that compares two texts. A crate of its own, so that `rt ci`, which checks a crate again for its wrong bodies,
+//! checks little.
 #![tactic(auto)]
 
 pub use same_run::{InALine, run_same};

@@ -7,8 +7,8 @@ use std::alloc::Global;
 // So many bytes come at once.
 const PIECE: usize = 16;
 
-/// The kind of CRS that a text spells, which comes piece by piece. A wrong text is refused with the piece that
-/// settles it, before the rest has come.
+/// The kind of CRS that a text spells, which comes piece by piece. A refusal of 1 to 8 comes with the piece that settles
+/// it, before the rest has come, any other at the end.
 pub fn kind_in_pieces(alloc: Global, text: &[u8]) -> Result<Kind, Fault> {
     let mut feeder = Feeder::new(alloc);
     for piece in text.chunks(PIECE) {
