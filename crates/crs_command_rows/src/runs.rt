@@ -16,15 +16,11 @@ pub fn put_outcome(out: &mut Answer, outcome: &Result<Outcome, RunFault>) {
 
 // What a catalogue has come to.
 fn put_summary(out: &mut Answer, summary: Summary) {
-    let Summary {
-        lines,
-        blank,
-        refused,
-        groups,
-    } = summary;
+    write!(out, "lines {}, blank {}", summary.lines, summary.blank);
     write!(
         out,
-        "lines {lines}, blank {blank}, refused {refused}, groups {groups}"
+        ", refused {}, groups {}",
+        summary.refused, summary.groups
     );
 }
 
