@@ -32,10 +32,8 @@ fn has_text(crs: &Crs<'_>, expected: &[u8], alloc: Global) -> bool {
 
 fn check_text(alloc: Global, tally: &mut Tally, texts: Texts<'_>, text: &Canon) {
     let bytes: &[u8] = text.bytes();
-    tally.count(
-        "crs_canon::Canon::bytes",
-        bytes == texts.named("height_canonical"),
-    );
+    let agrees = bytes == texts.named("height_canonical");
+    tally.count("crs_canon::Canon::bytes", agrees);
     tally.count("crs_canon::Canon::level", text.level() == Level::Full);
     let definition = canon(alloc, texts.named("height"), Level::Definition);
     tally.count("crs_canon::Canon::same", is_other(text, definition));
@@ -62,10 +60,8 @@ fn check_set(crs: &Crs<'_>, tally: &mut Tally, expected: &[u8], alloc: Global) -
     };
     let members = crs.tail.identifiers.as_slice();
     tally.count("crs_canon::Set::same", set_is_same(members));
-    tally.count(
-        "crs_canon::Set::write",
-        set_is_written(members, expected, alloc),
-    );
+    let is_written = set_is_written(members, expected, alloc);
+    tally.count("crs_canon::Set::write", is_written);
     true
 }
 

@@ -16,16 +16,11 @@ pub fn check(alloc: Global, tally: &mut Tally, texts: Texts<'_>) {
 
 // The lines of two groups, one line that is blank, and one that is refused.
 fn add_lines(catalogue: &mut Catalogue, texts: Texts<'_>) -> bool {
-    let height = texts.named("height");
+    let (height, geographic) = (texts.named("height"), texts.named("geographic"));
     let refused = Refusal::new(7, 11).map(Placed::Refused);
     adds(catalogue, 5, height, Some(Placed::Group(1)))
         && adds(catalogue, 5, b"  ", Some(Placed::Blank))
-        && adds(
-            catalogue,
-            9,
-            texts.named("geographic"),
-            Some(Placed::Group(2)),
-        )
+        && adds(catalogue, 9, geographic, Some(Placed::Group(2)))
         && adds(catalogue, 2, height, Some(Placed::Group(1)))
         && adds(catalogue, 7, b"VERTCRS[\"H\"", refused)
 }

@@ -90,17 +90,13 @@ fn walk_frame(frame: &Frame<'_>, tally: &mut Tally, alloc: Global) {
 
 fn walk_conversion(conversion: &Conversion<'_>, tally: &mut Tally, alloc: Global) {
     count_node!(tally, alloc; same_conversion of Conversion is conversion);
-    walk_method(&conversion.method, tally, alloc);
+    count_node!(tally, alloc; same_method of Method is &conversion.method);
+    let first = conversion.method.identifiers.as_slice().first();
+    count_node!(tally, alloc; same_ident of Ident in first);
     if let [parameter, ..] = conversion.parameters.as_slice() {
         count_node!(tally, alloc; same_parameter of Parameter is parameter);
         count_node!(tally, alloc; same_unit of Unit in &parameter.unit);
     }
-}
-
-fn walk_method(method: &Method<'_>, tally: &mut Tally, alloc: Global) {
-    count_node!(tally, alloc; same_method of Method is method);
-    let first = method.identifiers.as_slice().first();
-    count_node!(tally, alloc; same_ident of Ident in first);
 }
 
 fn walk_geodetic(crs: &Geodetic<'_>, tally: &mut Tally, alloc: Global) {
