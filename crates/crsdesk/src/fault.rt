@@ -5,7 +5,7 @@ use std::io;
 use thiserror::Error;
 
 /// Why the program ends without an answer.
-#[derive(Debug, Error)]
+#[derive(Debug, Drop, Error)]
 pub enum Fault {
     /// A word of the command line isn't UTF-8.
     #[error("a word of the command line isn't UTF-8")]
@@ -31,17 +31,6 @@ pub enum Fault {
     /// The user was told already, or nobody reads standard output any more.
     #[error("told")]
     Told,
-}
-
-// Hand-written: a derived drop is expanded wherever a value is dropped, which slows the proofs.
-impl Drop for Fault {
-    fn drop(self) {
-        match self {
-            Fault::Word | Fault::Level | Fault::Part | Fault::Unasked | Fault::Told => {}
-            Fault::Read(_) | Fault::Write(_) => {}
-            Fault::Run(_) => {}
-        }
-    }
 }
 
 impl From<RunFault> for Fault {
