@@ -47,8 +47,8 @@ fn rounds_of(word: &str) -> Result<u32> {
 fn stages_of(alloc: Global, names: &[String]) -> Result<Vec<Stage<'static>>> {
     let mut stages = Vec::new(alloc);
     for name in names {
-        let stage = Stage::named(name).context(format_args!("{name:?} is no stage"))?;
-        stages.push(stage)?;
+        let stage = STAGES.iter().find(|stage| stage.name == name.as_str());
+        stages.push(*stage.context(format_args!("{name:?} is no stage"))?)?;
     }
     if stages.is_empty() {
         stages.extend_from_slice(&STAGES)?;
@@ -83,7 +83,7 @@ fn report(
     rounds: u32,
     texts: &[&[u8]],
 ) -> io::Result<()> {
-    let entries = entries_of(rt.alloc(), stage.2, texts)?;
+    let entries = entries_of(rt.alloc(), stage.step, texts)?;
     report_entries(rt, stage, rounds, &entries)
 }
 
@@ -106,7 +106,7 @@ fn report_entries(
     rounds: u32,
     entries: &[Entry<'_>],
 ) -> io::Result<()> {
-    if stage.grows() {
+    if let Step::Group = stage.step {
         for smaller in SMALLER {
             if smaller < entries.len()
                 && let Some(first) = entries.get(..smaller)
@@ -124,10 +124,9 @@ fn report_of(
     rounds: u32,
     entries: &[Entry<'_>],
 ) -> io::Result<()> {
-    let Stage(name, counted, step) = stage;
-    let timing = timed(rt, step, rounds, entries)?;
-    let tally = timing.tally;
-    let count = tally.counted;
+    let (name, counted) = (stage.name, stage.counted);
+    let timing = timed(rt, stage.step, rounds, entries)?;
+    let (tally, count) = (timing.tally, timing.tally.counted);
     println!(rt; "{name}: {tally}, {count} {counted}")?;
     eprintln!(rt; "{name}: {timing}")
 }

@@ -11,7 +11,11 @@ use std::alloc::{AllocError, Global};
 
 /// A stage by itself: the name under which it is reported, what it counts, and what is done.
 #[derive(Clone, Copy)]
-pub struct Stage<'n>(pub &'n str, pub &'n str, pub Step);
+pub struct Stage<'n> {
+    pub name: &'n str,
+    pub counted: &'n str,
+    pub step: Step,
+}
 
 /// What is done in a stage. To add one, add a variant, its place in `STAGES`, its arm in `outcome`, and in `entry` where it
 /// is given more than a text.
@@ -43,36 +47,30 @@ pub enum Step {
     Group,
 }
 
-/// All stages, in the order in which they are run.
-pub const STAGES: [Stage<'static>; 14] = [
-    Stage("items", "items", Step::Items),
-    Stage("feed-1", "items", Step::Feed(1)),
-    Stage("feed-16", "items", Step::Feed(16)),
-    Stage("feed-4096", "items", Step::Feed(4096)),
-    Stage("shape", "items", Step::Shape),
-    Stage("judge", "items", Step::Judge),
-    Stage("value", "items", Step::Value),
-    Stage("read", "CRSs", Step::Read),
-    Stage("same", "same", Step::Same),
-    Stage("canon", "bytes", Step::Canon),
-    Stage("check-text", "CRSs", Step::CheckText),
-    Stage("canon-text", "bytes", Step::CanonText),
-    Stage("same-text", "same", Step::SameText),
-    Stage("group", "groups", Step::Group),
-];
-
-impl Stage<'_> {
-    /// The stage of this name; None where there is none.
-    pub fn named(name: &str) -> Option<Stage<'static>> {
-        STAGES.iter().find(|stage| stage.0 == name).copied()
-    }
-
-    /// Whether it is also reported for the first texts alone, since its time may grow with the
-    /// catalogue.
-    pub fn grows(self) -> bool {
-        matches!(self.2, Step::Group)
-    }
+// Stages by their fields.
+macro_rules! stages {
+    ($($name:literal $counted:literal $step:expr;)*) => {
+        [$(Stage { name: $name, counted: $counted, step: $step }),*]
+    };
 }
+
+/// All stages, in the order in which they are run.
+pub const STAGES: [Stage<'static>; 14] = stages! {
+    "items" "items" Step::Items;
+    "feed-1" "items" Step::Feed(1);
+    "feed-16" "items" Step::Feed(16);
+    "feed-4096" "items" Step::Feed(4096);
+    "shape" "items" Step::Shape;
+    "judge" "items" Step::Judge;
+    "value" "items" Step::Value;
+    "read" "CRSs" Step::Read;
+    "same" "same" Step::Same;
+    "canon" "bytes" Step::Canon;
+    "check-text" "CRSs" Step::CheckText;
+    "canon-text" "bytes" Step::CanonText;
+    "same-text" "same" Step::SameText;
+    "group" "groups" Step::Group;
+};
 
 /// A text, and what a stage is given of it.
 #[derive(Drop)]
@@ -95,7 +93,13 @@ impl Step {
         let given = match self {
             Step::Shape | Step::Judge | Step::Value => given_items(alloc, text)?,
             Step::Same | Step::Canon => given_value(alloc, text)?,
-            _ => Given::Text,
+            Step::Items
+            | Step::Feed(_)
+            | Step::Read
+            | Step::CheckText
+            | Step::CanonText
+            | Step::SameText
+            | Step::Group => Given::Text,
         };
         Ok(Entry { text, given })
     }
@@ -123,7 +127,8 @@ impl Step {
             (Step::CanonText, _) => spelled(alloc, text),
             (Step::SameText, _) => matched(alloc, text, next.text),
             (Step::Group, _) => placed(before, text),
-            _ => return Ok(None),
+            (Step::Shape | Step::Judge | Step::Value, _) => return Ok(None),
+            (Step::Same | Step::Canon, _) => return Ok(None),
         };
         match outcome {
             Ok(count) => Ok(Some(count)),
@@ -200,7 +205,7 @@ fn compared<'t>(crs: &Crs<'t>, next: &Entry<'t>) -> usize {
 fn matches<'t>(crs: &Crs<'t>, next: &Entry<'t>) -> usize {
     match &next.given {
         Given::Value(other) => usize::from(same(crs, other, Level::Full)),
-        _ => 0,
+        Given::Text | Given::Items(_) => 0,
     }
 }
 

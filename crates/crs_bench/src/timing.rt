@@ -35,9 +35,7 @@ impl Tally {
 
 impl fmt::Display for Tally {
     fn fmt<W: fmt::Write>(&self, f: &mut fmt::Formatter<W>) -> fmt::Result {
-        let texts = self.texts;
-        let bytes = self.bytes;
-        let refused = self.refused;
+        let (texts, bytes, refused) = (self.texts, self.bytes, self.refused);
         write!(f, "{texts} texts, {bytes} bytes, {refused} refused")
     }
 }
