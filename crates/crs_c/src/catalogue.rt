@@ -7,7 +7,8 @@ ghost use Rattle.crs_calls.specs.Held.{HeldParts};
 ghost use Rattle.crs_c.specs.Places.{catalogue_at, has_room, rules_at};
 
 use crs_calls::{
-    HeldRules, Numbered, Piece, Standing, added, added_under, counted, cut, let_go, looked_up, made,
+    HeldRules, Numbered, Piece, Standing, add_text, add_text_under, drop_catalogue, group_count,
+    line_number, new_catalogue, text_piece,
 };
 use crs_group::Catalogue;
 use std::alloc::Global;
@@ -28,7 +29,7 @@ pub unsafe extern "C" fn crsdesk_catalogue_new(alloc: Global, at: *mut Room, lev
         sem 𝓛 (catalogue_at at new) ∗ ⌜ IsMadeEmpty level new result ⌝) }
 {
     let place = at as *mut Catalogue;
-    let (new, code) = made(alloc, level);
+    let (new, code) = new_catalogue(alloc, level);
     place.write(new);
     code
 }
@@ -45,7 +46,7 @@ pub unsafe extern "C" fn crsdesk_catalogue_add(at: *mut Room, number: u64, text:
 {
     let place = at as *mut Catalogue;
     let held = place.read();
-    let (held, told) = added(held, number, text);
+    let (held, told) = add_text(held, number, text);
     place.write(held);
     told
 }
@@ -69,7 +70,7 @@ pub unsafe extern "C" fn crsdesk_catalogue_add_under(
     let rules_place = rules as *mut HeldRules;
     let held = place.read();
     let under = rules_place.read();
-    let (held, under, told) = added_under(held, under, number, text);
+    let (held, under, told) = add_text_under(held, under, number, text);
     place.write(held);
     rules_place.write(under);
     told
@@ -84,7 +85,7 @@ pub unsafe extern "C" fn crsdesk_catalogue_groups(at: *mut Room) -> usize
 {
     let place = at as *mut Catalogue;
     let held = place.read();
-    let (held, count) = counted(held);
+    let (held, count) = group_count(held);
     place.write(held);
     count
 }
@@ -103,7 +104,7 @@ pub unsafe extern "C" fn crsdesk_catalogue_line(
 {
     let place = at as *mut Catalogue;
     let held = place.read();
-    let (held, found) = looked_up(held, group, index);
+    let (held, found) = line_number(held, group, index);
     place.write(held);
     found
 }
@@ -118,7 +119,7 @@ pub unsafe extern "C" fn crsdesk_catalogue_piece(at: *mut Room, group: usize, fr
 {
     let place = at as *mut Catalogue;
     let held = place.read();
-    let (held, piece) = cut(held, group, from);
+    let (held, piece) = text_piece(held, group, from);
     place.write(held);
     piece
 }
@@ -132,5 +133,5 @@ pub unsafe extern "C" fn crsdesk_catalogue_free(at: *mut Room)
 {
     let place = at as *mut Catalogue;
     let held = place.read();
-    let_go(held);
+    drop_catalogue(held);
 }

@@ -7,7 +7,7 @@ ghost use Rattle.crs_c.specs.Places.{has_room_for_rules, rules_at};
 
 use crate::catalogue::Room;
 use crs_calls::{
-    Form, HeldRules, Piece, RulesStanding, cut_form, formed, let_go_rules, no_rules, with_file,
+    Form, HeldRules, Piece, RulesStanding, add_file, drop_rules, form_piece, make_form, no_rules,
 };
 use std::alloc::Global;
 
@@ -33,7 +33,7 @@ pub unsafe extern "C" fn crsdesk_rules_add(at: *mut Room, text: &[u8]) -> RulesS
 {
     let place = at as *mut HeldRules;
     let held = place.read();
-    let (held, told) = with_file(held, text);
+    let (held, told) = add_file(held, text);
     place.write(held);
     told
 }
@@ -49,7 +49,7 @@ pub unsafe extern "C" fn crsdesk_rules_form(at: *mut Room, level: u32, text: &[u
 {
     let place = at as *mut HeldRules;
     let held = place.read();
-    let (held, told) = formed(held, level, text);
+    let (held, told) = make_form(held, level, text);
     place.write(held);
     told
 }
@@ -63,7 +63,7 @@ pub unsafe extern "C" fn crsdesk_rules_piece(at: *mut Room, from: usize) -> Piec
 {
     let place = at as *mut HeldRules;
     let held = place.read();
-    let (held, piece) = cut_form(held, from);
+    let (held, piece) = form_piece(held, from);
     place.write(held);
     piece
 }
@@ -77,5 +77,5 @@ pub unsafe extern "C" fn crsdesk_rules_free(at: *mut Room)
 {
     let place = at as *mut HeldRules;
     let held = place.read();
-    let_go_rules(held);
+    drop_rules(held);
 }

@@ -84,10 +84,8 @@ fn answer(
 fn text_of(texts: &[u8], entry: Entry) -> &[u8]
     ensures { result.now ≡ text_of texts.now entry }
 {
-    front_of(
-        rest_of(texts, entry.begin),
-        entry.end.saturating_sub(entry.begin),
-    )
+    let rest = rest_of(texts, entry.begin);
+    front_of(rest, entry.end.saturating_sub(entry.begin))
 }
 
 #[tactic(auto, unfolding(crate::specs::Turns::IsWritten, crate::specs::Buffers::IsGiven))]

@@ -6,7 +6,7 @@ ghost use Rattle.crs_calls.specs.Catalogues.{standing_of, without_memory};
 
 use crate::codes::{NO_LEVEL, NO_MEMORY, NO_NUMBER, OK, REFUSED, level_numbered};
 use crate::letting_go::let_go_anywhere;
-use crate::piece::{Piece, piece_of};
+use crate::piece::{MOST, Piece, piece_of};
 use crate::refused::{Refused, no_refusal, place_and_number};
 use crate::rules::HeldRules;
 use crs_catalogue::Catalogue;
@@ -64,7 +64,7 @@ fn in_group(group: usize, code: u32) -> Standing
 
 /// An empty catalogue at the level of this number.
 #[tactic(auto, unfolding(crate::specs::Catalogues::IsMadeEmpty))]
-pub fn made(alloc: Global, level: u32) -> (Catalogue, u32)
+pub fn new_catalogue(alloc: Global, level: u32) -> (Catalogue, u32)
     ensures { IsMadeEmpty level result.0 result.1 }
 {
     match level_numbered(level) {
@@ -75,7 +75,7 @@ pub fn made(alloc: Global, level: u32) -> (Catalogue, u32)
 
 /// Adds a text.
 #[tactic(auto, unfolding(crate::specs::Catalogues::IsAdded))]
-pub fn added(held: Catalogue, number: u64, text: &[u8]) -> (Catalogue, Standing)
+pub fn add_text(held: Catalogue, number: u64, text: &[u8]) -> (Catalogue, Standing)
     ensures { IsAdded number text.now held result.0 result.1 }
 {
     let mut held = held;
@@ -88,7 +88,7 @@ pub fn added(held: Catalogue, number: u64, text: &[u8]) -> (Catalogue, Standing)
 
 /// Adds a text under rules.
 #[tactic(auto, unfolding(crate::specs::Catalogues::IsAddedUnder))]
-pub fn added_under(
+pub fn add_text_under(
     held: Catalogue,
     rules: HeldRules,
     number: u64,
@@ -105,7 +105,7 @@ pub fn added_under(
 }
 
 /// How many groups there are.
-pub fn counted(held: Catalogue) -> (Catalogue, usize)
+pub fn group_count(held: Catalogue) -> (Catalogue, usize)
     ensures same { result.0 ≡ held }
     ensures count { result.1 ≡ length held.groups }
 {
@@ -114,7 +114,7 @@ pub fn counted(held: Catalogue) -> (Catalogue, usize)
 }
 
 /// The number of a group's text.
-pub fn looked_up(held: Catalogue, group: usize, index: usize) -> (Catalogue, Numbered)
+pub fn line_number(held: Catalogue, group: usize, index: usize) -> (Catalogue, Numbered)
     ensures same { result.0 ≡ held }
     ensures found { result.1 ≡ line_at held group index }
 {
@@ -142,14 +142,14 @@ fn line_of(catalogue: &Catalogue, group: usize, index: usize) -> Numbered
 }
 
 /// A piece of a group's text.
-pub fn cut(held: Catalogue, group: usize, from: usize) -> (Catalogue, Piece)
+pub fn text_piece(held: Catalogue, group: usize, from: usize) -> (Catalogue, Piece)
     ensures same { result.0 ≡ held }
     ensures piece { IsPieceAt held group from result.1 }
 {
     let piece = match held.text(group) {
         Some(text) => piece_of(text, from),
         None => Piece {
-            bytes: [0; 240],
+            bytes: [0; MOST],
             length: 0,
             code: NO_NUMBER,
         },
@@ -158,6 +158,6 @@ pub fn cut(held: Catalogue, group: usize, from: usize) -> (Catalogue, Piece)
 }
 
 /// Drops a catalogue.
-pub fn let_go(held: Catalogue) {
+pub fn drop_catalogue(held: Catalogue) {
     let_go_anywhere(held);
 }

@@ -53,10 +53,7 @@ fn made_behind<'t, C: Comparing>(
         (λ code. IsSecondFault second.now refused.old refused.new code) }
 {
     match read(alloc, second) {
-        Ok(crs) => match by.compare(alloc, first, &crs) {
-            Ok(made) => Ok(made),
-            Err(_) => Err(NO_MEMORY),
-        },
+        Ok(crs) => by.compare(alloc, first, &crs).map_err(|_| NO_MEMORY),
         Err(fault) => Err(tell(fault, SECOND_REFUSED, refused)),
     }
 }

@@ -17,12 +17,13 @@ mod rules;
 pub use buffer::{give, give_pieces};
 pub use canon::Entry;
 pub use catalogue::{
-    Numbered, Standing, added, added_under, counted, cut, let_go, looked_up, made,
+    Numbered, Standing, add_text, add_text_under, drop_catalogue, group_count, line_number,
+    new_catalogue, text_piece,
 };
 pub use codes::{NO_LEVEL, NO_MEMORY, NO_NUMBER, OK, REFUSED, level_numbered};
 pub use explain::Explained;
 pub use piece::Piece;
 pub use refused::Refused;
 pub use rules::{
-    Form, HeldRules, RulesStanding, cut_form, formed, let_go_rules, no_rules, with_file,
+    Form, HeldRules, RulesStanding, add_file, drop_rules, form_piece, make_form, no_rules,
 };

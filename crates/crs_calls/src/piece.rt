@@ -4,12 +4,15 @@ ghost use Rattle.crs_calls.specs.Pieces.{IsPiece};
 
 use crate::codes::OK;
 
+// The most bytes of a piece.
+pub(crate) const MOST: usize = 240;
+
 /// A piece of a text: `struct crsdesk_piece` of C. Profile.
 #[repr(C)]
 #[derive(Drop)]
 pub struct Piece {
     /// Its bytes at the front.
-    pub bytes: [u8; 240],
+    pub bytes: [u8; MOST],
     /// How many.
     pub length: usize,
     /// The code.
@@ -19,8 +22,8 @@ pub struct Piece {
 pub(crate) fn piece_of(text: &[u8], from: usize) -> Piece
     ensures { IsPiece from result text.now }
 {
-    let piece = front_of(rest_of(text, from), 240);
-    let mut bytes = [0; 240];
+    let piece = front_of(rest_of(text, from), MOST);
+    let mut bytes = [0; MOST];
     let (front, _) = bytes.split_at_mut(piece.len());
     front.copy_from_slice(piece);
     Piece {

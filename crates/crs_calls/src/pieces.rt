@@ -1,4 +1,4 @@
-//! What `crs_c` makes its calls of.
+//! What `crs_c` makes its calls of, where their own clauses say what is answered: they cite none of these functions'.
 
 pub use crate::canon::answer_entries;
 pub use crate::codes::kind_number;

@@ -125,7 +125,7 @@ pub fn no_rules(alloc: Global) -> HeldRules
 
 /// Adds the rules of one more file.
 #[tactic(auto, unfolding(crate::specs::RulesCalls::IsFileRead))]
-pub fn with_file(held: HeldRules, text: &[u8]) -> (HeldRules, RulesStanding)
+pub fn add_file(held: HeldRules, text: &[u8]) -> (HeldRules, RulesStanding)
     ensures { IsFileRead text.now held result.0 result.1 }
 {
     let mut held = held;
@@ -141,7 +141,7 @@ pub fn with_file(held: HeldRules, text: &[u8]) -> (HeldRules, RulesStanding)
 
 /// Keeps the form of a text.
 #[tactic(auto, unfolding(crate::specs::RulesCalls::IsFormed))]
-pub fn formed(held: HeldRules, level: u32, text: &[u8]) -> (HeldRules, Form)
+pub fn make_form(held: HeldRules, level: u32, text: &[u8]) -> (HeldRules, Form)
     ensures { IsFormed level text.now held result.0 result.1 }
 {
     let mut held = held;
@@ -172,7 +172,7 @@ fn keep_form_at(held: &mut HeldRules, level: Level, text: &[u8]) -> Form
 }
 
 /// A piece of the form that is kept.
-pub fn cut_form(held: HeldRules, from: usize) -> (HeldRules, Piece)
+pub fn form_piece(held: HeldRules, from: usize) -> (HeldRules, Piece)
     ensures same { result.0 ≡ held }
     ensures piece { IsPiece from result.1 held.form }
 {
@@ -181,6 +181,6 @@ pub fn cut_form(held: HeldRules, from: usize) -> (HeldRules, Piece)
 }
 
 /// Drops rules.
-pub fn let_go_rules(held: HeldRules) {
+pub fn drop_rules(held: HeldRules) {
     let_go_anywhere(held);
 }

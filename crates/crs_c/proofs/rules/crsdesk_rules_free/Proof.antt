@@ -3,8 +3,8 @@ use Rattle.crs_c.proofs.Steps.{[], ◌∷◌, refl, ap, proved, full_share, id�
 use Rattle.crs_c.specs.contracts.rules.crsdesk_rules_free as f
 use Rattle.crs_c.proofs.rules.crsdesk_rules_free.Statement.{statement}
 use Rattle.crs_c.proofs.rules.crsdesk_rules_free.Code as code
-use Rattle.crs_calls.specs.contracts.let_go_rules as g
-use Rattle.crs_calls.proofs.let_go_rules.Met.{met}
+use Rattle.crs_calls.specs.contracts.drop_rules as g
+use Rattle.crs_calls.proofs.drop_rules.Met.{met}
 
 pub crsdesk_rules_free_spec : {M : Type 1} → statement M
 unfolding rules_at has_room_for_rules
@@ -24,7 +24,7 @@ crsdesk_rules_free_spec 𝓤 𝓛 𝓜 𝓡 wired =
     sets ! (of_opd ! (get ! refl)) refl good $
     forget ! 1 refl $
     nothing ! $ move ! (1 ∷ 0 ∷ []) $ join ! $ nothing ! $ join ! $
-    hands_over ! (framed 𝓤 𝓛.H 𝓜 𝓣) g.ended (g.clauses 𝓛 𝓜.mem 𝓡.returns) (met 𝓤 𝓛 𝓜 𝓡 (code.calls-crs_calls::let_go_rules 𝓡.env wired))
+    hands_over ! (framed 𝓤 𝓛.H 𝓜 𝓣) g.ended (g.clauses 𝓛 𝓜.mem 𝓡.returns) (met 𝓤 𝓛 𝓜 𝓡 (code.calls-crs_calls::drop_rules 𝓡.env wired))
     ((κs, qs, tt, (n, tt), (v ∷ [], tt)), tt) (id⊢ 𝓤 _) (and_then ! (get ! refl) (no_more !)) (λ u r ws. drop ! $ feq_l ! (λ is_unit.
     lands_as ! (ap only is_unit) refl (tt, tt) $
     sets ! (of_opd ! (unit_lit !)) refl (tt, tt) $

@@ -3,8 +3,8 @@ use Rattle.crs_c.proofs.Steps.{◌≡◌, [], ◌∷◌, ◌++◌, refl, w64, pr
 use Rattle.crs_c.specs.contracts.rules.crsdesk_rules_piece as f
 use Rattle.crs_c.proofs.rules.crsdesk_rules_piece.Statement.{statement}
 use Rattle.crs_c.proofs.rules.crsdesk_rules_piece.Code as code
-use Rattle.crs_calls.specs.contracts.cut_form as g
-use Rattle.crs_calls.proofs.cut_form.Met.{met}
+use Rattle.crs_calls.specs.contracts.form_piece as g
+use Rattle.crs_calls.proofs.form_piece.Met.{met}
 use Rattle.crs_calls.specs.Pieces.{IsPiece}
 
 pub crsdesk_rules_piece_spec : {M : Type 1} → statement M
@@ -27,7 +27,7 @@ crsdesk_rules_piece_spec 𝓤 𝓛 𝓜 𝓡 wired =
     sets ! (of_opd ! (get ! refl)) refl good $
     nothing ! $ owned ! usize _ (uint_Makes 𝓛 w64) i _ (refl, are.1.0.1) $ join ! $
     move ! (1 ∷ 0 ∷ []) $ join ! $ nothing ! $ join ! $
-    hands_over ! (framed 𝓤 𝓛.H 𝓜 𝓣) g.ended (g.clauses 𝓛 𝓜.mem 𝓡.returns) (met 𝓤 𝓛 𝓜 𝓡 (code.calls-crs_calls::cut_form 𝓡.env wired))
+    hands_over ! (framed 𝓤 𝓛.H 𝓜 𝓣) g.ended (g.clauses 𝓛 𝓜.mem 𝓡.returns) (met 𝓤 𝓛 𝓜 𝓡 (code.calls-crs_calls::form_piece 𝓡.env wired))
     ((κs, qs, tt, (n, (i, tt)), (v ∷ [], (vint w64 i ∷ [], tt))), tt) (id⊢ 𝓤 _) (and_then ! (get ! refl) (and_then ! (get ! refl) (no_more !))) (λ u r ws.
     both_heard ! (r.0 ≡ n) (IsPiece i r.1 n.form) (λ same found.
     writes_back R P refl refl is_R is_P r u refl refl refl refl refl (λ v' w good_w.
