@@ -18,7 +18,7 @@ pytestmark = [
     pytest.mark.xdist_group("wheel"),
 ]
 PACKAGE = ROOT / "python"
-EXTRAS = {"jinja2; extra == 'audit'", "rich; extra == 'audit'", "dask[dataframe,distributed]; extra == 'dask'"}
+EXTRAS = {"jinja2; extra == 'audit'", "rich; extra == 'audit'", "dask[dataframe,distributed]>=2022.12; extra == 'dask'"}
 SDIST = "import sys; from setuptools import build_meta; build_meta.build_sdist(sys.argv[1])"
 
 

@@ -101,7 +101,7 @@ uint32_t crsdesk_check(const char *text, size_t text_length, uint32_t *kind, str
    CRSDESK_NO_ROOM: it has more bytes than the buffer; *length is their number.
    CRSDESK_NO_MEMORY, CRSDESK_NO_LEVEL. */
 uint32_t crsdesk_canon(const char *text, size_t text_length, uint32_t level, char *out, size_t room, size_t *length,
-                  struct crsdesk_refusal *refusal);
+                       struct crsdesk_refusal *refusal);
 
 /* One of many texts. */
 struct crsdesk_entry {
@@ -133,7 +133,7 @@ uint32_t crsdesk_canon_each(const char *texts, size_t texts_length, struct crsde
    CRSDESK_SECOND_REFUSED: the first spells a CRS and the second none; *refusal says why the second doesn't.
    CRSDESK_NO_MEMORY, CRSDESK_NO_LEVEL. */
 uint32_t crsdesk_same(const char *first, size_t first_length, const char *second, size_t second_length, uint32_t level,
-                 uint32_t *same, struct crsdesk_refusal *refusal);
+                      uint32_t *same, struct crsdesk_refusal *refusal);
 
 /* The first part in which the CRSs of two texts differ at a level, in the order of the canonical text: the words of its
    path with `/` between them, at most five, as `datum/ellipsoid/flattening`. No words exactly where they are the same.
@@ -146,7 +146,7 @@ uint32_t crsdesk_same(const char *first, size_t first_length, const char *second
    CRSDESK_NO_ROOM: the path has more bytes than the buffer; *length is their number.
    CRSDESK_NO_MEMORY, CRSDESK_NO_LEVEL. */
 uint32_t crsdesk_first_part(const char *first, size_t first_length, const char *second, size_t second_length,
-                       uint32_t level, char *out, size_t room, size_t *length, struct crsdesk_refusal *refusal);
+                            uint32_t level, char *out, size_t room, size_t *length, struct crsdesk_refusal *refusal);
 
 /* All parts in which the CRSs of two texts differ at a level, in the order of the canonical text: a line each, with its
    path, its value in the first and in the second, and a line feed, as
@@ -170,7 +170,7 @@ uint32_t crsdesk_first_part(const char *first, size_t first_length, const char *
    CRSDESK_NO_ROOM: the lines have more bytes than the buffer; *length is their number.
    CRSDESK_NO_MEMORY, CRSDESK_NO_LEVEL. */
 uint32_t crsdesk_differences(const char *first, size_t first_length, const char *second, size_t second_length,
-                        uint32_t level, char *out, size_t room, size_t *length, struct crsdesk_refusal *refusal);
+                             uint32_t level, char *out, size_t room, size_t *length, struct crsdesk_refusal *refusal);
 
 /* Why a text spells no CRS, explained to a person in some lines, each with a line feed: `refused N NAME at P, line L,
    column C`; the piece of that line, and a caret under the place; for 11 to 13, 21 and 25 `in NODE at P: found .., expected
@@ -431,7 +431,7 @@ static inline uint32_t crsdesk_canon_under(const char *text, size_t text_length,
    same under them, and the group's text is their form. All texts of a catalogue are added under the same rules. The rules
    are as before, and so is the form that they keep. The codes are those of crsdesk_catalogue_add. */
 struct crsdesk_standing crsdesk_catalogue_add_under(struct crsdesk_catalogue *catalogue, struct crsdesk_rules *rules,
-                                                    uint64_t number, const char *text, size_t length);
+                                                    uint64_t number, const char *text, size_t text_length);
 
 /* Frees all memory that rules took; the struct holds none then, and crsdesk_rules_new may make others there. */
 void crsdesk_rules_free(struct crsdesk_rules *rules);
