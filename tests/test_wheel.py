@@ -4,6 +4,7 @@ from __future__ import annotations
 
 import os
 import pathlib
+import re
 import sys
 import tarfile
 import zipfile
@@ -89,7 +90,9 @@ def test_names(wheel: pathlib.Path) -> None:
     with zipfile.ZipFile(wheel) as inside:
         (name,) = [it for it in inside.namelist() if it.endswith("/METADATA")]
         told = inside.read(name).decode().split("\n")
-    asked = {line.partition(": ")[2].replace(" ;", ";") for line in told if line.startswith("Requires-Dist: ")}
+    # Earlier versions of setuptools write a bound in parentheses, or a blank before the semicolon.
+    lines = (line.partition(": ")[2] for line in told if line.startswith("Requires-Dist: "))
+    asked = {re.sub(r" \((.*?)\)", r"\1", line).replace(" ;", ";") for line in lines}
     assert asked == EXTRAS
     assert {"Requires-Python: >=3.9", "Description-Content-Type: text/markdown"} <= {*told}
 
