@@ -131,7 +131,7 @@ pub trait Adding {
 }
 
 /// By its canonical text.
-#[derive(Drop)]
+#[derive(Clone, Copy)]
 pub struct ByCanon;
 
 impl Adding for ByCanon {
@@ -148,7 +148,7 @@ impl Adding for ByCanon {
 }
 
 /// By its form under rules.
-#[derive(Drop)]
+#[derive(Clone, Copy)]
 pub struct ByForm<'r> {
     /// The rules.
     pub rules: &'r Rules,

@@ -13,7 +13,7 @@ use std::alloc::{AllocError, Global};
 
 /// `explain` of one text: `accepted KIND` where it spells a CRS, with status 0, else the refusal, explained over some
 /// lines, with status 1; as objects of JSON `{"accepted":"KIND"}`, or the refusal in one. Profile.
-#[derive(Drop)]
+#[derive(Clone, Copy)]
 pub struct ExplainText {
     /// Lines or objects.
     pub how: Manner,

@@ -83,7 +83,7 @@ fn second_form<T: Telling>(
 
 /// Whether two texts are the same under rules, at a level: for their forms what `run_same` writes, or `first` or
 /// `second` and the refusal of the first text that spells no CRS. Profile.
-#[derive(Drop)]
+#[derive(Clone, Copy)]
 pub struct SameForms<'t> {
     /// The rules and the level.
     pub under: Under<'t>,
@@ -111,7 +111,7 @@ impl Answer for SameForms<'_> {
 /// same by the rules: `, the lines that it writes without rules for the texts, but for those whose part still differs
 /// under the rules; or the refusal of the first text that spells no CRS, explained. In an object of JSON the mark is a
 /// first member, `"same_by_rules":true`. Profile.
-#[derive(Drop)]
+#[derive(Clone, Copy)]
 pub struct ExplainedForms<'t> {
     /// How it is told.
     pub told: Told<'t>,

@@ -59,17 +59,9 @@ over asked kind [] rules = Files asked standard rules
 over asked word.Text texts rules = Texts asked texts rules
 over asked word.FileName names rules = Files asked names rules
 
--- what a task asks of the files among a command's matches
+-- what a task asks of the files among a command's matches, or of standard input where it names none
 abbrev pub over_files : Task → List Row → Request
 over_files asked rows = over asked word.FileName (words_of (codes "file") rows) (rules_of rows)
-
--- the canonical text at a level, of one text or of each line
-abbrev pub canon_of : List Row → Request
-canon_of rows = over_files (task.Canon (level_of rows) (layout_of rows)) rows
-
--- the kind of one text or of each line
-abbrev pub check_of : List Row → Request
-check_of rows = over_files (task.Check (layout_of rows)) rows
 
 -- the flags of `group` among its matches
 abbrev pub group_flags : List Row → GroupFlags
@@ -78,10 +70,6 @@ group_flags rows = record {
   names = has_flag (codes "names") rows;
   json = has_flag (codes "json") rows;
 }
-
--- the groups at a level, as the flags say
-abbrev pub group_of : List Row → Request
-group_of rows = over_files (task.Group (level_of rows) (group_flags rows)) rows
 
 -- two operands are compared at a level where both are there: texts, alone or under rules, or files
 abbrev pub same_operands : Option Text → Option Text → WordKind → Text → List Text → Option Request
@@ -126,8 +114,10 @@ explain_of rows =
 -- the request of a command's name and of its matches
 abbrev pub request_of : Text × List Row → Option Request
 request_of (name, rows) =
-    if bytes_eq name (codes "canon") then Some (canon_of rows)
-    else (if bytes_eq name (codes "check") then Some (check_of rows)
+    if bytes_eq name (codes "canon") then
+    Some (over_files (task.Canon (level_of rows) (layout_of rows)) rows)
+    else (if bytes_eq name (codes "check") then Some (over_files (task.Check (layout_of rows)) rows)
     else (if bytes_eq name (codes "same") then same_of rows
-    else (if bytes_eq name (codes "group") then Some (group_of rows)
+    else (if bytes_eq name (codes "group") then
+    Some (over_files (task.Group (level_of rows) (group_flags rows)) rows)
     else (if bytes_eq name (codes "explain") then Some (explain_of rows) else None))))

@@ -38,7 +38,7 @@ impl RulesRefusal {
 }
 
 /// Why the bytes of a rules file gave no rules. Profile.
-#[derive(Debug, Drop, Error)]
+#[derive(Clone, Copy, Debug, Error)]
 pub enum RulesFault {
     /// A line is refused.
     #[error("line {}: refused {} at {}: {}", .0.line, .0.number, .0.place, .0.meaning())]

@@ -67,7 +67,7 @@ pub fn run_text<C: TextCommand + Drop, R: Read, W: Write>(
 }
 
 /// `canon`, at this level. Profile.
-#[derive(Drop)]
+#[derive(Clone, Copy)]
 pub struct CanonText {
     /// The level.
     pub level: Level,
@@ -124,7 +124,7 @@ impl Answer for Result<Kind, Refusal> {
 }
 
 /// `check`. Profile.
-#[derive(Drop)]
+#[derive(Clone, Copy)]
 pub struct CheckText;
 
 impl TextCommand for CheckText {

@@ -2,7 +2,7 @@ use std::fmt;
 use thiserror::Error;
 
 /// Why a run ends with no status.
-#[derive(Debug, Drop, PartialEq, Eq, Error)]
+#[derive(Clone, Copy, Debug, PartialEq, Eq, Error)]
 pub enum RunFault {
     /// A read answered a failure.
     #[error("read failed")]

@@ -6,7 +6,7 @@ use std::alloc::AllocError;
 use thiserror::Error;
 
 /// Why a text gave no answer. Profile.
-#[derive(Debug, Drop, Error)]
+#[derive(Clone, Copy, Debug, Error)]
 pub enum Fault {
     /// The text is refused.
     #[error("refused {} {} at {}", .0.number(), .0.name(), .0.place())]

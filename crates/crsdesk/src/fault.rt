@@ -5,7 +5,7 @@ use std::io;
 use thiserror::Error;
 
 /// Why the program ends without an answer.
-#[derive(Debug, Drop, Error)]
+#[derive(Clone, Copy, Debug, Error)]
 pub enum Fault {
     /// A word of the command line isn't UTF-8.
     #[error("a word of the command line isn't UTF-8")]

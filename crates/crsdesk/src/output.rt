@@ -25,10 +25,8 @@ impl Output {
 
     /// Whether a write failed since nobody reads any more.
     pub fn is_closed(&self) -> bool {
-        match &self.failure {
-            Some(error) => error.kind() == io::ErrorKind::BrokenPipe,
-            None => false,
-        }
+        self.failure
+            .is_some_and(|error| error.kind() == io::ErrorKind::BrokenPipe)
     }
 }
 
