@@ -8,7 +8,7 @@ use Rattle.crs_value.specs.Reads.{ReadsUnit}
 use Rattle.crs_value.specs.declared.values.level.Level.{Level}
 use Rattle.crs_same.specs.declared.content.Content.{Content}
 use Rattle.crs_same.specs.declared.content.Content.TheVariants as content
-use Rattle.crs_matching.specs.SameParts.{SameUnit}
+use Rattle.crs_same.specs.SameParts.{SameUnit}
 use Rattle.crs_normal.specs.PartSpellings.{IsSpelledAxisMeridian, IsSpelledDeformationModel}
 use Rattle.crs_normal.specs.PartSpellings.{IsSpelledGeoidModel, IsSpelledIdent, IsSpelledMember}
 use Rattle.crs_normal.specs.PartSpellings.{IsSpelledParameter, IsSpelledUsage, unit_class}

@@ -19,8 +19,9 @@ use crs_canon::{
     append_lacking_members, append_unit, append_unpaired, named_once, paired_names, write_content,
 };
 use crs_decimal::Decimal;
-use crs_matching::{same_idents, same_units_as, same_value};
-use crs_same::{Content, Difference, Differences, differences};
+use crs_same::{
+    Content, Difference, Differences, differences, same_idents, same_units_as, same_value,
+};
 use crs_value::{Crs, Ident, Level, List, Parameter, Unit, UnitKind};
 use std::alloc::Global;
 use std::collections::BTreeSet;

@@ -4,17 +4,17 @@ ghost use Rattle.crs_value.specs.Values.{ParameterParts};
 ghost use Rattle.crs_value.specs.Sound.{Each};
 ghost use Rattle.crs_value.specs.SoundConversion.{IsParameter};
 ghost use Rattle.crs_value.specs.declared.values.level.Level.{Level};
-ghost use Rattle.crs_matching.specs.SameParts.{SameParameter};
-ghost use Rattle.crs_matching.specs.Sets.{SameSet};
+ghost use Rattle.crs_same.specs.SameParts.{SameParameter};
+ghost use Rattle.crs_same.specs.Sets.{SameSet};
 ghost use Rattle.crs_explain.specs.Differing.{AreTextsOfSet, PartTexts, texts_exchanged};
 ghost use Rattle.crs_explain.specs.InOrder.{AreInOrder};
 
 use crs_canon::laws::names_tell_parameters;
-use crs_matching::laws::{
+use crs_normal::laws::parts::conversions_are_canonical;
+use crs_same::matching_laws::{
     same_idents_is_equivalence, same_parameter_is_equivalence, same_unit_is_equivalence,
     same_value_is_equivalence,
 };
-use crs_normal::laws::parts::conversions_are_canonical;
 
 /// Two sets of parameters of which nothing is told are the same. Profile.
 pub fn parameters_that_differ_are_told()

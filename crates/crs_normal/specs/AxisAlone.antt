@@ -9,7 +9,7 @@ use Rattle.crs_value.specs.Checks.{AtClass}
 use Rattle.crs_value.specs.Reads.{ReadsAxis}
 use Rattle.crs_value.specs.Values.{AxisParts}
 use Rattle.crs_value.specs.declared.values.level.Level.{Level}
-use Rattle.crs_matching.specs.SameParts.{SameAxisAlone}
+use Rattle.crs_same.specs.SameParts.{SameAxisAlone}
 use Rattle.crs_normal.specs.Normal.{IsNormalIn, IsNormalNode}
 use Rattle.crs_normal.specs.SpelledAs.{IsSpelledBy}
 

@@ -7,10 +7,10 @@ use Rattle.crs_value.specs.SoundCrs.{IsCrs}
 use Rattle.crs_value.specs.SoundFrames.{IsMember}
 use Rattle.crs_value.specs.Kept.{kept}
 use Rattle.crs_value.specs.declared.values.level.Level.{Level}
-use Rattle.crs_matching.specs.SameParts.{SameGeoidModel, SameParameter, SameMember, SameUsage}
+use Rattle.crs_same.specs.SameParts.{SameGeoidModel, SameParameter, SameMember, SameUsage}
 use Rattle.crs_same.specs.SameCrs.{SameCrs}
-use Rattle.crs_matching.specs.SameIdents.{SameIdents}
-use Rattle.crs_matching.specs.Sets.{SameSet}
+use Rattle.crs_same.specs.SameIdents.{SameIdents}
+use Rattle.crs_same.specs.Sets.{SameSet}
 use Rattle.crs_normal.specs.SpelledConversions.{set_geoid_models, set_parameters}
 use Rattle.crs_normal.specs.SpelledCrs.{norm_crs}
 use Rattle.crs_normal.specs.SpelledFrames.{set_members}

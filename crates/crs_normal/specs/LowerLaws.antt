@@ -12,7 +12,7 @@ use Rattle.crs_shape.specs.ShapeFault.{Inside, IsFree}
 use Rattle.crs_shape.specs.Shaped.{Shaped}
 use Rattle.crs_value.specs.Sound.{IsSystem}
 use Rattle.crs_value.specs.Values.{AxisParts, SystemParts}
-use Rattle.crs_matching.specs.SameParts.{HasAt, SameValue}
+use Rattle.crs_same.specs.SameParts.{HasAt, SameValue}
 use Rattle.crs_normal.specs.SpelledSystems.{is_number}
 
 -- normal values are equal where their numbers are, each has one plain spelling, and a number is

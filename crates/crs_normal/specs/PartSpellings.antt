@@ -25,10 +25,10 @@ use Rattle.crs_same.specs.PartsOfCrs.{parts_of_geodetic, parts_of_projected, par
 use Rattle.crs_same.specs.PartsOfCrs.{parts_of_compound}
 use Rattle.crs_same.specs.PartsOfFrames.{parts_of_ellipsoid, parts_of_given, parts_of_datum}
 use Rattle.crs_same.specs.PartsOfFrames.{parts_of_ensemble}
-use Rattle.crs_matching.specs.SameParts.{SameGeoidModel, SameParameter, SameDeformationModel, SameMember, SameAxisMeridian, SameUnit, SameBox, SameExtent, SameUsage}
+use Rattle.crs_same.specs.SameParts.{SameGeoidModel, SameParameter, SameDeformationModel, SameMember, SameAxisMeridian, SameUnit, SameBox, SameExtent, SameUsage}
 use Rattle.crs_same.specs.SameCrs.{SameDynamic}
 pub use Rattle.crs_same.specs.SameCrs.{IsHorizontalPart}
-use Rattle.crs_matching.specs.SameIdents.{SameIdent}
+use Rattle.crs_same.specs.SameIdents.{SameIdent}
 use Rattle.crs_normal.specs.SpelledAs.{IsSpelledAs}
 
 -- the one spelling of an identifier by itself: with all that it holds, at each level

@@ -13,7 +13,7 @@ use Rattle.crs_shape.specs.Words.{unit_word}
 use Rattle.crs_value.specs.Values.{IdentParts, UnitParts}
 use Rattle.crs_value.specs.Kept.{kept}
 use Rattle.crs_value.specs.declared.values.level.Level.{Level}
-use Rattle.crs_matching.specs.SameParts.{kind_as, or_metre}
+use Rattle.crs_same.specs.SameParts.{kind_as, or_metre}
 use Rattle.crs_normal.specs.Ordered.{in_order}
 use Rattle.crs_shape.specs.declared.unit_kind.UnitKind.TheVariants as kinds
 

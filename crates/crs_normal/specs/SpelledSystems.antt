@@ -11,7 +11,7 @@ use Rattle.crs_shape.specs.UnitKinds.{asked_kind}
 use Rattle.crs_shape.specs.Words.{direction_word, system_word}
 use Rattle.crs_value.specs.Values.{AxisMeridianParts, AxisParts, SystemParts}
 use Rattle.crs_value.specs.declared.values.level.Level.{Level}
-use Rattle.crs_matching.specs.SameParts.{own_or}
+use Rattle.crs_same.specs.SameParts.{own_or}
 use Rattle.crs_normal.specs.SpelledItems.{each, node_of, number_item, number_node, opt, text_item, word_item, item_ident, item_unit, norm_unit, norm_units, set_idents, whole_value}
 
 -- the meridian of an axis: its unit is one of angle

@@ -7,7 +7,7 @@ use Rattle.crs_value.specs.Values.{BoxParts, ExtentParts, UsageParts, TailParts}
 use Rattle.crs_value.specs.Kept.{kept, kept_one}
 use Rattle.crs_value.specs.declared.values.level.Level.{Level}
 use Rattle.crs_value.specs.declared.values.level.Level.TheVariants as levels
-use Rattle.crs_matching.specs.SameParts.{usages_of}
+use Rattle.crs_same.specs.SameParts.{usages_of}
 use Rattle.crs_normal.specs.Ordered.{in_order}
 use Rattle.crs_normal.specs.SpelledItems.{each, node_from, node_of, number_item, opt, text_node, item_ident, item_unit, norm_length, set_idents}
 

@@ -12,7 +12,7 @@ use Rattle.crs_value.specs.declared.values.crs.Crs.{Crs}
 use Rattle.crs_value.specs.declared.values.level.Level.{Level}
 use Rattle.crs_value.specs.declared.values.level.Level.TheVariants as levels
 use Rattle.crs_same.specs.SameCrs.{SameCrs}
-use Rattle.crs_matching.specs.Sameness.{IsSamenessOf}
+use Rattle.crs_same.specs.Sameness.{IsSamenessOf}
 use Rattle.crs_normal.specs.Normal.{IsNormalText}
 use Rattle.crs_normal.specs.Ordered.{StaysInOrder}
 use Rattle.crs_normal.specs.PartTexts.{axis_text, norm_axis_alone}

@@ -10,10 +10,13 @@ mod FirstPartLemmas
 mod FrontLemmas
 mod KeptLemmas
 mod NumberLemmas
+mod OnceLemmas
 mod PositionLemmas
 mod SamenessOfCrsLemmas
 mod SamenessOfFramesLemmas
 mod SamenessOfSystemsLemmas
+mod SearchLemmas
+mod SetLemmas
 mod SettledLemmas
 mod WalkedLemmas
 mod WordLemmas

@@ -25,10 +25,10 @@ use Rattle.crs_same.specs.PartsOfCrs.{parts_of_vertical, parts_of_horizontal, pa
 use Rattle.crs_same.specs.PartsOfFrames.{parts_of_ellipsoid, parts_of_given, or_greenwich, parts_of_meridian}
 use Rattle.crs_same.specs.PartsOfFrames.{parts_of_datum, parts_of_ensemble, parts_of_frame}
 use Rattle.crs_same.specs.PartsOfSystems.{parts_of_system}
-use Rattle.crs_matching.specs.SameParts.{SameParameter, SameGeoidModel, SameDeformationModel, IsZero, SameMember, SameAxisMeridian, HasAt, own_or, SameValue, SameUnit, SameLength, SameUsages, SameRemark}
+use Rattle.crs_same.specs.SameParts.{SameParameter, SameGeoidModel, SameDeformationModel, IsZero, SameMember, SameAxisMeridian, HasAt, own_or, SameValue, SameUnit, SameLength, SameUsages, SameRemark}
 use Rattle.crs_same.specs.SameCrs.{SameCrs, SameDynamic, IsHorizontalPart}
-use Rattle.crs_matching.specs.SameIdents.{SameIdents}
-use Rattle.crs_matching.specs.Sets.{SameSet, BothOrNeither}
+use Rattle.crs_same.specs.SameIdents.{SameIdents}
+use Rattle.crs_same.specs.Sets.{SameSet, BothOrNeither}
 
 -- ---- conversions
 

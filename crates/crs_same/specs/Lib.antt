@@ -1,6 +1,7 @@
 pub mod Agreement
 pub mod Contents
 pub mod Definition
+pub mod MatchingPrelude
 pub mod Parts
 pub mod PartsOfCrs
 pub mod PartsOfFrames
@@ -8,5 +9,10 @@ pub mod PartsOfSystems
 pub mod Paths
 pub mod Prelude
 pub mod SameCrs
+pub mod SameIdents
+pub mod SameParts
+pub mod Sameness
+pub mod SamenessLaws
+pub mod Sets
 pub mod SingleParts
 pub mod Walked

@@ -20,7 +20,7 @@ use Rattle.crs_same.specs.declared.step.Step.TheVariants as step
 use Rattle.crs_same.specs.PartsOfFrames.{parts_of_meridian, parts_of_frame}
 use Rattle.crs_same.specs.PartsOfSystems.{parts_of_system}
 use Rattle.crs_same.specs.Parts.{◌▸◌, Parts, PartsOf, ◌⨾◌, First, DifferenceParts, Differences}
-use Rattle.crs_matching.specs.SameParts.{SameParameter, SameGeoidModel, SameDeformationModel, SameUsage, usages_of}
+use Rattle.crs_same.specs.SameParts.{SameParameter, SameGeoidModel, SameDeformationModel, SameUsage, usages_of}
 use Rattle.crs_same.specs.SingleParts.{texts, optional_texts, words, unlike, optional, optional_numbers, units}
 use Rattle.crs_same.specs.SingleParts.{sets, identifiers}
 

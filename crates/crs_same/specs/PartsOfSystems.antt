@@ -8,7 +8,7 @@ use Rattle.crs_same.specs.declared.content.Content.TheVariants as content
 use Rattle.crs_same.specs.declared.step.Step.{Step}
 use Rattle.crs_same.specs.declared.step.Step.TheVariants as step
 use Rattle.crs_same.specs.Parts.{◌▸◌, Parts, PartsOf, none, ◌⨾◌, within}
-use Rattle.crs_matching.specs.SameParts.{SameAxisMeridian, own_or, StandsAt}
+use Rattle.crs_same.specs.SameParts.{SameAxisMeridian, own_or, StandsAt}
 use Rattle.crs_same.specs.SingleParts.{texts, words, numbers, optional, units, identifiers, nodes}
 
 -- the parts of two axes of two coordinate systems: name, direction, meridian, unit, identifiers

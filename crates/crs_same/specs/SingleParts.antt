@@ -11,9 +11,9 @@ use Rattle.crs_same.specs.declared.step.Step.{Step}
 use Rattle.crs_same.specs.declared.step.Step.TheVariants as step
 use Rattle.crs_same.specs.Contents.{given}
 use Rattle.crs_same.specs.Parts.{◌▸◌, Parts, none, part}
-use Rattle.crs_matching.specs.SameIdents.{SameIdent}
-use Rattle.crs_matching.specs.SameParts.{SameValue, SameUnitAsked}
-use Rattle.crs_matching.specs.Sets.{SameSet, BothOrNeither}
+use Rattle.crs_same.specs.SameIdents.{SameIdent}
+use Rattle.crs_same.specs.SameParts.{SameValue, SameUnitAsked}
+use Rattle.crs_same.specs.Sets.{SameSet, BothOrNeither}
 
 -- two texts
 abbrev pub texts : List Step → List ℕ → List ℕ → Parts

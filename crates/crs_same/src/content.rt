@@ -4,8 +4,8 @@ ghost use Rattle.std.specs.Option.{option_copied};
 ghost use Rattle.crs_same.specs.declared.content.Content.TheVariants as content;
 ghost use Rattle.crs_same.specs.Contents.{given, length_unit};
 
+use crate::SetMembers;
 use crs_decimal::Decimal;
-use crs_matching::SetMembers;
 use crs_value::{
     AxisMeridian, DeformationModel, GeoidModel, Ident, Member, Parameter, Unit, UnitKind, Usage,
 };

@@ -10,14 +10,13 @@ ghost use Rattle.crs_same.specs.PartsOfCrs.{parts_of_compound, parts_of_crs, Fir
 ghost use Rattle.crs_same.specs.SingleParts.{words, unlike, sets};
 ghost use Rattle.crs_same.specs.Walked.{Walked};
 ghost use Rattle.crs_same.specs.SameCrs.{SameCrs};
-ghost use Rattle.crs_matching.specs.SameParts.{SameGeoidModel};
+ghost use Rattle.crs_same.specs.SameParts.{SameGeoidModel};
 
 use crate::content::{Content, Members};
 use crate::found::{Differences, Found};
-use crate::laws;
 use crate::path::{At, Path};
 use crate::step::Step;
-use crs_matching::{SetMembers, same_set};
+use crate::{SetMembers, laws, same_set};
 use crs_value::laws::crs_is_sound;
 use crs_value::{
     Base, Compound, Crs, Geodetic, GeoidModel, Horizontal, Kind, Level, List, Projected,

@@ -11,17 +11,17 @@ ghost use Rattle.crs_same.specs.Contents.{length_unit};
 ghost use Rattle.crs_same.specs.Parts.{◌▸◌, part};
 ghost use Rattle.crs_same.specs.SingleParts.{texts, optional_texts, unlike, numbers, optional_numbers, units};
 ghost use Rattle.crs_same.specs.SingleParts.{identifiers};
-ghost use Rattle.crs_matching.specs.SameParts.{SameLength};
+ghost use Rattle.crs_same.specs.SameParts.{SameLength};
 ghost use Rattle.crs_same.specs.Walked.{IsDone, IsOfAll, Walked};
 
 use crate::content::{Content, Members};
 use crate::path::{At, Path};
 use crate::step::Step;
-use crs_decimal::Decimal;
-use crs_matching::{
+use crate::{
     same_idents, same_kept_idents, same_length, same_optional_text, same_optional_value, same_text,
     same_units_asked, same_value,
 };
+use crs_decimal::Decimal;
 use crs_value::{CounterpartHints, Ident, List, Unit, UnitKind};
 use std::alloc::AllocError;
 use std::marker::Model;

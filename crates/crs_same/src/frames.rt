@@ -10,14 +10,14 @@ ghost use Rattle.crs_same.specs.PartsOfFrames.{parts_of_datum, parts_of_ensemble
 ghost use Rattle.crs_same.specs.SingleParts.{sets};
 ghost use Rattle.crs_same.specs.Walked.{Walked};
 ghost use Rattle.crs_same.specs.Parts.{◌▸◌, AreSame};
-ghost use Rattle.crs_matching.specs.SameParts.{SameMember};
+ghost use Rattle.crs_same.specs.SameParts.{SameMember};
 
 use crate::content::{Content, Members};
 use crate::found::Found;
 use crate::path::At;
 use crate::step::Step;
+use crate::{SetMembers, same_set};
 use crs_decimal::Decimal;
-use crs_matching::{SetMembers, same_set};
 use crs_value::{Datum, Ellipsoid, Ensemble, Frame, Ident, Level, List, Member, Meridian, Unit};
 
 // At longitude 0 there is none.

@@ -21,16 +21,16 @@ ghost use Rattle.crs_same.specs.PartsOfFrames.{parts_of_ensemble, parts_of_frame
 ghost use Rattle.crs_same.specs.PartsOfSystems.{parts_of_axis, parts_of_system};
 ghost use Rattle.crs_same.specs.Parts.{◌▸◌, AreSame, DifferenceParts, First, exchanged};
 ghost use Rattle.crs_same.specs.Paths.{path_text};
-ghost use Rattle.crs_matching.specs.Sameness.{IsSameness, IsSamenessOf};
+ghost use Rattle.crs_same.specs.Sameness.{IsSameness, IsSamenessOf};
 ghost use Rattle.crs_same.specs.SameCrs.{SameCrs, SameDynamic, IsHorizontalPart};
-ghost use Rattle.crs_matching.specs.SameParts.{HasAt, SameValue};
+ghost use Rattle.crs_same.specs.SameParts.{HasAt, SameValue};
 
-use crs_decimal::laws;
-pub use crs_matching::laws::{
+pub use crate::matching_laws::{
     same_ident_is_equivalence, same_idents_is_equivalence, same_length_is_equivalence,
     same_parameter_is_equivalence, same_part_is_equivalence, same_unit_is_equivalence,
     same_value_is_equivalence,
 };
+use crs_decimal::laws;
 
 /// Each position of a coordinate system, from 1 to the number of its axes, has one axis.
 pub fn one_axis_each()
@@ -45,7 +45,7 @@ pub fn one_axis_each()
 }
 
 /// Coordinate systems of one dimension have as many axes.
-#[tactic(auto, unfolding(crs_matching::specs::SameParts::SameValue))]
+#[tactic(auto, unfolding(crate::specs::SameParts::SameValue))]
 pub fn as_many_axes()
     ensures { (a b : SystemParts) → IsSystem a → IsSystem b → SameValue a.dimension b.dimension →
         length a.axes ≡ length b.axes }

@@ -2,7 +2,7 @@
 ghost use Rattle.std.specs.Prelude.{◌≡◌, ◌≤◌, ◌↔◌, IsTrue, None, length};
 ghost use Rattle.std.specs.Option.{option_and_then, option_copied, option_map};
 ghost use Rattle.crs_value.specs.Kept.{kept};
-ghost use Rattle.crs_matching.specs.SameParts.{SameParameter, SameDeformationModel, SameUsage, usages_of, SameUsages};
+ghost use Rattle.crs_same.specs.SameParts.{SameParameter, SameDeformationModel, SameUsage, usages_of, SameUsages};
 ghost use Rattle.crs_same.specs.declared.content.Content.TheVariants as content;
 ghost use Rattle.crs_same.specs.declared.step.Step.TheVariants as step;
 ghost use Rattle.crs_same.specs.Parts.{◌▸◌, AreSame};
@@ -15,8 +15,8 @@ use crate::content::{Content, Members, Usages};
 use crate::found::Found;
 use crate::path::At;
 use crate::step::Step;
+use crate::{SetMembers, same_models, same_set, same_value};
 use crs_decimal::Decimal;
-use crs_matching::{SetMembers, same_models, same_set, same_value};
 use crs_value::{
     Conversion, DeformationModel, Dynamic, Level, List, Method, Parameter, Tail, Usage,
 };

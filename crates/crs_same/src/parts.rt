@@ -5,7 +5,7 @@ pub use crate::crs::{
 };
 pub use crate::frames::{same_datum, same_ellipsoid, same_ensemble, same_frame, same_meridian};
 pub use crate::nodes::{same_conversion, same_dynamic, same_method};
-pub use crs_matching::{
+pub use crate::{
     same_axis, same_axis_meridian, same_box, same_deformation_model, same_extent, same_geoid_model,
     same_ident, same_member, same_parameter, same_unit, same_usage,
 };

@@ -8,13 +8,13 @@ ghost use Rattle.crs_same.specs.Parts.{◌▸◌};
 ghost use Rattle.crs_same.specs.SingleParts.{words, optional};
 ghost use Rattle.crs_same.specs.Walked.{Walked};
 ghost use Rattle.crs_same.specs.PartsOfSystems.{parts_of_axis, parts_at, parts_of_axes, parts_of_system};
-ghost use Rattle.crs_matching.specs.SameParts.{SameAxisMeridian};
+ghost use Rattle.crs_same.specs.SameParts.{SameAxisMeridian};
 
 use crate::content::Content;
 use crate::found::Found;
 use crate::path::At;
 use crate::step::Step;
-use crs_matching::{axis_at, same_axis_meridians};
+use crate::{axis_at, same_axis_meridians};
 use crs_value::{Axis, AxisMeridian, Direction, System, SystemType};
 
 impl<'b, 'a> Found<'b, 'a> {

@@ -2,8 +2,8 @@
 ghost use Rattle.crs_shape.specs.declared.unit_kind.UnitKind.TheVariants as kinds;
 ghost use Rattle.crs_value.specs.Sound.{IsAxis, IsAxisMeridian, IsIdent, IsUnit, IsBox, IsExtent, IsUsage};
 ghost use Rattle.crs_value.specs.SoundConversion.{IsConversion, IsGeoidModel, IsMethod, IsParameter};
-ghost use Rattle.crs_matching.specs.SameParts.{SameGeoidModel, SameParameter, SameAxisAlone, SameAxisMeridian, SameUnit, SameBox, SameExtent, SameUsage};
-ghost use Rattle.crs_matching.specs.SameIdents.{SameIdent};
+ghost use Rattle.crs_same.specs.SameParts.{SameGeoidModel, SameParameter, SameAxisAlone, SameAxisMeridian, SameUnit, SameBox, SameExtent, SameUsage};
+ghost use Rattle.crs_same.specs.SameIdents.{SameIdent};
 ghost use Rattle.crs_same.specs.Parts.{AreSame};
 ghost use Rattle.crs_same.specs.PartsOfCrs.{parts_of_conversion, parts_of_method};
 ghost use Rattle.crs_normal.specs.AxisAlone.{IsSpelledAxis};

@@ -18,9 +18,9 @@ ghost use Rattle.crs_same.specs.PartsOfCrs.{parts_of_projected, parts_of_vertica
 ghost use Rattle.crs_same.specs.PartsOfCrs.{parts_of_horizontal};
 ghost use Rattle.crs_same.specs.PartsOfFrames.{parts_of_ellipsoid, parts_of_given, parts_of_datum, parts_of_ensemble};
 ghost use Rattle.crs_same.specs.PartsOfFrames.{parts_of_frame};
-ghost use Rattle.crs_matching.specs.SameParts.{SameGeoidModel, SameParameter, SameDeformationModel, SameMember, SameAxisAlone, SameAxisMeridian, SameUnit, SameBox, SameExtent, SameUsage};
+ghost use Rattle.crs_same.specs.SameParts.{SameGeoidModel, SameParameter, SameDeformationModel, SameMember, SameAxisAlone, SameAxisMeridian, SameUnit, SameBox, SameExtent, SameUsage};
 ghost use Rattle.crs_same.specs.SameCrs.{SameDynamic};
-ghost use Rattle.crs_matching.specs.SameIdents.{SameIdent};
+ghost use Rattle.crs_same.specs.SameIdents.{SameIdent};
 ghost use Rattle.crs_normal.specs.AxisAlone.{IsSpelledAxis};
 ghost use Rattle.crs_normal.specs.Closed.{IsClosed};
 ghost use Rattle.crs_normal.specs.PartSpellings.{IsFrame, IsHorizontalPart, IsSpelledAxisMeridian, IsSpelledBase};

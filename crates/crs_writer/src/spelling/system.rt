@@ -12,7 +12,7 @@ ghost use Rattle.crs_shape.specs.declared.unit_kind.UnitKind.TheVariants as kind
 ghost use Rattle.crs_value.specs.Reading.{ReadsFirst, ReadsIfAny};
 ghost use Rattle.crs_value.specs.Reads.{ReadsAxis, ReadsAxisMeridian, ReadsSystem, ReadsType, ReadsUnit};
 ghost use Rattle.crs_value.specs.Values.{AxisMeridianParts, AxisParts, IdentParts, SystemParts, UnitParts};
-ghost use Rattle.crs_matching.specs.SameParts.{own_or};
+ghost use Rattle.crs_same.specs.SameParts.{own_or};
 ghost use Rattle.crs_normal.specs.PartTexts.{axis_meridian_text, axis_text};
 ghost use Rattle.crs_normal.specs.SpelledItems.{each, number_node, opt, word_item, item_ident, item_unit, norm_units, set_idents};
 ghost use Rattle.crs_normal.specs.SpelledSystems.{axes_from, axis_at, item_axis, item_axis_meridian, item_head, norm_axis};

@@ -9,7 +9,7 @@ ghost use Rattle.crs_value.specs.Reading.{ReadsIfAny};
 ghost use Rattle.crs_value.specs.Reads.{ReadsBox, ReadsExtent, ReadsUsage, ReadsTail, ReadsTextOf};
 ghost use Rattle.crs_value.specs.Values.{BoxParts, ExtentParts, UnitParts, IdentParts, TailParts};
 ghost use Rattle.crs_value.specs.declared.values.level.Level.TheVariants as levels;
-ghost use Rattle.crs_matching.specs.SameParts.{usages_of};
+ghost use Rattle.crs_same.specs.SameParts.{usages_of};
 ghost use Rattle.crs_normal.specs.PartTexts.{box_text, extent_text, usage_text};
 ghost use Rattle.crs_normal.specs.SpelledItems.{node_from, number_item, opt, text_node, each, item_unit, norm_length, item_ident, set_idents};
 ghost use Rattle.crs_normal.specs.SpelledUsages.{item_box, item_extent, norm_extent, item_usage, norm_tail};

@@ -1,3 +1,0 @@
-mod OnceLemmas
-mod SearchLemmas
-mod SetLemmas

@@ -1,5 +1,0 @@
-use Rattle.crs_matching.proofs.SearchLemmas.{IsLeft}
-use Rattle.crs_matching.proofs.axes.axis_at.Given as goal
-
-abbrev pub invariant-loop-axis : goal.invariant-loop-axis
-invariant-loop-axis l = IsLeft l.position l.place l.axis-index l.axes

@@ -1,6 +1,0 @@
-use Rattle.std.proofs.Common.{◌↔◌, drop}
-use Rattle.crs_matching.specs.Sets.{HasSame}
-use Rattle.crs_matching.proofs.sets.has_same.Given as goal
-
-abbrev pub invariant-loop-other : goal.invariant-loop-other
-invariant-loop-other g l = HasSame (g.T.SetMember.Same l.level) l.member l.others ↔ HasSame (g.T.SetMember.Same l.level) l.member (drop l.other-index l.others)
