@@ -24,7 +24,7 @@ ROOT = pathlib.Path(__file__).resolve().parent.parent
 CRATES = ROOT / "crates"
 THEOREMS = ROOT / "docs" / "THEOREMS.md"
 LIBRARIES = (
-    "crs_decimal crs_text crs_shape crs_value crs_same crs_normal crs_nodes crs_leaves crs_writer crs_answer crs_canon"
+    "crs_decimal crs_text crs_shape crs_value crs_same crs_normal crs_writer crs_answer crs_canon"
     " crs_rules crs_streams crs_rules_file crs_placed crs_catalogue crs_group crs_explain crs_requests crs_line_request"
     " crs_command_line crs_runs crs_same_run crs_desk crs_calls crs_c"
 ).split()

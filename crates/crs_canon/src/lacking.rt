@@ -7,9 +7,9 @@ ghost use Rattle.crs_writer.specs.SetText.{comma_separated};
 
 use crate::canonical::Canonical;
 use crate::set_view::{append_members, are_spelled};
-use crs_leaves::append;
 use crs_normal::laws::sets;
 use crs_value::Level;
+use crs_writer::append;
 use crs_writer::pieces::gather_all;
 use std::alloc::{AllocError, Global};
 use std::collections::BTreeSet;

@@ -12,10 +12,10 @@ ghost use Rattle.crs_runs.specs.Pieces.{IsWholeHeld};
 use crate::answer::{Answer, ForText, TextCommand, write_answer};
 use crate::text::{read_pieces, read_text};
 use crate::{Level, RunFault, Sink, Source};
-use crs_answer::canon;
 use crs_streams::append_refusal;
 use crs_text::{Fault, Feeder, Refusal, laws, read_items};
 use crs_value::{Kind, kind_of};
+use crs_writer::canon;
 use std::alloc::{AllocError, Global};
 use std::io::{Read, Write};
 

@@ -5,9 +5,9 @@ use denote.Bor.{Bor}
 use Rattle.crs_text.specs.Prelude.{Item}
 use Rattle.crs_shape.specs.declared.class.Class.{Class}
 use Rattle.crs_value.specs.Prelude.{ReadsEach, ReadsFirst, ReadsOptional}
-use Rattle.crs_nodes.specs.Node.{IsFirst, args, item}
-use Rattle.crs_nodes.specs.Found.{SaysIfAny}
-use Rattle.crs_nodes.specs.declared.node.Node.{Node}
+use Rattle.crs_writer.specs.Node.{IsFirst, args, item}
+use Rattle.crs_writer.specs.Found.{SaysIfAny}
+use Rattle.crs_writer.specs.declared.node.Node.{Node}
 use Rattle.crs_writer.proofs.FlatLemmas.{through}
 
 found-said : {V : Type 0} (R : Class → Item → V → Type 0) (of : Node) (c : Class) (found : Option Node) (value : Option V) → IsFirst of c (args c of) found →

@@ -9,7 +9,7 @@ use Rattle.crs_value.specs.Values.{DatumParts}
 use Rattle.crs_value.specs.declared.values.level.Level.{Level}
 use Rattle.crs_normal.specs.SpelledFrames.{item_ellipsoid, norm_ellipsoid}
 use Rattle.crs_normal.specs.SpelledItems.{each, item_ident, number_node, opt, set_idents, text_node}
-use Rattle.crs_leaves.specs.Openings.{named_node}
+use Rattle.crs_writer.specs.Openings.{named_node}
 
 -- what the first of some parts says, and what the others say
 abbrev pub SaysFirst : {P M V : Type 0} → (P → V → Type 0) → (M → List V → Type 0) → P → M → List V →

@@ -5,16 +5,15 @@ ghost use Rattle.crs_shape.specs.declared.class.Class.{Class};
 ghost use Rattle.crs_value.specs.FoundArguments.{from_found};
 ghost use Rattle.crs_value.specs.Reading.{Holds, ReadsEach};
 ghost use Rattle.crs_normal.specs.Ordered.{put};
-ghost use Rattle.crs_nodes.specs.Node.{item};
-ghost use Rattle.crs_leaves.specs.FromItems.{Writes};
+ghost use Rattle.crs_writer.specs.Node.{item};
+ghost use Rattle.crs_writer.specs.FromItems.{Writes};
 ghost use Rattle.crs_writer.specs.Parts.{SaysFirst};
 ghost use Rattle.crs_writer.specs.Spans.{AreInOrder, texts_at};
 
 use crate::parts::{Appended, Part, Spell};
 use crate::set::{FEW, MEMBER_ROOM};
 use crate::spans::{Texts, put_last};
-use crs_leaves::append;
-use crs_nodes::{Chain, Node, lookup};
+use crate::{Chain, Node, append, lookup};
 use crs_shape::Class;
 use crs_value::Level;
 

@@ -9,12 +9,12 @@ ghost use Rattle.crs_value.specs.Values.{IdentParts, UnitParts};
 ghost use Rattle.crs_value.specs.declared.values.level.Level.{Level};
 ghost use Rattle.crs_normal.specs.SpelledFrames.{is_zero};
 ghost use Rattle.crs_normal.specs.SpelledItems.{each, item_ident, item_unit, norm_unit, set_idents, whole_value};
-ghost use Rattle.crs_nodes.specs.Found.{IsNumber, SaysIfAny};
-ghost use Rattle.crs_leaves.specs.FromItems.{Writes};
+ghost use Rattle.crs_writer.specs.Found.{IsNumber, SaysIfAny};
+ghost use Rattle.crs_writer.specs.FromItems.{Writes};
 ghost use Rattle.crs_writer.specs.Parts.{number_behind, opt_text};
 
+use crate::{append, decimal_of, open_number, write_raw, write_whole};
 use crs_decimal::Decimal;
-use crs_leaves::{append, decimal_of, open_number, write_raw, write_whole};
 use crs_value::{Level, UnitKind};
 use std::alloc::AllocError;
 

@@ -4,5 +4,4 @@
 pub use crate::canon_text::canon_from;
 pub use crate::parts::Spell;
 pub use crate::set::{gather, gather_all, write_set};
-pub use crate::spelling::crs::write_crs;
 pub use crate::spelling::idents_and_units::write_bare_unit;

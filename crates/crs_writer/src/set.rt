@@ -1,15 +1,15 @@
 //! Sets: each spelling once, in ascending order of the bytes.
 ghost use Rattle.std.specs.Prelude.{◌≡◌, ◌∷◌, ◌++◌, List, map, OnOk};
 ghost use Rattle.crs_normal.specs.Ordered.{put, put_all};
-ghost use Rattle.crs_leaves.specs.FromItems.{Writes};
+ghost use Rattle.crs_writer.specs.FromItems.{Writes};
 ghost use Rattle.crs_writer.specs.Members.{set_text, spellings};
 ghost use Rattle.crs_writer.specs.SetText.{commas};
 ghost use Rattle.crs_writer.specs.Spans.{AreInOrder, texts_at};
 
+use crate::append;
 use crate::members::{MemberPart, MembersPart};
 use crate::parts::{Appended, Spell};
 use crate::spans::{Texts, write_spans};
-use crs_leaves::append;
 use crs_value::Level;
 use std::alloc::{AllocError, Global};
 use std::collections::BTreeSet;

@@ -4,8 +4,8 @@ ghost use Rattle.crs_normal.specs.Ordered.{put};
 ghost use Rattle.crs_writer.specs.SetText.{commas};
 ghost use Rattle.crs_writer.specs.Spans.{AreInOrder, AreWithin, IsPutAmong, IsWithin, text_at, texts_at};
 
+use crate::append;
 use crate::parts::Appended;
-use crs_leaves::append;
 use crs_normal::laws::sets::texts_are_in_order;
 use std::cmp::Ordering;
 

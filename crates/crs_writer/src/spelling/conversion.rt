@@ -8,8 +8,7 @@ use crate::members::{MembersPart, ReadAs};
 use crate::parts::{Appended, IdentsPart, Part, Spell};
 use crate::set::write_set;
 use crate::spelling::idents_and_units::{write_measured, write_named};
-use crs_leaves::{append, open_text};
-use crs_nodes::{Node, copied};
+use crate::{Node, append, copied, open_text};
 use crs_shape::Class;
 use crs_value::{Conversion, GeoidModel, Level, Method, Parameter, UnitKind};
 

@@ -16,10 +16,10 @@ ghost use Rattle.crs_normal.specs.SpelledFrames.{item_frame, item_meridian, norm
 ghost use Rattle.crs_normal.specs.SpelledItems.{each, node_of, opt, text_item, item_ident, item_unit, norm_units, set_idents};
 ghost use Rattle.crs_normal.specs.SpelledSystems.{norm_system, system_items};
 ghost use Rattle.crs_normal.specs.SpelledUsages.{norm_tail, tail_items};
-ghost use Rattle.crs_nodes.specs.Node.{item};
-ghost use Rattle.crs_nodes.specs.Found.{SaysIfAny};
-ghost use Rattle.crs_leaves.specs.FromItems.{IsRead, Writes};
-ghost use Rattle.crs_leaves.specs.Openings.{named_node};
+ghost use Rattle.crs_writer.specs.Node.{item};
+ghost use Rattle.crs_writer.specs.Found.{SaysIfAny};
+ghost use Rattle.crs_writer.specs.FromItems.{IsRead, Writes};
+ghost use Rattle.crs_writer.specs.Openings.{named_node};
 ghost use Rattle.crs_writer.specs.CrsText.{crs_text};
 
 use crate::members::{MembersPart, ReadAs};
@@ -30,8 +30,7 @@ use crate::spelling::frame_parts::write_meridian;
 use crate::spelling::idents_and_units::write_optional_unit;
 use crate::spelling::system::{SystemPart, write_system};
 use crate::spelling::tail::TailPart;
-use crs_leaves::{append, open_text};
-use crs_nodes::Node;
+use crate::{Node, append, open_text};
 use crs_shape::Class;
 use crs_value::{
     Base, Compound, Conversion, Crs, Dynamic, Geodetic, GeoidModel, Horizontal, Level, Meridian,

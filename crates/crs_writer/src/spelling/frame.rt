@@ -10,9 +10,9 @@ ghost use Rattle.crs_value.specs.Values.{DatumParts, EnsembleParts};
 ghost use Rattle.crs_value.specs.declared.values.frame.Frame.{Frame};
 ghost use Rattle.crs_normal.specs.PartTexts.{datum_text, ensemble_text, frame_text, member_text};
 ghost use Rattle.crs_normal.specs.SpelledFrames.{item_datum, item_frame, norm_datum, norm_frame};
-ghost use Rattle.crs_nodes.specs.Node.{item};
-ghost use Rattle.crs_nodes.specs.Found.{SaysIfAny};
-ghost use Rattle.crs_leaves.specs.FromItems.{Writes};
+ghost use Rattle.crs_writer.specs.Node.{item};
+ghost use Rattle.crs_writer.specs.Found.{SaysIfAny};
+ghost use Rattle.crs_writer.specs.FromItems.{Writes};
 ghost use Rattle.crs_writer.specs.Parts.{datum_node};
 
 use crate::members::{MembersPart, ReadAs};
@@ -22,8 +22,7 @@ use crate::parts::{
 };
 use crate::set::write_set;
 use crate::spelling::idents_and_units::write_named;
-use crs_leaves::{append, append_item, open_text, write_optional_text};
-use crs_nodes::{Node, copied};
+use crate::{Node, append, append_item, copied, open_text, write_optional_text};
 use crs_shape::Class;
 use crs_value::{Datum, Ellipsoid, Ensemble, Frame, Level, Member};
 

@@ -11,17 +11,16 @@ ghost use Rattle.crs_normal.specs.PartTexts.{deformation_model_text, dynamic_tex
 ghost use Rattle.crs_normal.specs.SpelledDynamic.{item_deformation_model, norm_deformation_model};
 ghost use Rattle.crs_normal.specs.SpelledFrames.{greenwich, is_zero, item_meridian, norm_meridian};
 ghost use Rattle.crs_normal.specs.SpelledItems.{each, number_item, opt, item_ident, item_unit, norm_length, set_idents};
-ghost use Rattle.crs_nodes.specs.Found.{SaysIfAny};
-ghost use Rattle.crs_leaves.specs.FromItems.{Writes};
-ghost use Rattle.crs_leaves.specs.Openings.{named_node};
+ghost use Rattle.crs_writer.specs.Found.{SaysIfAny};
+ghost use Rattle.crs_writer.specs.FromItems.{Writes};
+ghost use Rattle.crs_writer.specs.Openings.{named_node};
 
 use crate::members::ReadAs;
 use crate::parts::{
     Appended, IdentsPart, NumberPart, Part, Spell, UnitPart, write_number_node, write_optional,
 };
 use crate::spelling::idents_and_units::{write_length, write_measured, write_named};
-use crs_leaves::{append, open_text};
-use crs_nodes::Node;
+use crate::{Node, append, open_text};
 use crs_shape::Class;
 use crs_value::{DeformationModel, Dynamic, Ellipsoid, Level, Meridian, UnitKind};
 

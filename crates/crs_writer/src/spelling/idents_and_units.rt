@@ -9,18 +9,19 @@ ghost use Rattle.crs_value.specs.Reads.{ReadsUnit, ReadsIdent, ReadsIds};
 ghost use Rattle.crs_value.specs.Values.{IdentParts, UnitParts};
 ghost use Rattle.crs_normal.specs.PartTexts.{unit_text, ident_text};
 ghost use Rattle.crs_normal.specs.SpelledItems.{each, number_item, opt, code_item, item_ident, item_unit, metre, norm_length, norm_unit, norm_units, set_idents};
-ghost use Rattle.crs_nodes.specs.Node.{item};
-ghost use Rattle.crs_nodes.specs.Found.{SaysIfAny};
-ghost use Rattle.crs_leaves.specs.FromItems.{Writes};
-ghost use Rattle.crs_leaves.specs.Openings.{named_node};
+ghost use Rattle.crs_writer.specs.Node.{item};
+ghost use Rattle.crs_writer.specs.Found.{SaysIfAny};
+ghost use Rattle.crs_writer.specs.FromItems.{Writes};
+ghost use Rattle.crs_writer.specs.Openings.{named_node};
 ghost use Rattle.crs_writer.specs.Members.{set_text};
 ghost use Rattle.crs_writer.specs.Parts.{opt_text};
 
 use crate::members::ReadAs;
 use crate::parts::{Appended, IdentsPart, NumberPart, Spell, UnitPart};
 use crate::set::write_set;
-use crs_leaves::{append, open_text, write_code, write_number, write_optional_text};
-use crs_nodes::{Chain, Node, copied, keeps};
+use crate::{
+    Chain, Node, append, copied, keeps, open_text, write_code, write_number, write_optional_text,
+};
 use crs_shape::Class;
 use crs_value::{Ident, Level, List, Unit, UnitKind};
 use std::alloc::AllocError;

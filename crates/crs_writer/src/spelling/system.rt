@@ -17,18 +17,17 @@ ghost use Rattle.crs_normal.specs.PartTexts.{axis_meridian_text, axis_text};
 ghost use Rattle.crs_normal.specs.SpelledItems.{each, number_node, opt, word_item, item_ident, item_unit, norm_units, set_idents};
 ghost use Rattle.crs_normal.specs.SpelledSystems.{axes_from, axis_at, item_axis, item_axis_meridian, item_head, norm_axis};
 ghost use Rattle.crs_normal.specs.SpelledSystems.{norm_axis_meridians, norm_system, system_items, with_axis};
-ghost use Rattle.crs_nodes.specs.Node.{args, item};
-ghost use Rattle.crs_nodes.specs.Found.{SaysIfAny};
-ghost use Rattle.crs_leaves.specs.FromItems.{Writes};
-ghost use Rattle.crs_leaves.specs.Openings.{named_node, numbered_node};
+ghost use Rattle.crs_writer.specs.Node.{args, item};
+ghost use Rattle.crs_writer.specs.Found.{SaysIfAny};
+ghost use Rattle.crs_writer.specs.FromItems.{Writes};
+ghost use Rattle.crs_writer.specs.Openings.{named_node, numbered_node};
 
 use crate::members::ReadAs;
 use crate::parts::{
     Appended, IdentsPart, NumberPart, Part, Spell, UnitPart, write_optional, write_optional_number,
 };
 use crate::spelling::idents_and_units::write_optional_unit;
-use crs_leaves::{append, append_item, axes, is_at, open_text};
-use crs_nodes::{Node, copied};
+use crate::{Node, append, append_item, axes, copied, is_at, open_text};
 use crs_shape::Class;
 use crs_value::{Axis, AxisMeridian, Direction, Level, System, SystemType, UnitKind};
 use std::alloc::AllocError;

@@ -14,17 +14,16 @@ ghost use Rattle.crs_normal.specs.PartTexts.{box_text, extent_text, usage_text};
 ghost use Rattle.crs_normal.specs.SpelledItems.{node_from, number_item, opt, text_node, each, item_unit, norm_length, item_ident, set_idents};
 ghost use Rattle.crs_normal.specs.SpelledUsages.{item_box, item_extent, norm_extent, item_usage, norm_tail};
 ghost use Rattle.crs_normal.specs.SpelledUsages.{set_usages, tail_items};
-ghost use Rattle.crs_nodes.specs.Node.{item};
-ghost use Rattle.crs_nodes.specs.Found.{SaysIfAny};
-ghost use Rattle.crs_leaves.specs.FromItems.{Writes};
-ghost use Rattle.crs_leaves.specs.Openings.{enclosed, numbered_node};
+ghost use Rattle.crs_writer.specs.Node.{item};
+ghost use Rattle.crs_writer.specs.Found.{SaysIfAny};
+ghost use Rattle.crs_writer.specs.FromItems.{Writes};
+ghost use Rattle.crs_writer.specs.Openings.{enclosed, numbered_node};
 
 use crate::members::ReadAs;
 use crate::parts::{Appended, IdentsPart, NumberPart, Part, Spell, UnitPart, write_optional};
 use crate::set::{write_set, write_set_with};
 use crate::spelling::idents_and_units::write_length;
-use crs_leaves::{append, write_optional_text};
-use crs_nodes::{Node, copied, keeps};
+use crate::{Node, append, copied, keeps, write_optional_text};
 use crs_shape::Class;
 use crs_value::{BoundingBox, Extent, Level, Tail, Usage};
 

@@ -1,2 +1,0 @@
-pub mod AxisLemmas
-pub mod NumberLemmas

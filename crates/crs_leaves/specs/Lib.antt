@@ -1,2 +1,0 @@
-pub mod FromItems
-pub mod Openings

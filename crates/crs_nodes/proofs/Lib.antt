@@ -1,5 +1,0 @@
-pub mod CopiedAxisLemmas
-pub mod CopiedDatumLemmas
-pub mod CopiedLemmas
-pub mod CopiedUsageLemmas
-pub mod FlatNodeLemmas

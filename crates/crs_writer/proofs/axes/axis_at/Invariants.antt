@@ -1,0 +1,13 @@
+use Rattle.std.proofs.Common.{length}
+use Rattle.crs_text.specs.Prelude.{arguments}
+use Rattle.crs_shape.specs.declared.class.Class.TheVariants as class
+use Rattle.crs_value.specs.Prelude.{from_found, item_at, those, ReadsAxis}
+use Rattle.crs_writer.proofs.LeavesAxisLemmas.{Seeking}
+use Rattle.crs_writer.proofs.axes.axis_at.Given as goal
+
+abbrev pub invariant-loop-at : goal.invariant-loop-at
+invariant-loop-at l =
+    Seeking ReadsAxis l.fn.position l.items l.class class.Axis (those l.class class.Axis (arguments (item_at l.items l.fn.id))) l.index l.at
+
+abbrev pub decreases-loop-at : goal.decreases-loop-at
+decreases-loop-at l = length (from_found l.items l.class class.Axis l.at)

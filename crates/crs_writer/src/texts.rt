@@ -1,0 +1,113 @@
+//! Bytes, and items of one token or of one argument.
+ghost use Rattle.std.specs.Prelude.{◌≡◌, ◌∷◌, ◌++◌, [], OnOk};
+ghost use Rattle.std.specs.Option.{option_copied};
+ghost use Rattle.crs_decimal.specs.Plain.{plain};
+ghost use Rattle.crs_text.specs.Items.{End, More};
+ghost use Rattle.crs_text.specs.Written.{item_text, others_text};
+ghost use Rattle.crs_normal.specs.SpelledItems.{code_item, number_item};
+ghost use Rattle.crs_writer.specs.Openings.{opened, text_behind};
+
+use crate::is_short;
+use crs_decimal::Decimal;
+use std::alloc::AllocError;
+
+/// Appends bytes. Profile.
+///
+/// `AllocError`: there is no memory for them.
+#[inline(always)]
+pub fn append(out: &mut Vec<u8>, bytes: &[u8]) -> Result<(), AllocError>
+    ensures { OnOk result (out.new.items ≡ out.old.items ++ bytes.now) }
+{
+    out.extend_from_slice(bytes)
+}
+
+/// Appends a comma, and the bytes of an item. Profile.
+///
+/// `AllocError`: there is no memory for them.
+pub fn append_item(out: &mut Vec<u8>, bytes: &[u8]) -> Result<(), AllocError>
+    ensures { OnOk result (out.new.items ≡ out.old.items ++ 44 ∷ bytes.now) }
+{
+    append(out, b",")?;
+    append(out, bytes)
+}
+
+/// Appends a keyword, the opening delimiter and a quoted text; the opening ends with the quote. Profile.
+///
+/// `AllocError`: there is no memory for them.
+#[inline(always)]
+pub fn open_text(out: &mut Vec<u8>, opening: &[u8], text: &[u8]) -> Result<(), AllocError>
+    ensures { OnOk result (out.new.items ≡ out.old.items ++ opened opening.now text.now) }
+{
+    append(out, opening)?;
+    append(out, text)?;
+    append(out, b"\"")
+}
+
+fn write_text_node(out: &mut Vec<u8>, opening: &[u8], text: &[u8]) -> Result<(), AllocError>
+    ensures { OnOk result (out.new.items ≡ out.old.items ++ (opened opening.now text.now ++ 93 ∷ [])) }
+{
+    open_text(out, opening, text)?;
+    append(out, b"]")
+}
+
+/// Appends a node of one text, if there is one; the opening begins with a comma. Profile.
+///
+/// `AllocError`: there is no memory for it.
+#[inline(always)]
+pub fn write_optional_text(
+    out: &mut Vec<u8>,
+    opening: &[u8],
+    text: Option<&[u8]>,
+) -> Result<(), AllocError>
+    ensures { OnOk result (out.new.items ≡ out.old.items ++ text_behind opening.now (option_copied text.entry)) }
+{
+    match text {
+        None => Ok(()),
+        Some(text) => write_text_node(out, opening, text),
+    }
+}
+
+/// Appends a number in its canonical spelling. Profile.
+///
+/// `AllocError`: there is no memory for it.
+pub fn write_decimal(out: &mut Vec<u8>, value: &Decimal) -> Result<(), AllocError>
+    ensures { OnOk result (out.new.items ≡ out.old.items ++ plain value.now) }
+{
+    crs_decimal::laws::plain_is_the_one();
+    value.write(out)
+}
+
+/// Appends a keyword, the opening delimiter and a number; the opening ends with the delimiter. Profile.
+///
+/// `AllocError`: there is no memory for them.
+#[inline(always)]
+pub fn open_number(out: &mut Vec<u8>, opening: &[u8], value: &Decimal) -> Result<(), AllocError>
+    ensures { OnOk result (out.new.items ≡ out.old.items ++ (opening.now ++ plain value.now)) }
+{
+    append(out, opening)?;
+    write_decimal(out, value)
+}
+
+/// Appends a number after a comma. Profile.
+///
+/// `AllocError`: there is no memory for it.
+pub fn write_number(out: &mut Vec<u8>, value: &Decimal) -> Result<(), AllocError>
+    ensures { OnOk result (out.new.items ≡ out.old.items ++ 44 ∷ item_text (number_item value.now)) }
+{
+    append(out, b",")?;
+    write_decimal(out, value)
+}
+
+/// Appends a code or a version after a comma. Profile.
+///
+/// `AllocError`: there is no memory for it.
+pub fn write_code(out: &mut Vec<u8>, raw: &[u8]) -> Result<(), AllocError>
+    ensures { OnOk result (out.new.items ≡ out.old.items ++ others_text (More (code_item raw.now) End)) }
+{
+    if is_short(raw) {
+        append(out, b",")?;
+        append(out, raw)
+    } else {
+        open_text(out, b",\"", raw)
+    }
+}
