@@ -1,7 +1,7 @@
 -- Rules as a caller of C holds them.
 use Rattle.std.specs.Prelude.{ℕ, List, []}
-use Rattle.crs_rules_file.specs.RulesFile.{start}
-use Rattle.crs_rules_file.specs.Statements.{Reading}
+use Rattle.crs_rules.specs.RulesFile.{start}
+use Rattle.crs_rules.specs.Statements.{Reading}
 
 -- what was read of rules files, and the form of the last text under the rules
 pub record HeldParts : Type 0 where

@@ -4,10 +4,10 @@ use Rattle.crs_text.specs.Refusal.{RefusedAt}
 use Rattle.crs_value.specs.SpellsText.{Refuses}
 use Rattle.crs_value.specs.declared.values.level.Level.{Level}
 use Rattle.crs_rules.specs.Rewritten.{IsForm}
-use Rattle.crs_rules_file.specs.RulesFile.{ReadsFile, RefusesFile}
-use Rattle.crs_rules_file.specs.declared.fault.RulesFault.{RulesFault}
-use Rattle.crs_rules_file.specs.declared.fault.RulesFault.TheVariants as faults
-use Rattle.crs_rules_file.specs.declared.fault.RulesRefusal.{RulesRefusal}
+use Rattle.crs_rules.specs.RulesFile.{ReadsFile, RefusesFile}
+use Rattle.crs_rules.specs.declared.fault.RulesFault.{RulesFault}
+use Rattle.crs_rules.specs.declared.fault.RulesFault.TheVariants as faults
+use Rattle.crs_rules.specs.declared.fault.RulesRefusal.{RulesRefusal}
 use Rattle.crs_calls.specs.declared.rules.Form.{Form}
 use Rattle.crs_calls.specs.declared.rules.RulesStanding.{RulesStanding}
 use Rattle.crs_calls.specs.Codes.{level_numbered}

@@ -6,8 +6,7 @@ pub use crs_command_line::{
     ExplainOptions, GroupFlags, Layout, LineWord, LineWords, Request, RequestFault, Task, request,
 };
 pub use crs_explain::StepWord;
-pub use crs_rules::Rules;
-pub use crs_rules_file::{RulesFault, RulesReader, RulesRefusal, read_rules};
+pub use crs_rules::{Rules, RulesFault, RulesReader, RulesRefusal, read_rules};
 pub use crs_runs::{
     CanonText, CheckText, ForText, PairAnswer, read_text, run_canon, run_check, run_text,
     write_answer,

@@ -1,0 +1,22 @@
+-- Items as statements have them.
+use Rattle.std.proofs.Common.{arith, ◌≡◌, ℕ, List, MatchResult, Result, Ok, Err, false, inr, subst}
+use Rattle.crs_text.specs.Prelude.{Item, kind_of_item, raw_of, SpellsNode}
+use Rattle.crs_text.specs.declared.items.ItemKind.TheVariants as kinds
+use Rattle.crs_rules.specs.declared.uncounted.Uncounted.{Uncounted}
+use Rattle.crs_rules.specs.RulesFile.{FaultOfLine, Reads, is_idle, next}
+use Rattle.crs_rules.specs.declared.fault.RulesFault.{RulesFault}
+use Rattle.crs_rules.specs.declared.fault.RulesFault.TheVariants as faults
+use Rattle.crs_rules.specs.Statements.{FaultOfStatement, IsRefusedBy, Reading, States, with_item, with_word}
+
+pub word-item : (item : Item) (u : Uncounted) → kind_of_item item ≡ kinds.Word → with_word (raw_of item) u ≡ with_item item u
+word-item item u e = grind arith
+
+-- what a statement answers, its line answers
+pub statement-line : {A : Type 0} (r : Reading) (line : List ℕ) (item : Item) (q s : Reading) (result : Result A RulesFault)
+    → is_idle line ≡ false → SpellsNode line item → q ≡ next r
+    → MatchResult result (λ _. States q item s) (IsRefusedBy (FaultOfStatement q item))
+    → MatchResult result (λ _. Reads r line s) (IsRefusedBy (FaultOfLine r line))
+statement-line r line item q s (Ok a) busy spells e h = inr (busy, item, spells, subst (λ p. States p item s) e h)
+statement-line r line item q s (Err (faults.Memory a)) busy spells e h = tt
+statement-line r line item q s (Err (faults.Refused f)) busy spells e h =
+    (busy, inr (item, spells, subst (λ p. FaultOfStatement p item f) e h))

@@ -1,9 +1,0 @@
-pub mod FileLemmas
-pub mod GrownLemmas
-pub mod MemberLemmas
-pub mod NodeAmongLemmas
-pub mod OneLemmas
-pub mod OrderLemmas
-pub mod ReaderLemmas
-pub mod SteadyLemmas
-pub mod WalkLemmas
