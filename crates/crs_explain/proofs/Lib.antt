@@ -1,8 +1,8 @@
 pub mod ArgumentLemmas
+pub mod DifferingLemmas
 pub mod ExcerptLemmas
 pub mod LineLemmas
-pub mod PieceLemmas
-pub mod DifferingLemmas
 pub mod OrderLemmas
+pub mod PieceLemmas
 pub mod ToldLemmas
 pub mod TurnedLemmas

@@ -8,8 +8,7 @@ ghost use Rattle.crs_explain.specs.Expected.{IsExpected, IsExpectedIn, IsShapeEx
 use crate::names::{Name, append_listed, push_names};
 use crate::place::{found_text, name_text, rest_of, word_at};
 use crate::system::{axes_expected, word_expected};
-use crate::{Made, Pieces};
-use crs_hint::UNKNOWN_KEYWORD;
+use crate::{Made, Pieces, UNKNOWN_KEYWORD};
 use crs_shape::{Class, Expected, classes, expected, nearest};
 use crs_streams::append_number;
 use crs_text::{Fault, Items, Refusal, laws, read_items};

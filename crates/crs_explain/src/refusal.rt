@@ -9,8 +9,9 @@ use crate::expected::{ExpectedTexts, UNKNOWN_WORD, expectation, or_nothing};
 use crate::names::{append_array, push_each};
 use crate::place::word_at;
 use crate::units::units;
-use crate::{Made, Pieces};
-use crs_hint::{UNEXPECTED, UNEXPECTED_END, UNKNOWN_KEYWORD, hints, meaning, still_open};
+use crate::{
+    Made, Pieces, UNEXPECTED, UNEXPECTED_END, UNKNOWN_KEYWORD, hints, meaning, still_open,
+};
 use crs_streams::json::{
     append_key, append_number_member, append_text, append_text_member, append_value_member,
 };

@@ -3,7 +3,7 @@ use crate::before::{look_before, node_at};
 use crate::front::by_front;
 use crate::glance::{looked_at, rest};
 use crate::hint::{About, Filling, Hint, Node};
-use crate::place::by_place;
+use crate::hint_place::by_place;
 use crate::sentence::BY_PROJ;
 use bstr::ByteSlice;
 use crs_streams::append_number;
