@@ -34,9 +34,9 @@ pub use Rattle.std.proofs.cell.Inside.{Good, one}
 pub use prog.Wp.{WpFn}
 pub use Rattle.std.specs.contracts.alloc.Global.{the_row as global_row}
 pub use Rattle.std.proofs.alloc.Global.TheLaws.{the_row_laws as global_laws}
-pub use Rattle.crs_placed.specs.Catalogue.{CatalogueParts}
-pub use Rattle.crs_catalogue.specs.contracts.catalogue.Catalogue.{the_row as catalogue_row}
-pub use Rattle.crs_catalogue.proofs.catalogue.Catalogue.TheLaws.{the_row_laws as catalogue_laws}
+pub use Rattle.crs_group.specs.Catalogue.{CatalogueParts}
+pub use Rattle.crs_group.specs.contracts.catalogue.Catalogue.{the_row as catalogue_row}
+pub use Rattle.crs_group.proofs.catalogue.Catalogue.TheLaws.{the_row_laws as catalogue_laws}
 pub use Rattle.crs_calls.specs.Held.{HeldParts}
 pub use Rattle.crs_calls.specs.contracts.rules.HeldRules.{the_row as rules_row}
 pub use Rattle.crs_calls.proofs.rules.HeldRules.TheLaws.{the_row_laws as rules_laws}

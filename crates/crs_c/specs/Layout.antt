@@ -14,7 +14,7 @@ use Rattle.crs_calls.specs.contracts.piece.Piece as piece
 use Rattle.crs_calls.specs.contracts.rules.HeldRules as held_rules
 use Rattle.crs_calls.specs.contracts.rules.Form as form
 use Rattle.crs_calls.specs.contracts.rules.RulesStanding as rules_standing
-use Rattle.crs_catalogue.specs.contracts.catalogue.Catalogue as catalogue
+use Rattle.crs_group.specs.contracts.catalogue.Catalogue as catalogue
 
 -- the bytes that a catalogue, rules and each struct take, and the alignment of a catalogue and of rules
 abbrev pub sizes : Sizes

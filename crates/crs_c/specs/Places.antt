@@ -2,8 +2,8 @@
 use base.Fml.{Fml}
 use base.Fraction.{full_share}
 use denote.RawPtr.{Ptr, lies_at, room_at}
-use Rattle.crs_placed.specs.Catalogue.{CatalogueParts}
-use Rattle.crs_catalogue.specs.contracts.catalogue.Catalogue as catalogue
+use Rattle.crs_group.specs.Catalogue.{CatalogueParts}
+use Rattle.crs_group.specs.contracts.catalogue.Catalogue as catalogue
 use Rattle.crs_calls.specs.Held.{HeldParts}
 use Rattle.crs_calls.specs.contracts.rules.HeldRules as held_rules
 

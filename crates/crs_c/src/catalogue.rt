@@ -1,7 +1,7 @@
 //! A catalogue in memory of the caller's.
 ghost use Rattle.std.specs.Prelude.{◌≡◌, length};
 ghost use Rattle.std.specs.Borrow.{sem};
-ghost use Rattle.crs_placed.specs.Catalogue.{CatalogueParts};
+ghost use Rattle.crs_group.specs.Catalogue.{CatalogueParts};
 ghost use Rattle.crs_calls.specs.Catalogues.{IsAdded, IsAddedUnder, IsMadeEmpty, IsPieceAt, line_at};
 ghost use Rattle.crs_calls.specs.Held.{HeldParts};
 ghost use Rattle.crs_c.specs.Places.{catalogue_at, has_room, rules_at};

@@ -4,12 +4,12 @@ use Rattle.std.specs.Prelude.{slice_get}
 use Rattle.std.specs.Option.{option_map}
 use Rattle.crs_value.specs.declared.values.level.Level.{Level}
 use Rattle.crs_value.specs.declared.values.level.Level.TheVariants as level
-use Rattle.crs_placed.specs.Catalogue.{CatalogueParts, Line, line_of, nth}
-use Rattle.crs_catalogue.specs.GroupTexts.{IsCatalogue, IsCatalogueOf, then_line, PlacedLine}
-use Rattle.crs_catalogue.specs.UnderRules.{IsCatalogueUnder}
+use Rattle.crs_group.specs.Catalogue.{CatalogueParts, Line, line_of, nth}
+use Rattle.crs_group.specs.GroupTexts.{IsCatalogue, IsCatalogueOf, then_line, PlacedLine}
+use Rattle.crs_group.specs.UnderRules.{IsCatalogueUnder}
 use Rattle.crs_rules.specs.Rules.{RulesParts}
-use Rattle.crs_placed.specs.declared.placed.Placed.{Placed}
-use Rattle.crs_placed.specs.declared.placed.Placed.TheVariants as placed
+use Rattle.crs_group.specs.declared.placed.Placed.{Placed}
+use Rattle.crs_group.specs.declared.placed.Placed.TheVariants as placed
 use Rattle.crs_calls.specs.declared.catalogue.Numbered.{Numbered}
 use Rattle.crs_calls.specs.declared.piece.Piece.{Piece}
 use Rattle.crs_calls.specs.declared.catalogue.Standing.{Standing}

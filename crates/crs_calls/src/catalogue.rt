@@ -9,8 +9,7 @@ use crate::letting_go::let_go_anywhere;
 use crate::piece::{MOST, Piece, piece_of};
 use crate::refused::{Refused, no_refusal, place_and_number};
 use crate::rules::HeldRules;
-use crs_catalogue::Catalogue;
-use crs_placed::Placed;
+use crs_group::{Catalogue, Placed};
 use crs_value::Level;
 use std::alloc::Global;
 

@@ -4,8 +4,8 @@ use Rattle.std.proofs.KnownBytes.{Appends-trans}
 use Rattle.std.proofs.Math.Nat.{max-zero}
 use Rattle.std.specs.Io.KnownBytes.{Appends, Consumes}
 use Rattle.crs_streams.specs.Prelude.{EndsInFeed, SinkState, SourceState, fresh_sink, fresh_source}
-use Rattle.crs_catalogue.specs.GroupRun.{IsGroupedBy}
-use Rattle.crs_catalogue.specs.declared.summary.Summary.{Summary}
+use Rattle.crs_group.specs.GroupRun.{IsGroupedBy}
+use Rattle.crs_group.specs.declared.summary.Summary.{Summary}
 use Rattle.crs_streams.specs.declared.fault.RunFault.{RunFault}
 use Rattle.crs_streams.specs.declared.fault.RunFault.TheVariants.{ReadFailed, WriteFailed, TooLong, TooManyReads, Memory}
 use Rattle.crs_desk.specs.FileAnswers.{Ends, IsAnswerSent, IsFileFault, IsFileSent, IsFrontSent, NoFront}

@@ -4,8 +4,8 @@ use Rattle.std.specs.Prelude.{false, true, if◌then◌else◌}
 use Rattle.std.specs.Io.KnownBytes.{Appends}
 use Rattle.crs_streams.specs.Escaped.{escaped}
 use Rattle.crs_streams.specs.Json.{json_text}
-use Rattle.crs_catalogue.specs.GroupOutput.{IsGroupOutput, IsGroupOutputUnder}
-use Rattle.crs_catalogue.specs.declared.summary.Summary.{Summary}
+use Rattle.crs_group.specs.GroupOutput.{IsGroupOutput, IsGroupOutputUnder}
+use Rattle.crs_group.specs.declared.summary.Summary.{Summary}
 use Rattle.crs_streams.specs.Streams.{SinkState}
 use Rattle.crs_streams.specs.declared.fault.RunFault.{RunFault}
 use Rattle.crs_streams.specs.declared.fault.RunFault.TheVariants.{ReadFailed, WriteFailed, TooLong}

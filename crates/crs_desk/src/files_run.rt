@@ -6,7 +6,7 @@ ghost use Rattle.crs_desk.specs.FilesRun.{AreFilesAnswered, IsFilesFault, is_jso
 ghost use Rattle.crs_desk.specs.FilesRun.{name_prefix, IsGroupedOutput, IsTaskFront, IsTaskOutput};
 ghost use Rattle.crs_desk.specs.LineCutting.{IsHealthy};
 ghost use Rattle.std.specs.Io.KnownBytes.{Appends};
-ghost use Rattle.crs_catalogue.specs.GroupOutput.{IsGroupOutputBy};
+ghost use Rattle.crs_group.specs.GroupOutput.{IsGroupOutputBy};
 ghost use Rattle.crs_desk.specs.LinesRun.{IsFrontOutput, IsLineOutput, IsLinesOutput};
 ghost use Rattle.crs_desk.specs.Prefixed.{prefixed};
 
@@ -15,7 +15,7 @@ use crate::line_output::{OfLine, Prefix, Prefixed, prefix_lines};
 use crate::lines_run::run_lines;
 use crate::under_run::Under;
 use crate::{Filling, Level, LineWord, Listing, Manner, RunFault, Sink, Source, Stream};
-use crs_catalogue::pieces::{Adding, ByCanon, ByForm, run_adding};
+use crs_group::pieces::{Adding, ByCanon, ByForm, run_adding};
 use crs_rules::Rules;
 use crs_runs::{CanonText, CheckText, TextCommand, read_text};
 use crs_streams::append_escaped;

@@ -1,11 +1,11 @@
 //! The program's commands, over any reader and any writer.
 #![tactic(auto)]
 
-pub use crs_catalogue::{Listing, PLAIN, Summary};
 pub use crs_command_line::{
     ExplainOptions, GroupFlags, Layout, LineWord, LineWords, Request, RequestFault, Task, request,
 };
 pub use crs_explain::StepWord;
+pub use crs_group::{Listing, PLAIN, Summary};
 pub use crs_rules::{Rules, RulesFault, RulesReader, RulesRefusal, read_rules};
 pub use crs_runs::{
     CanonText, CheckText, ForText, PairAnswer, read_text, run_canon, run_check, run_text,

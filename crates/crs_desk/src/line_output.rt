@@ -3,7 +3,7 @@ ghost use Rattle.std.specs.Prelude.{◌≡◌, ◌++◌, IfOk, OnOk, drop, if◌
 ghost use Rattle.crs_desk.specs.Prefixed.{prefixed};
 
 use bstr::ByteSlice;
-use crs_catalogue::is_blank;
+use crs_group::is_blank;
 use crs_runs::TextCommand;
 use std::alloc::{AllocError, Global};
 use std::marker::Model;

@@ -1,10 +1,11 @@
 ghost use Rattle.std.specs.Prelude.{◌≡◌, ◌≤◌, ◌↔◌, IfErr, IfOk, IsErrOf, false, true};
-ghost use Rattle.crs_catalogue.specs.GroupOutput.{plain};
-ghost use Rattle.crs_catalogue.specs.GroupRun.{IsGroupFault, IsGrouped, IsGroupedUnder};
+ghost use Rattle.crs_group.specs.GroupOutput.{plain};
+ghost use Rattle.crs_group.specs.GroupRun.{IsGroupFault, IsGrouped, IsGroupedUnder};
 ghost use Rattle.crs_streams.specs.Streams.{fresh_sink, fresh_source};
 
+use crate::ledger::{ByCanon, ByForm};
+use crate::running::run_adding;
 use crate::{Listing, PLAIN, RunFault, Sink, Source, Summary};
-use crs_catalogue::pieces::{ByCanon, ByForm, run_adding};
 use crs_rules::Rules;
 use crs_value::Level;
 use std::alloc::Global;

@@ -4,9 +4,24 @@
 //! The runs over lines are here, and the rest below: `rt ci` checks once more the crates of the wrong bodies that it tries.
 #![tactic(auto)]
 
+mod catalogue;
 mod group_run;
+mod group_text;
+mod groups;
+mod kept;
+pub mod laws;
+mod ledger;
+mod listing;
+mod names;
+pub mod pieces;
+mod placed;
+mod recent;
+mod running;
+mod summary;
 
-pub use crs_catalogue::{Catalogue, Listing, PLAIN, Summary, is_blank, laws};
-pub use crs_placed::Placed;
+pub use catalogue::{Catalogue, is_blank};
 pub use crs_streams::{RunFault, Sink, Source};
 pub use group_run::{run_group, run_group_listing, run_group_under};
+pub use listing::{Listing, PLAIN};
+pub use placed::Placed;
+pub use summary::Summary;

@@ -1,5 +1,5 @@
 use Rattle.std.proofs.Common.{refl, rules}
-use Rattle.crs_catalogue.specs.GroupOutput.{IsGroupOutputBy}
+use Rattle.crs_group.specs.GroupOutput.{IsGroupOutputBy}
 use Rattle.crs_desk.specs.Prefixed.{prefixed}
 use Rattle.crs_desk.proofs.FileLemmas.{groups-held, unread-file}
 use Rattle.crs_desk.proofs.files_run.answer_group.Goals as goal

@@ -1,8 +1,0 @@
-use Rattle.crs_catalogue.proofs.OneCatalogueLemmas.{one-catalogue}
-use Rattle.crs_catalogue.proofs.laws.catalogue_is_one.Goals as goal
-
-pub returns : goal.returns
-returns c = one-catalogue (record {
-  refusal = c.one_answer.ensures.refusal;
-  apart = c.one_answer.ensures.apart;
-}) c.main_theorem.ensures

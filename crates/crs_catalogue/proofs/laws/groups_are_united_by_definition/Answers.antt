@@ -1,5 +1,0 @@
-use Rattle.crs_catalogue.proofs.UnitedLemmas.{united}
-use Rattle.crs_catalogue.proofs.laws.groups_are_united_by_definition.Goals as goal
-
-pub returns : goal.returns
-returns c = united c.one_answer.ensures.apart c.same_crs_is_same_by_definition.ensures

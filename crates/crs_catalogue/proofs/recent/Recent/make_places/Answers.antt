@@ -1,5 +1,0 @@
-use Rattle.crs_catalogue.proofs.KnownLemmas.{unfilled-known}
-use Rattle.crs_catalogue.proofs.recent.Recent.make_places.Goals as goal
-
-pub returns : goal.returns
-returns c level texts known = unfilled-known level texts c.in-Ok.lines.items c.in-Ok.ensures

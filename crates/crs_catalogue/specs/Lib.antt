@@ -1,9 +1,0 @@
-pub mod GroupObjects
-pub mod GroupOutput
-pub mod GroupReading
-pub mod GroupRun
-pub mod GroupTexts
-pub mod Known
-pub mod Names
-pub mod UnderRules
-pub mod United

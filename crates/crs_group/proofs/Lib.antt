@@ -1,0 +1,14 @@
+pub mod CatalogueLemmas
+pub mod EntryLemmas
+pub mod FaultLemmas
+pub mod GroupCutLemmas
+pub mod GroupRunLemmas
+pub mod GroupTextLemmas
+pub mod KnownLemmas
+pub mod LineAddedLemmas
+pub mod ListLemmas
+pub mod OneCatalogueLemmas
+pub mod PartitionLemmas
+pub mod PlaceLemmas
+pub mod TabLemmas
+pub mod UnitedLemmas

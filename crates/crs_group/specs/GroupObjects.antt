@@ -1,0 +1,41 @@
+-- Groups and refused lines as objects of JSON (RFC 8259), each in a line.
+use Rattle.std.specs.Prelude.{◌++◌, [], ℕ, Bool, List, codes, decimal, false, if◌then◌else◌, true}
+use Rattle.crs_text.specs.Refusal.{RefusedAt, name_of}
+use Rattle.crs_streams.specs.Json.{json_array, json_text, key, number_member, text_member}
+use Rattle.crs_group.specs.Names.{name_at}
+use Rattle.crs_group.specs.declared.listing.Listing.{Listing}
+
+-- the number of a line, or its name, as a text
+abbrev pub json_line : Bool → List (List ℕ) → ℕ → List ℕ
+json_line false names number = decimal number
+json_line true names number = json_text (name_at number names)
+
+-- the names of these lines, where lines have names
+abbrev pub names_member : Listing → List (List ℕ) → List ℕ → List ℕ
+names_member listing names lines =
+    if listing.names then key (codes "line_names") ++ json_array (json_line true names) lines else []
+
+-- the name of this line, where lines have names
+abbrev pub name_member : Listing → List (List ℕ) → ℕ → List ℕ
+name_member listing names line =
+    if listing.names then text_member (codes "line_name") (name_at line names) else []
+
+-- a group: its number, the numbers of its lines, their names, and their canonical text, or under
+-- rules their form
+abbrev pub group_object : Listing → List (List ℕ) → ℕ → List ℕ → List ℕ → List ℕ
+group_object listing names number lines text =
+    codes "{\"group\":" ++ decimal number ++ key (codes "lines") ++ json_array (json_line false names) lines
+    ++ names_member listing names lines ++ text_member (codes "canonical") text ++ codes "}\n"
+
+-- the number of a refusal, its name and its place
+abbrev pub refusal_members : RefusedAt → List ℕ
+refusal_members refusal =
+    number_member (codes "refused") refusal.number
+    ++ text_member (codes "name") (name_of refusal.number)
+    ++ number_member (codes "place") refusal.place
+
+-- a refused line: its number, its name, and the refusal
+abbrev pub refused_object : Listing → List (List ℕ) → ℕ × RefusedAt → List ℕ
+refused_object listing names (line, refusal) =
+    codes "{\"line\":" ++ decimal line ++ name_member listing names line
+    ++ refusal_members refusal ++ codes "}\n"

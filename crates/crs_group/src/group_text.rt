@@ -1,0 +1,211 @@
+//! How a catalogue is written: groups and refused lines, each in a line, or as an object of JSON in one.
+ghost use Rattle.std.specs.Prelude.{◌≡◌, ◌++◌, OnOk, Some};
+ghost use Rattle.std.specs.List.{flat_map};
+ghost use Rattle.crs_group.specs.Catalogue.{GroupParts, nth};
+ghost use Rattle.crs_group.specs.GroupOutput.{catalogue_text, group_line, group_lines, is_listed, label};
+ghost use Rattle.crs_group.specs.GroupOutput.{labels_text, listed_line, refused_written};
+ghost use Rattle.crs_group.specs.GroupObjects.{group_object, json_line, refused_object};
+ghost use Rattle.crs_streams.specs.Json.{json_array, json_more};
+
+use crate::Listing;
+use crate::ledger::Ledger;
+use crs_streams::json::{append_key, append_number_member, append_text, append_text_member};
+use crs_streams::{append_escaped, append_number, append_refusal};
+use crs_text::Refusal;
+use std::alloc::AllocError;
+
+// A ledger, of which these groups are written in this way.
+#[derive(Clone, Copy)]
+pub(crate) struct Listed<'l> {
+    pub(crate) listing: Listing,
+    pub(crate) ledger: &'l Ledger,
+}
+
+impl Listed<'_> {
+    // The groups that are listed, and after them the refused lines.
+    pub(crate) fn write(self, out: &mut Vec<u8>) -> Result<(), AllocError>
+        ensures { OnOk result (out.new.items ≡ out.old.items
+            ++ catalogue_text self.entry.listing self.entry.ledger.now.names self.entry.ledger.now.catalogue) }
+    {
+        self.write_groups(out)?;
+        self.write_refused_lines(out)
+    }
+
+    fn write_groups(self, out: &mut Vec<u8>) -> Result<(), AllocError>
+        ensures { OnOk result (out.new.items ≡ out.old.items
+            ++ group_lines self.entry.listing self.entry.ledger.now.names 1 self.entry.ledger.now.catalogue.groups) }
+    {
+        for at in 0..self.ledger.catalogue().groups() {
+            self.write_numbered(out, at + 1)?;
+        }
+        Ok(())
+    }
+
+    // The group of this number, as an object or a line, if it is listed.
+    fn write_numbered(self, out: &mut Vec<u8>, number: usize) -> Result<(), AllocError>
+        ensures { (group : GroupParts) → nth number self.entry.ledger.now.catalogue.groups ≡ Some group →
+            OnOk result (out.new.items ≡ out.old.items
+            ++ listed_line self.entry.listing self.entry.ledger.now.names number group) }
+    {
+        let catalogue = self.ledger.catalogue();
+        let (Some(lines), Some(text)) = (catalogue.lines(number), catalogue.text(number)) else {
+            return Ok(());
+        };
+        if !is_listed(self.listing, lines) {
+            return Ok(());
+        }
+        if self.listing.json {
+            return self.write_group_object(out, number, lines, text);
+        }
+        self.write_line(out, number, lines)
+    }
+
+    // `group N: L1 L2 ..` and a line end.
+    fn write_line(self, out: &mut Vec<u8>, number: usize, lines: &[u64]) -> Result<(), AllocError>
+        ensures { (group : GroupParts) → group.lines ≡ lines.now → OnOk result (out.new.items ≡ out.old.items
+            ++ group_line self.entry.listing self.entry.ledger.now.names number group) }
+    {
+        out.extend_from_slice(b"group ")?;
+        append_number(number, out)?;
+        out.push(b':')?;
+        self.write_labels(out, lines)?;
+        out.push(b'\n').map_err(AllocError::from)
+    }
+
+    // ` L1 L2 ..`, or after tabs the names of these lines.
+    fn write_labels(self, out: &mut Vec<u8>, numbers: &[u64]) -> Result<(), AllocError>
+        ensures { OnOk result (out.new.items ≡ out.old.items
+            ++ labels_text self.entry.listing self.entry.ledger.now.names numbers.now) }
+    {
+        for number in numbers {
+            out.push(if self.listing.names { b'\t' } else { b' ' })?;
+            self.write_label(out, *number)?;
+        }
+        Ok(())
+    }
+
+    // A line's number, or its name.
+    fn write_label(self, out: &mut Vec<u8>, number: u64) -> Result<(), AllocError>
+        ensures { OnOk result (out.new.items ≡ out.old.items
+            ++ label self.entry.listing self.entry.ledger.now.names number) }
+    {
+        if self.listing.names {
+            return append_escaped(self.ledger.names().at(number), out);
+        }
+        append_number(number as usize, out)
+    }
+
+    fn write_refused_lines(self, out: &mut Vec<u8>) -> Result<(), AllocError>
+        ensures { OnOk result (out.new.items ≡ out.old.items ++ flat_map (refused_written self.entry.listing
+            self.entry.ledger.now.names) self.entry.ledger.now.catalogue.refused) }
+    {
+        for (line, refusal) in self.ledger.catalogue().refused() {
+            self.write_refused(out, *line, *refusal)?;
+        }
+        Ok(())
+    }
+
+    // A refused line, as an object or a line.
+    fn write_refused(self, out: &mut Vec<u8>, line: u64, refusal: Refusal) -> Result<(), AllocError>
+        ensures { OnOk result (out.new.items ≡ out.old.items
+            ++ refused_written self.entry.listing self.entry.ledger.now.names (line, refusal)) }
+    {
+        if self.listing.json {
+            return self.write_refused_object(out, line, refusal);
+        }
+        out.extend_from_slice(b"line ")?;
+        self.write_label(out, line)?;
+        out.extend_from_slice(b": ")?;
+        append_refusal(out, refusal)?;
+        out.push(b'\n').map_err(AllocError::from)
+    }
+
+    // The group of this number, which has these lines and this text.
+    fn write_group_object(
+        self,
+        out: &mut Vec<u8>,
+        number: usize,
+        lines: &[u64],
+        text: &[u8],
+    ) -> Result<(), AllocError>
+        ensures { OnOk result (out.new.items ≡ out.old.items
+            ++ group_object self.entry.listing self.entry.ledger.now.names number lines.now text.now) }
+    {
+        out.extend_from_slice(b"{\"group\":")?;
+        append_number(number, out)?;
+        append_key(b"lines", out)?;
+        self.write_array(out, false, lines)?;
+        if self.listing.names {
+            append_key(b"line_names", out)?;
+            self.write_array(out, true, lines)?;
+        }
+        append_text_member(b"canonical", text, out)?;
+        out.extend_from_slice(b"}\n")
+    }
+
+    // An array of the numbers of lines, or of their names.
+    fn write_array(self, out: &mut Vec<u8>, named: bool, numbers: &[u64]) -> Result<(), AllocError>
+        ensures { OnOk result (out.new.items ≡ out.old.items
+            ++ json_array (json_line named self.entry.ledger.now.names) numbers.now) }
+    {
+        match numbers {
+            [] => out.extend_from_slice(b"[]"),
+            [first, others @ ..] => {
+                out.extend_from_slice(b"[")?;
+                self.write_member(out, named, *first)?;
+                self.write_more(out, named, others)?;
+                out.extend_from_slice(b"]")
+            }
+        }
+    }
+
+    // Numbers or names, each after a comma.
+    fn write_more(self, out: &mut Vec<u8>, named: bool, numbers: &[u64]) -> Result<(), AllocError>
+        ensures { OnOk result (out.new.items ≡ out.old.items
+            ++ json_more (json_line named self.entry.ledger.now.names) numbers.now) }
+    {
+        for number in numbers {
+            out.extend_from_slice(b",")?;
+            self.write_member(out, named, *number)?;
+        }
+        Ok(())
+    }
+
+    fn write_member(self, out: &mut Vec<u8>, named: bool, number: u64) -> Result<(), AllocError>
+        ensures { OnOk result (out.new.items ≡ out.old.items
+            ++ json_line named self.entry.ledger.now.names number) }
+    {
+        if named {
+            return append_text(self.ledger.names().at(number), out);
+        }
+        append_number(number as usize, out)
+    }
+
+    // A refused line.
+    fn write_refused_object(
+        self,
+        out: &mut Vec<u8>,
+        line: u64,
+        refusal: Refusal,
+    ) -> Result<(), AllocError>
+        ensures { OnOk result (out.new.items ≡ out.old.items
+            ++ refused_object self.entry.listing self.entry.ledger.now.names (line, refusal)) }
+    {
+        out.extend_from_slice(b"{\"line\":")?;
+        append_number(line as usize, out)?;
+        if self.listing.names {
+            append_text_member(b"line_name", self.ledger.names().at(line), out)?;
+        }
+        append_number_member(b"refused", usize::from(refusal.number()), out)?;
+        append_text_member(b"name", refusal.name().as_bytes(), out)?;
+        append_number_member(b"place", refusal.place(), out)?;
+        out.extend_from_slice(b"}\n")
+    }
+}
+
+// Whether a group of these lines is listed.
+fn is_listed(listing: Listing, lines: &[u64]) -> bool
+    ensures { result ≡ is_listed listing lines.now }
+{
+    !listing.repeated || lines.len() > 1
+}

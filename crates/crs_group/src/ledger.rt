@@ -1,0 +1,175 @@
+//! A catalogue of lines that are numbered as they come, counted, and named where they have names; and how a line is
+//! added to it: by its canonical text, or by its form under rules.
+ghost use Rattle.std.specs.Prelude.{◌≡◌, ◌+◌, ◌^◌, ◌<◌, ◌≤◌, ◌++◌, ◌∷◌, [], ℕ, List, OnOk, length, IfOk};
+ghost use Rattle.crs_group.specs.GroupReading.{IsLedgerOf, blank_count, no_lines};
+ghost use Rattle.crs_value.specs.declared.values.level.Level.{Level};
+ghost use Rattle.crs_group.specs.GroupTexts.{IsCatalogueBy, then_line, PlacedLine};
+
+use crate::Placed;
+use crate::catalogue::Catalogue;
+use crate::names::{Names, text_in};
+use crate::summary::Summary;
+use crs_rules::Rules;
+use crs_value::Level;
+use std::alloc::{AllocError, Global};
+use std::marker::Model;
+
+#[derive(Drop)]
+pub(crate) struct Ledger {
+    catalogue: Catalogue,
+    names: Names,
+    lines: u64,
+    blank: u64,
+}
+
+impl Model for Ledger {
+    ghost use Rattle.std.specs.Prelude.{◌≤◌};
+    ghost use Rattle.crs_group.specs.GroupReading.{LedgerParts};
+
+    ghost Value = { LedgerParts };
+
+    ghost view = { λ ledger. record {
+      catalogue = ledger.catalogue;
+      names = ledger.names;
+      lines = ledger.lines;
+      blank = ledger.blank;
+    } };
+
+    ghost invariant = { λ ledger. ledger.blank ≤ ledger.lines };
+}
+
+impl Ledger {
+    // A ledger of no lines.
+    pub(crate) fn new(alloc: Global, level: Level) -> Ledger
+        ensures { result ≡ no_lines level }
+    {
+        Ledger {
+            catalogue: Catalogue::new(alloc, level),
+            names: Names::new(alloc),
+            lines: 0,
+            blank: 0,
+        }
+    }
+
+    // The next line.
+    pub(crate) fn add<A: Adding>(&mut self, way: &Way<A>, line: &[u8]) -> Result<(), AllocError>
+        requires { self.old.lines + 1 < 2 ^ 64 }
+        ensures texts { OnOk result ((texts : List (List ℕ)) →
+            IsLedgerOf (A.Form way.now.adding) (A.Share way.now.adding) way.now.named texts self.old →
+            IsLedgerOf (A.Form way.now.adding) (A.Share way.now.adding) way.now.named (texts ++ line.now ∷ []) self.new) }
+        ensures lines { OnOk result (self.new.lines ≡ self.old.lines + 1) }
+        ensures level { self.new.catalogue.level ≡ self.old.catalogue.level }
+    {
+        let named = way.named;
+        let placed = way
+            .adding
+            .add(&mut self.catalogue, self.lines + 1, text_in(named, line))?;
+        self.names.keep(named, self.lines + 1, line)?;
+        self.lines += 1;
+        self.blank += blank_count(placed);
+        Ok(())
+    }
+
+    pub(crate) fn lines(&self) -> u64
+        ensures { result ≡ self.now.lines }
+    {
+        self.lines
+    }
+
+    pub(crate) fn names(&self) -> &Names
+        ensures { result.now ≡ self.now.names }
+    {
+        &self.names
+    }
+
+    pub(crate) fn catalogue(&self) -> &Catalogue
+        ensures { result.now ≡ self.now.catalogue }
+    {
+        &self.catalogue
+    }
+
+    pub(crate) fn summary(&self) -> Summary
+        ensures lines { result.lines ≡ self.now.lines }
+        ensures blank { result.blank ≡ self.now.blank }
+        ensures refused { result.refused ≡ length self.now.catalogue.refused }
+        ensures groups { result.groups ≡ length self.now.catalogue.groups }
+    {
+        Summary {
+            lines: self.lines,
+            blank: self.blank,
+            refused: self.catalogue.refused().len() as u64,
+            groups: self.catalogue.groups() as u64,
+        }
+    }
+}
+
+// How many blank lines a line at this place is.
+fn blank_count(placed: Placed) -> u64
+    ensures count { result ≡ blank_count placed }
+    ensures bound { result ≤ 1 }
+{
+    match placed {
+        Placed::Blank => 1,
+        Placed::Refused(_) | Placed::Group(_) => 0,
+    }
+}
+
+/// How the text of a line is added.
+pub trait Adding {
+    // The text that a line's text has in its group.
+    ghost Form: { Self → Level → List ℕ → List ℕ → Type 0 };
+
+    // When two lines share a group.
+    ghost Share: { Self → Level → PlacedLine → PlacedLine → Type 0 };
+
+    /// Adds the text of a line of this number.
+    fn add(&self, catalogue: &mut Catalogue, line: u64, text: &[u8]) -> Result<Placed, AllocError>
+        ensures catalogue { IfOk result (λ place. (placed : List PlacedLine) →
+            IsCatalogueBy (Form self.now) (Share self.now) placed catalogue.old →
+            IsCatalogueBy (Form self.now) (Share self.now) (then_line placed line text.now place) catalogue.new) }
+        ensures level { catalogue.new.level ≡ catalogue.old.level };
+}
+
+/// By its canonical text.
+#[derive(Clone, Copy)]
+pub struct ByCanon;
+
+impl Adding for ByCanon {
+    ghost use Rattle.crs_writer.specs.Canonical.{IsCanonicalOf};
+    ghost use Rattle.crs_group.specs.GroupTexts.{ShareWhereSame};
+
+    ghost Form = { λ s level text bytes. IsCanonicalOf level text bytes };
+
+    ghost Share = { λ s level p q. ShareWhereSame level p q };
+
+    fn add(&self, catalogue: &mut Catalogue, line: u64, text: &[u8]) -> Result<Placed, AllocError> {
+        catalogue.add(line, text)
+    }
+}
+
+/// By its form under rules.
+#[derive(Clone, Copy)]
+pub struct ByForm<'r> {
+    /// The rules.
+    pub rules: &'r Rules,
+}
+
+impl Adding for ByForm<'_> {
+    ghost use Rattle.crs_rules.specs.Rewritten.{IsForm};
+    ghost use Rattle.crs_group.specs.UnderRules.{ShareWhereSameUnder};
+
+    ghost Form = { λ s level text bytes. IsForm s.rules.now level text bytes };
+
+    ghost Share = { λ s level p q. ShareWhereSameUnder s.rules.now level p q };
+
+    fn add(&self, catalogue: &mut Catalogue, line: u64, text: &[u8]) -> Result<Placed, AllocError> {
+        catalogue.add_under(line, text, self.rules)
+    }
+}
+
+// A way to add lines: how their texts are added, and whether lines have names.
+#[derive(Drop)]
+pub(crate) struct Way<A: Adding> {
+    pub(crate) adding: A,
+    pub(crate) named: bool,
+}

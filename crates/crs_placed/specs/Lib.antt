@@ -1,3 +1,0 @@
-pub mod Catalogue
-pub mod Entries
-pub mod Putting

@@ -1,4 +1,0 @@
-//! What `crs_catalogue` makes a catalogue of.
-
-pub use crate::groups::Groups;
-pub use crate::kept::KeptLines;
