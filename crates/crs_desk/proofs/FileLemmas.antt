@@ -13,7 +13,7 @@ use Rattle.crs_desk.specs.FilesRun.{AreFileOutputs, AreFilesAnswered, IsFileFron
 use Rattle.crs_desk.specs.declared.files_run.FileTask.{FileTask}
 use Rattle.crs_desk.specs.LineCutting.{IsHealthy}
 use Rattle.crs_desk.specs.LinesRun.{HasBegun, HasSentAll, IsFrontOutput, IsLinesAnswered, IsLinesFault, IsLinesOutput, Outputs}
-use Rattle.crs_runs.specs.Whole.{IsReadFault}
+use Rattle.crs_desk.specs.Whole.{IsReadFault}
 use Rattle.crs_desk.specs.Prefixed.{PrefixParts}
 use Rattle.crs_desk.proofs.LineOutputLemmas.{appends-none, front-none, whole-front}
 use Rattle.crs_desk.proofs.PrefixedLemmas.{PrefixedOutputs, lines-plain}

@@ -4,7 +4,7 @@ use Rattle.crs_value.specs.declared.values.level.Level.{Level}
 use Rattle.crs_desk.specs.FileAnswers.{Ends}
 use Rattle.crs_desk.specs.LinesRun.{AreOutputs, IsLineOutput, IsLinesOutput, Outputs}
 use Rattle.crs_text.specs.Prelude.{refused_text}
-use Rattle.crs_runs.specs.Output.{IsCanonOutput, IsCheckOutput, kind_word}
+use Rattle.crs_desk.specs.Output.{IsCanonOutput, IsCheckOutput, kind_word}
 use Rattle.crs_desk.specs.Prefixed.{IsPrefixed, PrefixParts, begun, prefixed, prefixed_from}
 use Rattle.crs_desk.specs.RulesOutput.{IsFormOutput}
 use Rattle.crs_rules.specs.Rules.{RulesParts}

@@ -9,8 +9,8 @@ use Rattle.crs_same.specs.SameCrs.{SameCrs}
 use Rattle.crs_explain.specs.Explained.{IsExplained}
 use Rattle.crs_explain.specs.InOrder.{AreOrderedObjects, IsOrderedText}
 use Rattle.crs_explain.specs.Json.{IsRefusalObject}
-use Rattle.crs_runs.specs.Output.{IsLine, kind_word}
-use Rattle.crs_runs.specs.PairOutput.{IsPairOutput}
+use Rattle.crs_desk.specs.Output.{IsLine, kind_word}
+use Rattle.crs_desk.specs.PairOutput.{IsPairOutput}
 use Rattle.crs_desk.specs.declared.manner.Manner.{Manner}
 use Rattle.crs_desk.specs.declared.manner.Manner.TheVariants as manner
 

@@ -16,7 +16,7 @@ use Rattle.crs_desk.specs.declared.manner.Manner.{Manner}
 use Rattle.crs_desk.specs.declared.manner.Manner.TheVariants as manner
 use Rattle.crs_desk.specs.ExplainOutput.{IsExplainOutput}
 use Rattle.crs_desk.specs.LinesRun.{IsFrontOutput, IsLineOutput, IsLinesOutput, Outputs}
-use Rattle.crs_runs.specs.Output.{IsCanonOutput, IsCheckOutput}
+use Rattle.crs_desk.specs.Output.{IsCanonOutput, IsCheckOutput}
 use Rattle.crs_desk.specs.Prefixed.{IsPrefixed, PrefixParts, prefixed}
 use Rattle.crs_desk.specs.RulesOutput.{IsFormOutput}
 

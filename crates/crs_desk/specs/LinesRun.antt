@@ -11,7 +11,7 @@ use Rattle.crs_streams.specs.Streams.{SourceState, SinkState}
 use Rattle.crs_streams.specs.declared.fault.RunFault.{RunFault}
 use Rattle.crs_streams.specs.declared.fault.RunFault.TheVariants.{ReadFailed, WriteFailed, TooLong}
 use Rattle.crs_streams.specs.declared.fault.RunFault.TheVariants.{TooManyReads, Memory}
-use Rattle.crs_runs.specs.Output.{IsLine}
+use Rattle.crs_desk.specs.Output.{IsLine}
 
 -- what a command writes for a text, and its status
 abbrev pub Outputs : Type 1

@@ -7,8 +7,8 @@ use Rattle.crs_value.specs.declared.values.level.Level.{Level}
 use Rattle.crs_rules.specs.Rules.{RulesParts}
 use Rattle.crs_rules.specs.Rewritten.{IsForm}
 use Rattle.crs_desk.specs.ExplainOutput.{IsExplainPairOutput, TellsRefusalOf}
-use Rattle.crs_runs.specs.Output.{IsLine, WritesRefusal}
-use Rattle.crs_same_run.specs.SameOutput.{IsSameOutput, WritesRefusalOf}
+use Rattle.crs_desk.specs.Output.{IsLine, WritesRefusal}
+use Rattle.crs_desk.specs.SameOutput.{IsSameOutput, WritesRefusalOf}
 use Rattle.crs_desk.specs.declared.manner.Manner.{Manner}
 use Rattle.crs_desk.specs.declared.manner.Manner.TheVariants as manner
 

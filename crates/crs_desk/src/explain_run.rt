@@ -2,11 +2,10 @@
 ghost use Rattle.std.specs.Prelude.{◌≡◌, ◌++◌, ◌∷◌, [], IfOk};
 ghost use Rattle.crs_desk.specs.ExplainOutput.{kind_told, same_told};
 
-use crate::{Level, Manner};
+use crate::{Level, Manner, Telling, TextCommand, accepted_line, kind_of_text, kind_word};
 use crs_explain::{
     StepWord, difference_lines, difference_objects, ordered_parts, refusal_object, refusal_text,
 };
-use crs_runs::{Telling, TextCommand, accepted_line, kind_of_text, kind_word};
 use crs_text::Refusal;
 use crs_value::{Crs, Kind, laws};
 use std::alloc::{AllocError, Global};

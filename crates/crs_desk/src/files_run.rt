@@ -14,10 +14,12 @@ use crate::explain_run::ExplainText;
 use crate::line_output::{OfLine, Prefix, Prefixed, prefix_lines};
 use crate::lines_run::run_lines;
 use crate::under_run::Under;
-use crate::{Filling, Level, LineWord, Listing, Manner, RunFault, Sink, Source, Stream};
+use crate::{
+    CanonText, CheckText, Filling, Level, LineWord, Listing, Manner, RunFault, Sink, Source,
+    Stream, TextCommand, read_text,
+};
 use crs_group::pieces::{Adding, ByCanon, ByForm, run_adding};
 use crs_rules::Rules;
-use crs_runs::{CanonText, CheckText, TextCommand, read_text};
 use crs_streams::append_escaped;
 use crs_streams::json::append_text;
 use std::alloc::{AllocError, Global};

@@ -2,7 +2,7 @@
 ghost use Rattle.std.specs.Prelude.{◌≡◌, ◌⊎◌, ◌↔◌, ◌++◌, [], ℕ, List, max};
 ghost use Rattle.crs_streams.specs.LongLines.{EndsInFeed};
 ghost use Rattle.crs_desk.specs.LinesRun.{IsLineOutput, IsLinesOutput};
-ghost use Rattle.crs_runs.specs.Output.{IsCanonOutput, IsCheckOutput};
+ghost use Rattle.crs_desk.specs.Output.{IsCanonOutput, IsCheckOutput};
 ghost use Rattle.crs_desk.specs.RulesOutput.{IsFormOutput};
 ghost use Rattle.crs_rules.specs.Rules.{RulesParts};
 ghost use Rattle.crs_rules.specs.SoundRules.{AreRules};

@@ -2,9 +2,9 @@
 ghost use Rattle.std.specs.Prelude.{◌≡◌, ◌++◌, IfOk, OnOk, drop, if◌then◌else◌};
 ghost use Rattle.crs_desk.specs.Prefixed.{prefixed};
 
+use crate::TextCommand;
 use bstr::ByteSlice;
 use crs_group::is_blank;
-use crs_runs::TextCommand;
 use std::alloc::{AllocError, Global};
 use std::marker::Model;
 

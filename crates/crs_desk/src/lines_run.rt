@@ -9,8 +9,7 @@ ghost use Rattle.crs_desk.specs.LineCutting.{IsNotKept, IsPut, IsPutOut, IsStopp
 ghost use Rattle.crs_desk.specs.LinesRun.{IsLinesAnswered, IsLinesFault};
 ghost use Rattle.crs_streams.specs.Lines.{HasNoFeed};
 
-use crate::{RunFault, Sink, Stream};
-use crs_runs::TextCommand;
+use crate::{RunFault, Sink, Stream, TextCommand};
 use crs_streams::laws::lines_are_cut;
 use crs_streams::{MAX_LINE, MAX_STREAM_READS, append_bytes, make_room, split_line, text_of};
 use std::alloc::Global;

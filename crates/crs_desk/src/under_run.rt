@@ -7,13 +7,12 @@ ghost use Rattle.crs_desk.specs.RulesOutput.{IsExplainedUnder, IsRefusedUnder, w
 ghost use Rattle.crs_desk.specs.RulesOutput.{from_path, has_path, is_of_path, lines_in, marked, marked_line, path_in};
 
 use crate::explain_run::Told;
-use crate::{Level, Manner};
+use crate::{
+    Answer, InALine, Level, Manner, Telling, TextCommand, line_of, pair_output, refusal_in,
+    refused_line, refused_output,
+};
 use crs_canon::Canon;
 use crs_rules::{Rules, canon_under};
-use crs_runs::{
-    Answer, Telling, TextCommand, line_of, pair_output, refusal_in, refused_line, refused_output,
-};
-use crs_same_run::InALine;
 use crs_streams::split_line;
 use std::alloc::{AllocError, Global};
 

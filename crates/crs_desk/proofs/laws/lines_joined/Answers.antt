@@ -1,5 +1,5 @@
 use Rattle.crs_desk.specs.LinesRun.{IsLineOutput}
-use Rattle.crs_runs.specs.Output.{IsCanonOutput, IsCheckOutput}
+use Rattle.crs_desk.specs.Output.{IsCanonOutput, IsCheckOutput}
 use Rattle.crs_desk.specs.RulesOutput.{IsFormOutput}
 use Rattle.crs_desk.proofs.LineOutputLemmas.{output-append}
 use Rattle.crs_desk.proofs.laws.lines_joined.Goals as goal

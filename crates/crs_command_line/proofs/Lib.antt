@@ -1,7 +1,0 @@
-mod FaultLemmas
-mod HelpLemmas
-mod OperandLemmas
-mod CommandLemmas
-mod LineLemmas
-mod OptionLemmas
-mod SameLemmas

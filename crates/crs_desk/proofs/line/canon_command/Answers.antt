@@ -1,0 +1,13 @@
+use Rattle.std.proofs.Common.{Ok, codes}
+use Rattle.clap.specs.Simple.{new_shape}
+use Rattle.crs_desk.proofs.OptionLemmas.{grown, grows_none, grows_one}
+use Rattle.crs_desk.proofs.line.canon_command.Goals as goal
+
+pub returns : goal.returns
+returns c =
+    let alone = grows_none (Ok c.lone_command-alone.result) c.lone_command-alone.ensures.globals in
+    let one = grows_one c.level_argument.result alone c.arg-command.ensures c.level_argument.ensures.local c.level_argument.ensures.rule in
+    let two = grows_one c.rules_argument.result one c.with_argument-command.ensures c.rules_argument.ensures.local c.rules_argument.ensures.rule in
+    let three = grows_one c.flag_argument.result two c.with_argument-command-2.ensures c.flag_argument.ensures.local c.flag_argument.ensures.rule in
+    let four = grows_one c.file_argument.result three c.with_argument.ensures c.file_argument.ensures.local c.file_argument.ensures.rule in
+    record { shape = grown (new_shape (codes "canon")) four c.lone_command-alone.ensures.shape; globals = four.globals }

@@ -1,0 +1,11 @@
+use Rattle.std.proofs.Common.{Ok, codes}
+use Rattle.clap.specs.Simple.{new_shape}
+use Rattle.crs_desk.proofs.OptionLemmas.{grown, grows_none, grows_one}
+use Rattle.crs_desk.proofs.line.check_command.Goals as goal
+
+pub returns : goal.returns
+returns c =
+    let alone = grows_none (Ok c.lone_command-alone.result) c.lone_command-alone.ensures.globals in
+    let one = grows_one c.flag_argument.result alone c.arg-command.ensures c.flag_argument.ensures.local c.flag_argument.ensures.rule in
+    let two = grows_one c.file_argument.result one c.with_argument.ensures c.file_argument.ensures.local c.file_argument.ensures.rule in
+    record { shape = grown (new_shape (codes "check")) two c.lone_command-alone.ensures.shape; globals = two.globals }

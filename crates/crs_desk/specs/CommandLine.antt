@@ -1,0 +1,142 @@
+-- The command line: what `clap`'s definition of the commands gives for the words.
+use Rattle.std.specs.Prelude.{◌≡◌, ◌≢◌, ◌==◌, ◌++◌, [], ◌∷◌, Bool, true, false, not, List, Option}
+use Rattle.std.specs.Prelude.{Some, None, codes}
+use Rattle.std.specs.Prelude.{option_and_then, if◌then◌else◌}
+use Rattle.clap.specs.Words.{App, IsAmong, Rule, Shape, Text, fault_of}
+use Rattle.clap.specs.Words.{kind_of}
+use Rattle.clap.specs.Words.{new_app, new_rule}
+use Rattle.clap.specs.Words.{subcommand_of, takes, with_subcommand}
+use Rattle.clap.specs.Simple.{new_shape, on_top}
+use Rattle.crs_desk.specs.declared.requests.Request.{Request}
+use Rattle.crs_desk.specs.declared.requests.RequestFault.{RequestFault}
+use Rattle.crs_desk.specs.declared.requests.RequestFault.TheVariants.{Line, Memory}
+use Rattle.clap.specs.declared.builder.action.ArgAction.TheVariants.{Append, SetTrue}
+use Rattle.clap.specs.declared.error.Error.{Error}
+use Rattle.clap.specs.declared.error.kind.ErrorKind.TheVariants as kind
+use Rattle.crs_desk.specs.Requests.{request_of}
+
+-- an operand that may be left out, one word
+abbrev pub spare_operand : Text → Rule
+spare_operand id = record (new_rule id) { value_names = 1 }
+
+-- an operand that must be given, one word
+abbrev pub operand : Text → Rule
+operand id = record (spare_operand id) { required = true }
+
+-- the option `--level`, which takes one word
+abbrev pub level_option : Rule
+level_option = record (new_rule (codes "level")) { long = Some (codes "level"); value_names = 1 }
+
+-- the option `--rules`, which takes one word each time that it stands
+abbrev pub rules_option : Rule
+rules_option = record (new_rule (codes "rules")) {
+  long = Some (codes "rules");
+  value_names = 1;
+  action = Some Append;
+}
+
+-- the option `--first`, which takes one word each time that it stands
+abbrev pub first_option : Rule
+first_option = record (new_rule (codes "order")) {
+  long = Some (codes "first");
+  value_names = 1;
+  action = Some Append;
+}
+
+-- a flag of this name, which takes no word
+abbrev pub flag : Text → Rule
+flag name = record (new_rule name) { long = Some name; action = Some SetTrue }
+
+-- the flag `--lines`
+abbrev pub lines_flag : Rule
+lines_flag = flag (codes "lines")
+
+-- the flag `--repeated`
+abbrev pub repeated_flag : Rule
+repeated_flag = flag (codes "repeated")
+
+-- the flag `--names`
+abbrev pub names_flag : Rule
+names_flag = flag (codes "names")
+
+-- the flag `--files`
+abbrev pub files_flag : Rule
+files_flag = flag (codes "files")
+
+-- the flag `--json`
+abbrev pub json_flag : Rule
+json_flag = flag (codes "json")
+
+-- names of files, as many words as there are
+abbrev pub file_operands : Rule
+file_operands = record (spare_operand (codes "file")) { action = Some Append }
+
+-- `canon`, which takes a level, rules, the flag `--lines` and files
+abbrev pub canon_shape : Shape
+canon_shape = record (new_shape (codes "canon")) {
+  rules = level_option ∷ rules_option ∷ lines_flag ∷ file_operands ∷ [];
+}
+
+-- `check`, which takes that flag and files
+abbrev pub check_shape : Shape
+check_shape = record (new_shape (codes "check")) { rules = lines_flag ∷ file_operands ∷ [] }
+
+-- `group`, which takes a level, rules, the flags `--json`, `--repeated` and `--names`, and files
+abbrev pub group_shape : Shape
+group_shape = record (new_shape (codes "group")) {
+  rules = level_option ∷ rules_option ∷ json_flag ∷ repeated_flag ∷ names_flag ∷ file_operands ∷ [];
+}
+
+-- `same`, which needs a first operand and a second, and takes a level, rules and the flag `--files`
+abbrev pub same_shape : Shape
+same_shape = record (new_shape (codes "same")) {
+  rules = operand (codes "first") ∷ operand (codes "second") ∷ level_option ∷ rules_option
+      ∷ files_flag ∷ [];
+}
+
+-- `explain`, which may have a first operand and a second, and takes the flag `--json`, the option
+-- `--first`, and what `same` takes
+abbrev pub explain_shape : Shape
+explain_shape = record (new_shape (codes "explain")) {
+  rules = spare_operand (codes "first") ∷ spare_operand (codes "second") ∷ json_flag
+      ∷ first_option ∷ level_option ∷ rules_option ∷ files_flag ∷ [];
+}
+
+-- `crsdesk` alone; it has a version, and needs one of its commands
+abbrev pub lone_desk : App
+lone_desk =
+    on_top (λ s. record s { has_version = true; subcommand_required = true })
+    (new_app (codes "crsdesk"))
+
+-- `crsdesk` with `canon`, `check` and `group`, which read standard input or files
+abbrev pub input_desk : App
+input_desk = with_subcommand (with_subcommand (with_subcommand lone_desk
+    canon_shape) check_shape) group_shape
+
+-- `crsdesk` with all its commands
+abbrev pub desk : App
+desk = with_subcommand (with_subcommand input_desk same_shape) explain_shape
+
+-- what the words ask for, where the command takes them; the first of them is the program's name
+abbrev pub asked : List Text → Option Request
+asked words =
+    if takes desk words then option_and_then request_of (subcommand_of desk words) else None
+
+-- a word that is no flag: it doesn't begin with a hyphen, or is one
+abbrev pub is_plain_word : Text → Bool
+is_plain_word [] = true
+is_plain_word (byte ∷ []) = true
+is_plain_word (byte ∷ next ∷ rest) = not (byte == 45)
+
+-- a line is refused only where the command doesn't take it, by an error that it gives for the
+-- words; out of memory is another fault
+abbrev pub IsRefusal : List Text → RequestFault → Type 0
+IsRefusal words (Line error) =
+    (kind_of error ≢ kind.OutOfMemory) × (takes desk words ≡ false)
+    × IsAmong (kind_of error) (fault_of desk words)
+IsRefusal words (Memory error) = Unit {0}
+
+-- `clap`'s error is handed on, unless it is out of memory
+abbrev pub HandsOn : Error → RequestFault → Type 0
+HandsOn error (Line shown) = (shown ≡ error) × (kind_of error ≢ kind.OutOfMemory)
+HandsOn error (Memory want) = kind_of error ≡ kind.OutOfMemory

@@ -1,0 +1,47 @@
+-- How a run ends, over one text or without a source.
+use Rattle.std.specs.Prelude.{◌≡◌, ◌≤◌, ◌<◌, ℕ, List, true, false}
+use Rattle.std.specs.Io.KnownBytes.{Appends}
+use Rattle.crs_streams.specs.Streams.{SourceState, SinkState}
+use Rattle.crs_desk.specs.Whole.{IsWhole}
+use Rattle.crs_streams.specs.declared.fault.RunFault.{RunFault}
+use Rattle.crs_streams.specs.declared.fault.RunFault.TheVariants.{ReadFailed, WriteFailed, TooLong}
+use Rattle.crs_streams.specs.declared.fault.RunFault.TheVariants.{TooManyReads, Memory}
+
+-- the sink got what a command writes, and this is its status
+pub record IsWritten (Output : List ℕ → ℕ → Type 0) (old new : SinkState)
+    (status : ℕ) : Type 0 where
+  pub written : List ℕ
+  pub is_output : Output written status
+  pub is_sent : Appends old.contents new.contents written
+  pub is_used : new.used ≡ true
+  pub is_healthy : new.failed ≡ false
+
+-- a run over one text, with this status: the source gave a whole text, and the sink got what is
+-- written for it
+pub record IsAnswered (Output : List ℕ → List ℕ → ℕ → Type 0) (old_source new_source : SourceState)
+    (old_sink new_sink : SinkState) (status : ℕ) : Type 0 where
+  pub text : List ℕ
+  pub is_whole : IsWhole old_source new_source text
+  pub is_written : IsWritten (Output text) old_sink new_sink status
+
+-- what a fault of a run without a source says of its sink before and after
+abbrev pub IsWriteFault : SinkState → SinkState → RunFault → Type 0
+IsWriteFault old new ReadFailed = ⊥
+IsWriteFault old new (TooLong line) = ⊥
+IsWriteFault old new TooManyReads = ⊥
+IsWriteFault old new WriteFailed = new.failed ≡ true
+IsWriteFault old new Memory = new ≡ old
+
+-- what a run's fault says of its source, and of its sink before and after: a fault of the reading
+-- goes before all others, and then nothing was written
+abbrev pub IsRunFault : SourceState → SinkState → SinkState → RunFault → Type 0
+IsRunFault source old new ReadFailed =
+    (source.failed ≡ true) × (source.taken ≤ 1048576) × (new ≡ old)
+IsRunFault source old new (TooLong line) =
+    (line ≡ 0) × (source.failed ≡ false) × (1048576 < source.taken) × (new ≡ old)
+IsRunFault source old new TooManyReads =
+    (source.failed ≡ false) × (source.taken ≤ 1048576) × (source.reads ≡ 1048576)
+    × (source.ended ≡ false) × (new ≡ old)
+IsRunFault source old new WriteFailed =
+    (source.failed ≡ false) × (source.taken ≤ 1048576) × (source.ended ≡ true) × (new.failed ≡ true)
+IsRunFault source old new Memory = (source.failed ≡ false) × (source.taken ≤ 1048576) × (new ≡ old)

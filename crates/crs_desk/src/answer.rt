@@ -1,0 +1,61 @@
+//! The end of a run: a command's answer is written, with its status.
+ghost use Rattle.std.specs.Prelude.{◌≡◌, ◌↔◌, ℕ, List, IfOk, IfErr, IsErrOf, false, true};
+ghost use Rattle.crs_desk.specs.Ending.{IsWritten, IsWriteFault};
+ghost use Rattle.crs_streams.specs.Streams.{fresh_sink};
+
+use crate::{RunFault, Sink};
+use std::alloc::{AllocError, Global};
+use std::io::Write;
+
+/// What a command writes, and its status. Profile.
+pub trait Answer {
+    ghost Output: { Self → List ℕ → ℕ → Type 0 };
+
+    /// The bytes and the status. `AllocError`: memory ran out.
+    fn output(&self, alloc: Global) -> Result<(Vec<u8>, u8), AllocError>
+        ensures { IfOk result (λ output. Output self.now output.0.items output.1) };
+}
+
+/// A command that answers a text by some bytes and a status. Profile.
+pub trait TextCommand {
+    ghost Output: { Self → List ℕ → List ℕ → ℕ → Type 0 };
+
+    /// The bytes and the status for a text. `AllocError`: memory ran out.
+    fn output(&self, alloc: Global, text: &[u8]) -> Result<(Vec<u8>, u8), AllocError>
+        ensures { IfOk result (λ output. Output self.now text.now output.0.items output.1) };
+}
+
+/// The answer of a command for a text. Profile.
+#[derive(Drop)]
+pub struct ForText<'t, C: TextCommand> {
+    /// The command.
+    pub command: C,
+    /// The text.
+    pub text: &'t [u8],
+}
+
+impl<C: TextCommand> Answer for ForText<'_, C> {
+    ghost Output = { λ s written status. C.Output s.command s.text.now written status };
+
+    fn output(&self, alloc: Global) -> Result<(Vec<u8>, u8), AllocError> {
+        self.command.output(alloc, self.text)
+    }
+}
+
+/// Writes the answer, and gives its status. `WriteFailed` where the sink has failed, `Memory` where memory ran out, and
+/// then nothing was written. Profile.
+pub fn write_answer<A: Answer, W: Write>(
+    alloc: Global,
+    answer: &A,
+    w: &mut Sink<W>,
+) -> Result<u8, RunFault>
+    requires { w.old ≡ fresh_sink w.old.contents }
+    ensures answered { IfOk result (IsWritten (A.Output answer.now) w.old w.new) }
+    ensures fault { IfErr result (IsWriteFault w.old w.new) }
+    ensures write_failed { IsErrOf result RunFault.WriteFailed ↔ (w.new.failed ≡ true) }
+    ensures past_failure { w.new.past_failure ≡ false }
+{
+    let (output, status) = answer.output(alloc).map_err(|_| RunFault::Memory)?;
+    w.write_all(&output).map_err(|_| RunFault::WriteFailed)?;
+    Ok(status)
+}

@@ -1,4 +1,0 @@
-mod CheckLemmas
-mod JudgedLemmas
-mod KnownText
-mod PieceLemmas
