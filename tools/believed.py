@@ -26,7 +26,7 @@ THEOREMS = ROOT / "docs" / "THEOREMS.md"
 LIBRARIES = (
     "crs_decimal crs_text crs_shape crs_value crs_same crs_normal crs_writer crs_answer crs_canon"
     " crs_rules crs_streams crs_rules_file crs_group crs_explain crs_requests crs_line_request"
-    " crs_desk crs_calls crs_c"
+    " crs_desk crs_c"
 ).split()
 # Those of which no other crate exports anything: their calls are for the crates above alone, and no claim rests on their
 # clauses.

@@ -2,11 +2,11 @@
 use Rattle.std.proofs.Common.{◌≡◌, List, Option, Some, MatchOption, ℕ, inl, inr, ap, subst}
 use Rattle.crs_value.specs.declared.values.crs.Crs.{Crs}
 use Rattle.crs_value.specs.declared.values.level.Level.{Level}
-use Rattle.crs_calls.specs.declared.refused.Refused.{Refused}
-use Rattle.crs_calls.specs.Answers.{Answer, AnswerPlaces, IsAtLevel}
-use Rattle.crs_calls.specs.Codes.{level_numbered}
-use Rattle.crs_calls.specs.Comparison.{IsMadeOfBoth, IsPairFault}
-use Rattle.crs_calls.specs.Pairs.{IsPairAnswer, IsSecondAnswer}
+use Rattle.crs_c.specs.declared.refused.Refused.{Refused}
+use Rattle.crs_c.specs.Answers.{Answer, AnswerPlaces, IsAtLevel}
+use Rattle.crs_c.specs.Codes.{level_numbered}
+use Rattle.crs_c.specs.Comparison.{IsMadeOfBoth, IsPairFault}
+use Rattle.crs_c.specs.Pairs.{IsPairAnswer, IsSecondAnswer}
 
 -- there is a level of the number
 pub at-level : {A : Type 0} (number : ℕ) (level : Level) (Is : Level → Answer A) (old new : AnswerPlaces A) (code : ℕ)

@@ -1,7 +1,7 @@
 -- What crsdesk_refusal_name and crsdesk_version answer.
 use Rattle.std.specs.Prelude.{◌≡◌, ◌⊎◌, ℕ, List, IsTrue, codes}
 use Rattle.crs_text.specs.Refusal.{is_refusal, name_of}
-use Rattle.crs_calls.specs.Buffers.{Buffer, IsGiven}
+use Rattle.crs_c.specs.Buffers.{Buffer, IsGiven}
 
 -- the version of the library
 abbrev pub version : List ℕ

@@ -2,11 +2,11 @@
 ghost use Rattle.std.specs.Prelude.{◌≡◌, length};
 ghost use Rattle.std.specs.Borrow.{sem};
 ghost use Rattle.crs_group.specs.Catalogue.{CatalogueParts};
-ghost use Rattle.crs_calls.specs.Catalogues.{IsAdded, IsAddedUnder, IsMadeEmpty, IsPieceAt, line_at};
-ghost use Rattle.crs_calls.specs.Held.{HeldParts};
+ghost use Rattle.crs_c.specs.Catalogues.{IsAdded, IsAddedUnder, IsMadeEmpty, IsPieceAt, line_at};
+ghost use Rattle.crs_c.specs.Held.{HeldParts};
 ghost use Rattle.crs_c.specs.Places.{catalogue_at, has_room, rules_at};
 
-use crs_calls::{
+use crate::{
     HeldRules, Numbered, Piece, Standing, add_text, add_text_under, drop_catalogue, group_count,
     line_number, new_catalogue, text_piece,
 };

@@ -3,9 +3,7 @@
 ghost use Rattle.std.specs.Prelude.{◌≡◌};
 ghost use Rattle.crs_c.specs.Layout.{marked_refusal, marks, sizes};
 
-use crs_calls::{
-    Entry, Explained, Form, HeldRules, Numbered, Piece, Refused, RulesStanding, Standing,
-};
+use crate::{Entry, Explained, Form, HeldRules, Numbered, Piece, Refused, RulesStanding, Standing};
 use crs_group::Catalogue;
 use std::mem::{align_of, size_of};
 

@@ -1,8 +1,8 @@
 //! The names of refusals, and the version.
-ghost use Rattle.crs_calls.specs.Buffers.{IsGiven};
+ghost use Rattle.crs_c.specs.Buffers.{IsGiven};
 ghost use Rattle.crs_c.specs.Names.{IsNameAnswer, version};
 
-use crs_calls::{NO_NUMBER, give};
+use crate::{NO_NUMBER, give};
 use crs_text::Refusal;
 
 /// The name of a refusal's number.

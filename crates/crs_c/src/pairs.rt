@@ -1,12 +1,12 @@
 //! Whether two texts spell the same CRS, and where they differ.
-ghost use Rattle.crs_calls.specs.Explain.{IsDifferencesAnswer};
-ghost use Rattle.crs_calls.specs.ExplainPieces.{IsDifferencePiecesAnswer};
-ghost use Rattle.crs_calls.specs.FirstPart.{IsPartAnswer};
-ghost use Rattle.crs_calls.specs.PieceBuffers.{buffers_of};
-ghost use Rattle.crs_calls.specs.Same.{IsSameAnswer};
+ghost use Rattle.crs_c.specs.Explain.{IsDifferencesAnswer};
+ghost use Rattle.crs_c.specs.ExplainPieces.{IsDifferencePiecesAnswer};
+ghost use Rattle.crs_c.specs.FirstPart.{IsPartAnswer};
+ghost use Rattle.crs_c.specs.PieceBuffers.{buffers_of};
+ghost use Rattle.crs_c.specs.Same.{IsSameAnswer};
 
-use crs_calls::pieces::{DifferencePieces, FirstPart, Lines, Sameness, made_of_both};
-use crs_calls::{NO_LEVEL, OK, Refused, give, give_pieces, level_numbered};
+use crate::comparison::{DifferencePieces, FirstPart, Lines, Sameness, made_of_both};
+use crate::{NO_LEVEL, OK, Refused, give, give_pieces, level_numbered};
 use std::alloc::Global;
 
 /// Whether two texts spell the same CRS at a level.

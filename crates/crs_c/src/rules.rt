@@ -1,12 +1,12 @@
 //! Rules in memory of the caller's, and forms of texts under them.
 ghost use Rattle.std.specs.Borrow.{sem};
-ghost use Rattle.crs_calls.specs.Held.{HeldParts, nothing_held};
-ghost use Rattle.crs_calls.specs.RulesCalls.{IsFileRead, IsFormed};
-ghost use Rattle.crs_calls.specs.Pieces.{IsPiece};
+ghost use Rattle.crs_c.specs.Held.{HeldParts, nothing_held};
+ghost use Rattle.crs_c.specs.RulesCalls.{IsFileRead, IsFormed};
+ghost use Rattle.crs_c.specs.Pieces.{IsPiece};
 ghost use Rattle.crs_c.specs.Places.{has_room_for_rules, rules_at};
 
 use crate::catalogue::Room;
-use crs_calls::{
+use crate::{
     Form, HeldRules, Piece, RulesStanding, add_file, drop_rules, form_piece, make_form, no_rules,
 };
 use std::alloc::Global;

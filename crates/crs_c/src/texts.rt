@@ -1,18 +1,16 @@
 //! What a text spells, or why it is refused, and canonical texts.
-ghost use Rattle.crs_calls.specs.Canon.{IsCanonAnswer};
-ghost use Rattle.crs_calls.specs.Check.{IsCheckAnswer};
-ghost use Rattle.crs_calls.specs.Each.{IsEachAnswer};
-ghost use Rattle.crs_calls.specs.Explain.{IsExplainAnswer};
-ghost use Rattle.crs_calls.specs.ExplainPieces.{IsRefusalPiecesAnswer};
-ghost use Rattle.crs_calls.specs.PieceBuffers.{buffers_of};
+ghost use Rattle.crs_c.specs.Canon.{IsCanonAnswer};
+ghost use Rattle.crs_c.specs.Check.{IsCheckAnswer};
+ghost use Rattle.crs_c.specs.Each.{IsEachAnswer};
+ghost use Rattle.crs_c.specs.Explain.{IsExplainAnswer};
+ghost use Rattle.crs_c.specs.ExplainPieces.{IsRefusalPiecesAnswer};
+ghost use Rattle.crs_c.specs.PieceBuffers.{buffers_of};
 
-use crs_calls::pieces::{
-    answer_entries, explained_refusal, explanation, give_explanation, kind_number, kind_of_text,
-    tell,
-};
-use crs_calls::{
-    Entry, Explained, NO_LEVEL, NO_MEMORY, OK, REFUSED, Refused, give, level_numbered,
-};
+use crate::canon::answer_entries;
+use crate::codes::kind_number;
+use crate::explain::{explained_refusal, explanation, give_explanation, kind_of_text};
+use crate::refused::tell;
+use crate::{Entry, Explained, NO_LEVEL, NO_MEMORY, OK, REFUSED, Refused, give, level_numbered};
 use crs_canon::canon;
 use std::alloc::Global;
 
@@ -22,7 +20,7 @@ use std::alloc::Global;
 /// refused. What a code doesn't mention is as before. ISO 19162:2019, "Coordinate reference systems"; the checks are
 /// the profile's.
 #[unsafe(no_mangle)]
-#[tactic(auto, unfolding(crs_calls::specs::Check::IsCheckAnswer))]
+#[tactic(auto, unfolding(crate::specs::Check::IsCheckAnswer))]
 pub extern "C" fn crsdesk_check(
     alloc: Global,
     text: &[u8],
@@ -49,7 +47,7 @@ pub extern "C" fn crsdesk_check(
 /// 0: the explanation is at the front of `out`; `length` is its number of bytes. 3: memory was refused. 5: it has
 /// more bytes than `out`; `length` is their number. What a code doesn't mention is as before. Profile.
 #[unsafe(no_mangle)]
-#[tactic(auto, unfolding(crs_calls::specs::Explain::IsExplainAnswer))]
+#[tactic(auto, unfolding(crate::specs::Explain::IsExplainAnswer))]
 pub extern "C" fn crsdesk_explain(
     alloc: Global,
     text: &[u8],
@@ -78,7 +76,7 @@ pub extern "C" fn crsdesk_explain(
 /// `out` or more pieces than `ends` has room for; `length` and `count` are their numbers, and a buffer with the room has
 /// what it has with 1. What a code doesn't mention is as before. Profile.
 #[unsafe(no_mangle)]
-#[tactic(auto, unfolding(crs_calls::specs::ExplainPieces::IsRefusalPiecesAnswer, crs_calls::specs::ExplainPieces::IsRefusalExplained))]
+#[tactic(auto, unfolding(crate::specs::ExplainPieces::IsRefusalPiecesAnswer, crate::specs::ExplainPieces::IsRefusalExplained))]
 pub extern "C" fn crsdesk_refusal_pieces(
     alloc: Global,
     text: &[u8],
@@ -108,7 +106,7 @@ pub extern "C" fn crsdesk_refusal_pieces(
 /// why. 3: memory was refused. 4: there is no such level. 5: the canonical text has more bytes than `out`; `length`
 /// is their number. What a code doesn't mention is as before. Profile.
 #[unsafe(no_mangle)]
-#[tactic(auto, unfolding(crs_calls::specs::Canon::IsCanonAt))]
+#[tactic(auto, unfolding(crate::specs::Canon::IsCanonAt))]
 pub extern "C" fn crsdesk_canon(
     alloc: Global,
     text: &[u8],
@@ -137,7 +135,7 @@ pub extern "C" fn crsdesk_canon(
 /// text ends at `written_end`, or 1, and they say why their text spells no CRS. All others, the rest of `out` and what
 /// the caller sets are as before. Profile.
 #[unsafe(no_mangle)]
-#[tactic(auto, unfolding(crs_calls::specs::Each::IsEachAt))]
+#[tactic(auto, unfolding(crate::specs::Each::IsEachAt))]
 pub extern "C" fn crsdesk_canon_each(
     alloc: Global,
     texts: &[u8],

@@ -1,11 +1,11 @@
 use Rattle.crs_c.proofs.Held.{held_at, hands_over, writes_back, dropped, goes_dropped, ends}
 use Rattle.crs_c.proofs.Steps.{[], ◌∷◌, ◌++◌, refl, w64, proved, full_share, id⊢, sep, sem, ftrue, flft, named, vint, fact, tables, ‵, ◌⊛◌, prop, ◌$◌, ◌∵◌, !, qed, done, move, drop, show, split, join, fsplit, suffices, frame, enter, of_opd, load, look, stop, no_more, and_then, returns, alloc_all, pass_all, free_all, look_at, get, through, sets, u8, u64, uint_Makes, uint_vals, uint_Tells, Ptr, block_ptr, lies_at, rawptr_vals, rawptr_Tells, shr_slice_vals, shr_slice_Tells, types_at, owns, nothing, owned, heard, walk_of, says, framed, WpFn, CatalogueParts, catalogue_row, catalogue_laws, standing_row, standing_laws, catalogue_at}
-use Rattle.crs_calls.specs.Catalogues.{IsAdded}
+use Rattle.crs_c.specs.Catalogues.{IsAdded}
 use Rattle.crs_c.specs.contracts.catalogue.crsdesk_catalogue_add as f
 use Rattle.crs_c.proofs.catalogue.crsdesk_catalogue_add.Statement.{statement}
 use Rattle.crs_c.proofs.catalogue.crsdesk_catalogue_add.Code as code
-use Rattle.crs_calls.specs.contracts.add_text as g
-use Rattle.crs_calls.proofs.add_text.Met.{met}
+use Rattle.crs_c.specs.contracts.add_text as g
+use Rattle.crs_c.proofs.add_text.Met.{met}
 
 pub crsdesk_catalogue_add_spec : {M : Type 1} → statement M
 unfolding catalogue_at

@@ -1,11 +1,11 @@
 use Rattle.crs_c.proofs.Held.{held_at, hands_over, word_out, dropped, goes_dropped, ends}
 use Rattle.crs_c.proofs.Steps.{◌≡◌, [], ◌∷◌, ◌++◌, refl, ap, ◌∙◌, w64, proved, full_share, id⊢, sep, sem, ftrue, flft, named, vint, vstruct, of_list, fact, tables, ‵, ◌⊛◌, prop, ◌$◌, ◌∵◌, !, qed, done, move, drop, show, use2, split, join, fsplit, fpick, feq_l, rewrite, suffices, frame, whole, sub, enter, of_opd, load, look, store, stop, fld, no_more, and_then, assigns, returns, alloc_all, pass_all, free_all, look_at, get, get_in, through, sets, lands_as, u8, u64, layout, uint_Makes, uint_vals, uint_Tells, Ptr, block_ptr, lies_at, rawptr_vals, rawptr_Tells, shr_slice_vals, shr_slice_Tells, types_at, owns, nothing, owned, heard, only, walk_of, says, framed, part_in, both, true, ◌&&◌, has_ty, part_at, WpFn, CatalogueParts, catalogue_row, catalogue_laws, rules_row, rules_laws, standing_row, standing_laws, catalogue_at, rules_at, HeldParts}
-use Rattle.crs_calls.specs.Catalogues.{IsAddedUnder}
+use Rattle.crs_c.specs.Catalogues.{IsAddedUnder}
 use Rattle.crs_c.specs.contracts.catalogue.crsdesk_catalogue_add_under as f
 use Rattle.crs_c.proofs.catalogue.crsdesk_catalogue_add_under.Statement.{statement}
 use Rattle.crs_c.proofs.catalogue.crsdesk_catalogue_add_under.Code as code
-use Rattle.crs_calls.specs.contracts.add_text_under as g
-use Rattle.crs_calls.proofs.add_text_under.Met.{met}
+use Rattle.crs_c.specs.contracts.add_text_under as g
+use Rattle.crs_c.proofs.add_text_under.Met.{met}
 
 pub crsdesk_catalogue_add_under_spec : {M : Type 1} → statement M
 unfolding catalogue_at rules_at

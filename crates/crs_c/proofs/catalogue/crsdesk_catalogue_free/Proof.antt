@@ -3,8 +3,8 @@ use Rattle.crs_c.proofs.Steps.{[], ◌∷◌, refl, ap, proved, full_share, id�
 use Rattle.crs_c.specs.contracts.catalogue.crsdesk_catalogue_free as f
 use Rattle.crs_c.proofs.catalogue.crsdesk_catalogue_free.Statement.{statement}
 use Rattle.crs_c.proofs.catalogue.crsdesk_catalogue_free.Code as code
-use Rattle.crs_calls.specs.contracts.drop_catalogue as g
-use Rattle.crs_calls.proofs.drop_catalogue.Met.{met}
+use Rattle.crs_c.specs.contracts.drop_catalogue as g
+use Rattle.crs_c.proofs.drop_catalogue.Met.{met}
 
 pub crsdesk_catalogue_free_spec : {M : Type 1} → statement M
 unfolding catalogue_at has_room

@@ -3,8 +3,8 @@ use Rattle.crs_c.proofs.Steps.{◌≡◌, [], ◌∷◌, refl, w64, length, prov
 use Rattle.crs_c.specs.contracts.catalogue.crsdesk_catalogue_groups as f
 use Rattle.crs_c.proofs.catalogue.crsdesk_catalogue_groups.Statement.{statement}
 use Rattle.crs_c.proofs.catalogue.crsdesk_catalogue_groups.Code as code
-use Rattle.crs_calls.specs.contracts.group_count as g
-use Rattle.crs_calls.proofs.group_count.Met.{met}
+use Rattle.crs_c.specs.contracts.group_count as g
+use Rattle.crs_c.proofs.group_count.Met.{met}
 
 pub crsdesk_catalogue_groups_spec : {M : Type 1} → statement M
 unfolding catalogue_at

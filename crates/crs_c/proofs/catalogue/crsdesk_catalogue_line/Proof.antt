@@ -3,11 +3,11 @@ use Rattle.crs_c.proofs.Steps.{◌≡◌, [], ◌∷◌, ◌++◌, refl, w64, pr
 use Rattle.crs_c.specs.contracts.catalogue.crsdesk_catalogue_line as f
 use Rattle.crs_c.proofs.catalogue.crsdesk_catalogue_line.Statement.{statement}
 use Rattle.crs_c.proofs.catalogue.crsdesk_catalogue_line.Code as code
-use Rattle.crs_calls.specs.contracts.line_number as g
-use Rattle.crs_calls.proofs.line_number.Met.{met}
-use Rattle.crs_calls.specs.Catalogues.{line_at}
-use Rattle.crs_calls.specs.contracts.catalogue.Numbered as numbered
-use Rattle.crs_calls.proofs.catalogue.Numbered.TheLaws as numbered_laws
+use Rattle.crs_c.specs.contracts.line_number as g
+use Rattle.crs_c.proofs.line_number.Met.{met}
+use Rattle.crs_c.specs.Catalogues.{line_at}
+use Rattle.crs_c.specs.contracts.calls_catalogue.Numbered as numbered
+use Rattle.crs_c.proofs.calls_catalogue.Numbered.TheLaws as numbered_laws
 
 pub crsdesk_catalogue_line_spec : {M : Type 1} → statement M
 unfolding catalogue_at

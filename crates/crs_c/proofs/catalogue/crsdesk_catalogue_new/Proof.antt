@@ -1,11 +1,11 @@
 use Rattle.crs_c.proofs.Held.{hands_over, pair_out, dropped, goes_dropped, ends}
 use Rattle.crs_c.proofs.Steps.{[], ◌∷◌, ◌++◌, refl, sym, subst, w32, proved_at, full_share, id⊢, sep, ent, sem, ftrue, froom, vint, fact, tables, ‵, ◌⊛◌, prop, ◌$◌, ◌∵◌, !, qed, done, move, drop, show, use1, use2, split, join, fsplit, regoal, suffices, frame, whole, sub, enter, of_opd, init, stop, fld, no_more, and_then, assigns, returns, alloc_all, pass_all, free_all, look_at, get, get_in, through, sets, lands_as, u32, layout, uint_Makes, uint_Tells, uint_Lawful, Ptr, block_ptr, room_at, lies_at, in_a_block, rawptr_vals, rawptr_Tells, Vals, types_at, owns, nothing, owned, heard, walk_of, says, framed, part_in, one, part_at, WpFn, global_row, global_laws, CatalogueParts, catalogue_row, catalogue_laws, catalogue_at, has_room}
-use Rattle.crs_calls.specs.Catalogues.{IsMadeEmpty}
+use Rattle.crs_c.specs.Catalogues.{IsMadeEmpty}
 use Rattle.crs_c.specs.contracts.catalogue.crsdesk_catalogue_new as f
 use Rattle.crs_c.proofs.catalogue.crsdesk_catalogue_new.Statement.{statement}
 use Rattle.crs_c.proofs.catalogue.crsdesk_catalogue_new.Code as code
-use Rattle.crs_calls.specs.contracts.new_catalogue as g
-use Rattle.crs_calls.proofs.new_catalogue.Met.{met}
+use Rattle.crs_c.specs.contracts.new_catalogue as g
+use Rattle.crs_c.proofs.new_catalogue.Met.{met}
 
 pub crsdesk_catalogue_new_spec : {M : Type 1} → statement M
 unfolding catalogue_at has_room

@@ -3,9 +3,9 @@ use Rattle.crs_c.proofs.Steps.{◌≡◌, [], ◌∷◌, ◌++◌, refl, w64, pr
 use Rattle.crs_c.specs.contracts.catalogue.crsdesk_catalogue_piece as f
 use Rattle.crs_c.proofs.catalogue.crsdesk_catalogue_piece.Statement.{statement}
 use Rattle.crs_c.proofs.catalogue.crsdesk_catalogue_piece.Code as code
-use Rattle.crs_calls.specs.contracts.text_piece as g
-use Rattle.crs_calls.proofs.text_piece.Met.{met}
-use Rattle.crs_calls.specs.Catalogues.{IsPieceAt}
+use Rattle.crs_c.specs.contracts.text_piece as g
+use Rattle.crs_c.proofs.text_piece.Met.{met}
+use Rattle.crs_c.specs.Catalogues.{IsPieceAt}
 
 pub crsdesk_catalogue_piece_spec : {M : Type 1} → statement M
 unfolding catalogue_at

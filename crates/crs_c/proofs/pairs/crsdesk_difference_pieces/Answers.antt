@@ -1,6 +1,6 @@
 use Rattle.crs_explain.specs.Differing.{AreDifferencePieces}
-use Rattle.crs_calls.specs.PieceBuffers.{GivesPieces}
-use Rattle.crs_calls.specs.Pairs.{IsPairAnswer}
+use Rattle.crs_c.specs.PieceBuffers.{GivesPieces}
+use Rattle.crs_c.specs.Pairs.{IsPairAnswer}
 use Rattle.crs_c.proofs.PairLemmas.{at-level, pair-fault, pair-made}
 use Rattle.crs_c.proofs.pairs.crsdesk_difference_pieces.Goals as goal
 

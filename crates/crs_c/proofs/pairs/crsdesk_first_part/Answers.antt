@@ -1,7 +1,7 @@
 use Rattle.std.proofs.Common.{ℕ, Vec, Global}
-use Rattle.crs_calls.specs.FirstPart.{IsFirstPartText}
-use Rattle.crs_calls.specs.Buffers.{Gives}
-use Rattle.crs_calls.specs.Pairs.{IsPairAnswer}
+use Rattle.crs_c.specs.FirstPart.{IsFirstPartText}
+use Rattle.crs_c.specs.Buffers.{Gives}
+use Rattle.crs_c.specs.Pairs.{IsPairAnswer}
 use Rattle.crs_c.proofs.PairLemmas.{at-level, pair-fault, pair-made}
 use Rattle.crs_c.proofs.pairs.crsdesk_first_part.Goals as goal
 

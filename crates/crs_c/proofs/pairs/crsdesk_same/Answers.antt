@@ -1,7 +1,7 @@
 use Rattle.std.proofs.Common.{◌↔◌, IsTrue, refl, rules}
 use Rattle.crs_same.specs.Prelude.{SameCrs}
-use Rattle.crs_calls.specs.Same.{TellsSame}
-use Rattle.crs_calls.specs.Pairs.{IsPairAnswer}
+use Rattle.crs_c.specs.Same.{TellsSame}
+use Rattle.crs_c.specs.Pairs.{IsPairAnswer}
 use Rattle.crs_c.proofs.PairLemmas.{at-level, pair-fault, pair-made}
 use Rattle.crs_c.proofs.pairs.crsdesk_same.Goals as goal
 

@@ -1,13 +1,13 @@
 use Rattle.crs_c.proofs.Held.{held_at, hands_over, writes_back, dropped, goes_dropped, ends}
 use Rattle.crs_c.proofs.Steps.{[], ◌∷◌, ◌++◌, refl, proved, full_share, id⊢, sep, sem, ftrue, flft, named, fact, tables, ‵, ◌⊛◌, prop, ◌$◌, ◌∵◌, !, qed, done, move, drop, show, split, join, fsplit, suffices, frame, enter, of_opd, load, look, stop, no_more, and_then, returns, alloc_all, pass_all, free_all, look_at, get, through, sets, u8, Ptr, block_ptr, lies_at, rawptr_vals, rawptr_Tells, shr_slice_vals, shr_slice_Tells, types_at, owns, nothing, heard, walk_of, says, framed, WpFn, rules_row, rules_laws, rules_at, HeldParts}
-use Rattle.crs_calls.specs.RulesCalls.{IsFileRead}
-use Rattle.crs_calls.specs.contracts.rules.RulesStanding as told_type
-use Rattle.crs_calls.proofs.rules.RulesStanding.TheLaws as told_laws
+use Rattle.crs_c.specs.RulesCalls.{IsFileRead}
+use Rattle.crs_c.specs.contracts.calls_rules.RulesStanding as told_type
+use Rattle.crs_c.proofs.calls_rules.RulesStanding.TheLaws as told_laws
 use Rattle.crs_c.specs.contracts.rules.crsdesk_rules_add as f
 use Rattle.crs_c.proofs.rules.crsdesk_rules_add.Statement.{statement}
 use Rattle.crs_c.proofs.rules.crsdesk_rules_add.Code as code
-use Rattle.crs_calls.specs.contracts.add_file as g
-use Rattle.crs_calls.proofs.add_file.Met.{met}
+use Rattle.crs_c.specs.contracts.add_file as g
+use Rattle.crs_c.proofs.add_file.Met.{met}
 
 pub crsdesk_rules_add_spec : {M : Type 1} → statement M
 unfolding rules_at

@@ -1,13 +1,13 @@
 use Rattle.crs_c.proofs.Held.{held_at, hands_over, writes_back, dropped, goes_dropped, ends}
 use Rattle.crs_c.proofs.Steps.{[], ◌∷◌, ◌++◌, refl, w32, proved, full_share, id⊢, sep, sem, ftrue, flft, named, vint, fact, tables, ‵, ◌⊛◌, prop, ◌$◌, ◌∵◌, !, qed, done, move, drop, show, split, join, fsplit, suffices, frame, enter, of_opd, load, look, stop, no_more, and_then, returns, alloc_all, pass_all, free_all, look_at, get, through, sets, u8, u32, uint_Makes, uint_vals, uint_Tells, Ptr, block_ptr, lies_at, rawptr_vals, rawptr_Tells, shr_slice_vals, shr_slice_Tells, types_at, owns, nothing, owned, heard, walk_of, says, framed, WpFn, rules_row, rules_laws, rules_at, HeldParts}
-use Rattle.crs_calls.specs.RulesCalls.{IsFormed}
-use Rattle.crs_calls.specs.contracts.rules.Form as told_type
-use Rattle.crs_calls.proofs.rules.Form.TheLaws as told_laws
+use Rattle.crs_c.specs.RulesCalls.{IsFormed}
+use Rattle.crs_c.specs.contracts.calls_rules.Form as told_type
+use Rattle.crs_c.proofs.calls_rules.Form.TheLaws as told_laws
 use Rattle.crs_c.specs.contracts.rules.crsdesk_rules_form as f
 use Rattle.crs_c.proofs.rules.crsdesk_rules_form.Statement.{statement}
 use Rattle.crs_c.proofs.rules.crsdesk_rules_form.Code as code
-use Rattle.crs_calls.specs.contracts.make_form as g
-use Rattle.crs_calls.proofs.make_form.Met.{met}
+use Rattle.crs_c.specs.contracts.make_form as g
+use Rattle.crs_c.proofs.make_form.Met.{met}
 
 pub crsdesk_rules_form_spec : {M : Type 1} → statement M
 unfolding rules_at

@@ -3,8 +3,8 @@ use Rattle.crs_c.proofs.Steps.{[], ◌∷◌, refl, ap, proved, full_share, id�
 use Rattle.crs_c.specs.contracts.rules.crsdesk_rules_free as f
 use Rattle.crs_c.proofs.rules.crsdesk_rules_free.Statement.{statement}
 use Rattle.crs_c.proofs.rules.crsdesk_rules_free.Code as code
-use Rattle.crs_calls.specs.contracts.drop_rules as g
-use Rattle.crs_calls.proofs.drop_rules.Met.{met}
+use Rattle.crs_c.specs.contracts.drop_rules as g
+use Rattle.crs_c.proofs.drop_rules.Met.{met}
 
 pub crsdesk_rules_free_spec : {M : Type 1} → statement M
 unfolding rules_at has_room_for_rules

@@ -1,11 +1,11 @@
 use Rattle.crs_c.proofs.Held.{hands_over, word_out, dropped, goes_dropped, ends}
 use Rattle.crs_c.proofs.Steps.{◌≡◌, [], ◌∷◌, ◌++◌, refl, sym, ap, only, subst, proved_at, full_share, id⊢, ent, ftrue, froom, tables, ‵, ◌⊛◌, prop, ◌$◌, ◌∵◌, !, qed, done, move, drop, use1, use2, split, join, fsplit, rewrite, regoal, suffices, frame, enter, of_opd, init, stop, no_more, and_then, assigns, returns, alloc_all, pass_all, free_all, look_at, get, through, sets, lands_as, unit_lit, vunit, feq_i, layout, Ptr, block_ptr, room_at, lies_at, in_a_block, rawptr_vals, rawptr_Tells, Vals, types_at, owns, nothing, heard, walk_of, framed, part_in, one, part_at, WpFn, global_row, global_laws, rules_row, rules_laws, rules_at, has_room_for_rules, HeldParts}
-use Rattle.crs_calls.specs.Held.{nothing_held}
+use Rattle.crs_c.specs.Held.{nothing_held}
 use Rattle.crs_c.specs.contracts.rules.crsdesk_rules_new as f
 use Rattle.crs_c.proofs.rules.crsdesk_rules_new.Statement.{statement}
 use Rattle.crs_c.proofs.rules.crsdesk_rules_new.Code as code
-use Rattle.crs_calls.specs.contracts.no_rules as g
-use Rattle.crs_calls.proofs.no_rules.Met.{met}
+use Rattle.crs_c.specs.contracts.no_rules as g
+use Rattle.crs_c.proofs.no_rules.Met.{met}
 
 pub crsdesk_rules_new_spec : {M : Type 1} → statement M
 unfolding rules_at has_room_for_rules

@@ -3,9 +3,9 @@ use Rattle.crs_c.proofs.Steps.{◌≡◌, [], ◌∷◌, ◌++◌, refl, w64, pr
 use Rattle.crs_c.specs.contracts.rules.crsdesk_rules_piece as f
 use Rattle.crs_c.proofs.rules.crsdesk_rules_piece.Statement.{statement}
 use Rattle.crs_c.proofs.rules.crsdesk_rules_piece.Code as code
-use Rattle.crs_calls.specs.contracts.form_piece as g
-use Rattle.crs_calls.proofs.form_piece.Met.{met}
-use Rattle.crs_calls.specs.Pieces.{IsPiece}
+use Rattle.crs_c.specs.contracts.form_piece as g
+use Rattle.crs_c.proofs.form_piece.Met.{met}
+use Rattle.crs_c.specs.Pieces.{IsPiece}
 
 pub crsdesk_rules_piece_spec : {M : Type 1} → statement M
 unfolding rules_at

@@ -1,4 +1,0 @@
-mod ComparisonLemmas
-mod EachLemmas
-mod ExplainLemmas
-mod WordLemmas
