@@ -33,7 +33,7 @@ impl SetMember for Ident<'_> {
     }
 
     fn same_is_equivalence(&self) {
-        laws::same_ident_is_equivalence();
+        matching_laws::same_ident_is_equivalence();
     }
 }
 
@@ -67,7 +67,7 @@ impl SetMember for Member<'_> {
     }
 
     fn same_is_equivalence(&self) {
-        laws::same_part_is_equivalence();
+        matching_laws::same_part_is_equivalence();
     }
 }
 
@@ -86,7 +86,7 @@ impl SetMember for GeoidModel<'_> {
     }
 
     fn same_is_equivalence(&self) {
-        laws::same_part_is_equivalence();
+        matching_laws::same_part_is_equivalence();
     }
 }
 
@@ -127,7 +127,7 @@ impl SetMember for Parameter<'_> {
     }
 
     fn same_is_equivalence(&self) {
-        laws::same_parameter_is_equivalence();
+        matching_laws::same_parameter_is_equivalence();
     }
 }
 

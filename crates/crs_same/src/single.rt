@@ -110,7 +110,7 @@ fn is_metre(unit: &Unit<'_>, level: Level) -> bool
 pub fn same_length<'a>(a: &Option<Unit<'a>>, b: &Option<Unit<'a>>, level: Level) -> bool
     ensures { IsTrue result ↔ SameLength level a.now b.now }
 {
-    laws::same_length_is_equivalence();
+    matching_laws::same_length_is_equivalence();
     match (a, b) {
         (None, None) => true,
         (Some(x), None) => is_metre(x, level),

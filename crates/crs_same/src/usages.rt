@@ -60,6 +60,6 @@ impl SetMember for Usage<'_> {
     }
 
     fn same_is_equivalence(&self) {
-        laws::same_part_is_equivalence();
+        matching_laws::same_part_is_equivalence();
     }
 }
