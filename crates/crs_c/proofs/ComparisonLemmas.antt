@@ -3,7 +3,7 @@ use Rattle.std.proofs.Common.{◌≡◌, List, Result, Ok, Err, MatchResult, ℕ
 use Rattle.crs_value.specs.declared.values.crs.Crs.{Crs}
 use Rattle.crs_value.specs.Prelude.{Spells}
 use Rattle.crs_c.specs.declared.refused.Refused.{Refused}
-use Rattle.crs_c.specs.Comparison.{IsMadeBehind, IsMadeOfBoth, IsPairFault, IsSecondFault}
+use Rattle.crs_c.specs.inner.Comparison.{IsMadeBehind, IsMadeOfBoth, IsPairFault, IsSecondFault}
 
 -- the first text spells a CRS: what was made with the second text, or why nothing was
 pub first-read : {M : Type 0} (Like : Crs → Crs → M → Type 0) (first second : List ℕ) (a : Crs) (result : Result M ℕ) (old new : Refused)

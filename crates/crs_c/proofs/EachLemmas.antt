@@ -10,7 +10,7 @@ use Rattle.crs_c.specs.declared.canon.Entry.{Entry}
 use Rattle.crs_value.specs.Prelude.{IsFaultOfText}
 use Rattle.crs_writer.specs.Prelude.{IsCanonicalOf}
 use Rattle.crs_c.specs.Each.{AreAnsweredBy, EndsAt, IsAnsweredBy, IsEachAt, NeedsMore, text_of}
-use Rattle.crs_c.specs.Turns.{IsTurn, IsWritten, refused_entry, with_bytes}
+use Rattle.crs_c.specs.inner.Turns.{IsTurn, IsWritten, refused_entry, with_bytes}
 
 -- one entry more at the end
 pub answered_more : (level : Level) (texts : List ℕ) (at : ℕ) (entries answered : List Entry) (written : List ℕ) (entry one : Entry) (own : List ℕ) →

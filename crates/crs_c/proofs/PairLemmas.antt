@@ -5,7 +5,7 @@ use Rattle.crs_value.specs.declared.values.level.Level.{Level}
 use Rattle.crs_c.specs.declared.refused.Refused.{Refused}
 use Rattle.crs_c.specs.Answers.{Answer, AnswerPlaces, IsAtLevel}
 use Rattle.crs_c.specs.Codes.{level_numbered}
-use Rattle.crs_c.specs.Comparison.{IsMadeOfBoth, IsPairFault}
+use Rattle.crs_c.specs.inner.Comparison.{IsMadeOfBoth, IsPairFault}
 use Rattle.crs_c.specs.Pairs.{IsPairAnswer, IsSecondAnswer}
 
 -- there is a level of the number

@@ -4,7 +4,6 @@ pub mod Canon
 pub mod Catalogues
 pub mod Check
 pub mod Codes
-pub mod Comparison
 pub mod Each
 pub mod Explain
 pub mod ExplainPieces
@@ -19,4 +18,4 @@ pub mod Places
 pub mod Refusals
 pub mod RulesCalls
 pub mod Same
-pub mod Turns
+pub mod inner

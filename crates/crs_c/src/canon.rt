@@ -2,7 +2,7 @@
 ghost use Rattle.std.specs.Prelude.{◌≡◌, ◌≤◌, length};
 ghost use Rattle.crs_text.specs.Fault.{refusal_of};
 ghost use Rattle.crs_c.specs.Each.{IsEachAt, text_of};
-ghost use Rattle.crs_c.specs.Turns.{IsTurn, IsWritten, refused_entry};
+ghost use Rattle.crs_c.specs.inner.Turns.{IsTurn, IsWritten, refused_entry};
 
 use crate::buffer::give;
 use crate::codes::{NO_MEMORY, OK, REFUSED};
@@ -88,7 +88,7 @@ fn text_of(texts: &[u8], entry: Entry) -> &[u8]
     front_of(rest, entry.end.saturating_sub(entry.begin))
 }
 
-#[tactic(auto, unfolding(crate::specs::Turns::IsWritten, crate::specs::Buffers::IsGiven))]
+#[tactic(auto, unfolding(crate::specs::inner::Turns::IsWritten, crate::specs::Buffers::IsGiven))]
 fn written(canonical: &[u8], entry: Entry, out: &mut [u8], at: usize) -> (Entry, u32)
     requires { at ≤ length out.old }
     ensures { IsWritten canonical.now at entry out.old result.0 out.new result.1 }

@@ -2,7 +2,7 @@
 //! differ.
 ghost use Rattle.std.specs.Prelude.{◌≡◌, IfOk, MatchResult};
 ghost use Rattle.crs_value.specs.declared.values.crs.Crs.{Crs};
-ghost use Rattle.crs_c.specs.Comparison.{IsMadeBehind, IsMadeOfBoth, IsPairFault, IsSecondFault};
+ghost use Rattle.crs_c.specs.inner.Comparison.{IsMadeBehind, IsMadeOfBoth, IsPairFault, IsSecondFault};
 ghost use Rattle.crs_c.specs.FirstPart.{words_of};
 
 use crate::codes::{NO_MEMORY, REFUSED, SECOND_REFUSED};

@@ -3,7 +3,7 @@ ghost use Rattle.std.specs.Prelude.{◌≡◌, OnOk};
 ghost use Rattle.crs_value.specs.declared.values.level.Level.TheVariants as levels;
 ghost use Rattle.crs_same.specs.declared.content.Content.TheVariants as content;
 ghost use Rattle.crs_normal.specs.PartSpellings.{IsSpelledUsage};
-ghost use Rattle.crs_writer.specs.Members.{ArePut, spellings};
+ghost use Rattle.crs_writer.specs.inner.Members.{ArePut, spellings};
 ghost use Rattle.crs_canon.specs.Appended.{AppendsOrNothing};
 ghost use Rattle.crs_canon.specs.ContentText.{IsContentText};
 

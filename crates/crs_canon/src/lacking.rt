@@ -2,7 +2,7 @@
 ghost use Rattle.std.specs.Prelude.{◌≡◌, ◌++◌, MatchResult};
 ghost use Rattle.crs_canon.specs.Appended.{AppendsOrNothing};
 ghost use Rattle.crs_canon.specs.ContentText.{IsLackingText};
-ghost use Rattle.crs_writer.specs.Members.{lacking, spellings};
+ghost use Rattle.crs_writer.specs.inner.Members.{lacking, spellings};
 ghost use Rattle.crs_writer.specs.SetText.{comma_separated};
 
 use crate::canonical::Canonical;

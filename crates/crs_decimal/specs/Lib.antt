@@ -1,12 +1,7 @@
-pub mod Cut
 pub mod Examples
 pub mod Fault
-pub mod Mantissa
 pub mod Plain
-pub mod PlainBytes
 pub mod Prelude
-pub mod Short
-pub mod Sign
 pub mod Spelling
-pub mod Split
 pub mod Value
+pub mod inner

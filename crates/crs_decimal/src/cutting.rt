@@ -1,10 +1,10 @@
 ghost use Rattle.std.specs.Prelude.{◌≡◌, ◌+◌, ◌<◌, ◌≤◌, ◌^◌, length, take, drop, MatchOption};
 ghost use Rattle.std.specs.List.{prefix_len};
 ghost use Rattle.crs_decimal.specs.Spelling.{is_minus, AreDigits, fraction_digits, is_digit};
-ghost use Rattle.crs_decimal.specs.Cut.{IsExponentWhole, IsExponentCut, IsCut};
-ghost use Rattle.crs_decimal.specs.Mantissa.{with_digits};
-ghost use Rattle.crs_decimal.specs.Split.{leading_digits, behind_digits, sign_of, behind_sign, fraction_of};
-ghost use Rattle.crs_decimal.specs.Split.{behind_fraction, parts_of, IsCutWhole};
+ghost use Rattle.crs_decimal.specs.inner.Cut.{IsExponentWhole, IsExponentCut, IsCut};
+ghost use Rattle.crs_decimal.specs.inner.Mantissa.{with_digits};
+ghost use Rattle.crs_decimal.specs.inner.Split.{leading_digits, behind_digits, sign_of, behind_sign, fraction_of};
+ghost use Rattle.crs_decimal.specs.inner.Split.{behind_fraction, parts_of, IsCutWhole};
 
 use crate::mantissa::Mantissa;
 use crate::plain::are_digits;

@@ -22,7 +22,7 @@ impl Model for Decimal {
     ghost use Rattle.std.specs.Int.{from_bool};
     ghost use Rattle.crs_decimal.specs.Value.{IsNormal};
     ghost use Rattle.crs_decimal.specs.Value as value;
-    ghost use Rattle.crs_decimal.specs.Sign.{sign_back};
+    ghost use Rattle.crs_decimal.specs.inner.Sign.{sign_back};
 
     ghost Value = { value.Value };
 

@@ -1,5 +1,5 @@
 ghost use Rattle.std.specs.Prelude.{◌≡◌, ◌+◌, ◌<◌, ◌≤◌, ◌*◌, ◌^◌, if◌then◌else◌, Option, Some, None};
-ghost use Rattle.crs_decimal.specs.Mantissa.{no_digits, with_digit, fits};
+ghost use Rattle.crs_decimal.specs.inner.Mantissa.{no_digits, with_digit, fits};
 
 /// Digits read so far, `digits * 10^zeros`; where they don't fit 38 digits only that is known.
 #[derive(Clone, Copy)]

@@ -5,7 +5,7 @@ ghost use Rattle.std.specs.List.{list_all};
 ghost use Rattle.crs_decimal.specs.Spelling.{Denotes, is_digit};
 ghost use Rattle.crs_decimal.specs.Value.{Number};
 ghost use Rattle.crs_decimal.specs.Plain.{IsPlain, IsTrim};
-ghost use Rattle.crs_decimal.specs.PlainBytes.{IsUnsigned};
+ghost use Rattle.crs_decimal.specs.inner.PlainBytes.{IsUnsigned};
 
 use crate::cutting::{digits_len, front_of, rest_of};
 

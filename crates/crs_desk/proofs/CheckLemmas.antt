@@ -6,7 +6,7 @@ use Rattle.crs_value.specs.Prelude.{SpellsKind, Refuses}
 use Rattle.crs_streams.specs.Prelude.{SourceState, SinkState}
 use Rattle.crs_desk.specs.Ending.{IsWritten, IsAnswered}
 use Rattle.crs_desk.specs.Output.{IsCheckOutput, WritesFound}
-use Rattle.crs_desk.specs.Pieces.{IsHeldOf, IsWholeHeld}
+use Rattle.crs_desk.specs.inner.Pieces.{IsHeldOf, IsWholeHeld}
 
 pub found-written : (text : List ℕ) (found : Result Kind RefusedAt) (written : List ℕ) (status : ℕ)
     → MatchResult found (SpellsKind text) (Refuses text) → WritesFound found written status → IsCheckOutput text written status

@@ -9,7 +9,7 @@ use Rattle.crs_streams.specs.Prelude.{AreLines, CutsLines, HasNoFeed, IsSplit, I
 use Rattle.crs_streams.specs.declared.fault.RunFault.{RunFault}
 use Rattle.crs_streams.specs.declared.fault.RunFault.TheVariants.{WriteFailed, TooLong, Memory}
 use Rattle.crs_desk.specs.LinesRun.{AreOutputs, AreWholeLines, HasSent, HasSentAll, IsFrontOutput, Outputs}
-use Rattle.crs_desk.specs.LineCutting.{CutterParts, IsCut, IsEmptied, IsFlushed, IsHealthy, IsKept, IsLinesCut, IsNotKept, IsPut, IsPutOut, IsStopped, IsWrittenOut, PutsLine, WriterParts}
+use Rattle.crs_desk.specs.inner.LineCutting.{CutterParts, IsCut, IsEmptied, IsFlushed, IsHealthy, IsKept, IsLinesCut, IsNotKept, IsPut, IsPutOut, IsStopped, IsWrittenOut, PutsLine, WriterParts}
 use Rattle.crs_desk.proofs.LineOutputLemmas.{appends-none, front-none, whole-front, outputs-append}
 
 -- some whole lines of bytes are some of more bytes

@@ -6,7 +6,7 @@ use Rattle.crs_streams.specs.Prelude.{CountsRead, CutsLines, GivesMore, HasGiven
 use Rattle.crs_streams.specs.declared.fault.RunFault.{RunFault}
 use Rattle.crs_streams.specs.declared.fault.RunFault.TheVariants.{ReadFailed, WriteFailed, TooLong, TooManyReads, Memory}
 use Rattle.crs_desk.specs.LinesRun.{HasBegun, HasSent, IsLinesAnswered, IsLinesFault, Outputs}
-use Rattle.crs_desk.specs.LineCutting.{CutterParts, IsHealthy, IsLinesCut, IsReadThrough, IsStopped, IsWrittenOut}
+use Rattle.crs_desk.specs.inner.LineCutting.{CutterParts, IsHealthy, IsLinesCut, IsReadThrough, IsStopped, IsWrittenOut}
 use Rattle.crs_desk.proofs.LineCutLemmas.{cut-all, cut-none, cut-sent-all, cut-whole, cutter_of, sent-end, stopped-first}
 
 consumes-none : (remaining : Option (List ℕ)) → Consumes remaining remaining []

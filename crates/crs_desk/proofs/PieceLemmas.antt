@@ -6,7 +6,7 @@ use Rattle.crs_text.specs.declared.fault.Fault.TheVariants as faults
 use Rattle.crs_value.specs.declared.values.crs.Crs.{Crs}
 use Rattle.crs_value.specs.declared.values.crs.Kind.{Kind}
 use Rattle.crs_value.specs.Prelude.{kind_of, SpellsCrs, RefusesCrs, SpellsKind, Refuses}
-use Rattle.crs_desk.specs.Pieces.{IsHeld, IsWholeHeld}
+use Rattle.crs_desk.specs.inner.Pieces.{IsHeld, IsWholeHeld}
 
 -- at the end what is held is the text, or its front
 pub whole-held : (refused : Bool) (text held : List ℕ) → IsHeld refused text held → IsWholeHeld text held

@@ -7,7 +7,7 @@ use Rattle.crs_streams.specs.declared.fault.RunFault.{RunFault}
 use Rattle.crs_streams.specs.declared.fault.RunFault.TheVariants.{ReadFailed, WriteFailed, TooLong}
 use Rattle.crs_streams.specs.declared.fault.RunFault.TheVariants.{TooManyReads, Memory}
 use Rattle.crs_desk.specs.FilesRun.{IsFileAnswer, IsFileFront, IsFileOutput}
-use Rattle.crs_desk.specs.LineCutting.{IsHealthy}
+use Rattle.crs_desk.specs.inner.LineCutting.{IsHealthy}
 use Rattle.crs_desk.specs.LinesRun.{Outputs}
 use Rattle.crs_desk.specs.Prefixed.{PrefixParts}
 use Rattle.crs_desk.specs.declared.files_run.FileTask.{FileTask}

@@ -3,13 +3,12 @@ pub mod Ending
 pub mod ExplainOutput
 pub mod FileAnswers
 pub mod FilesRun
-pub mod LineCutting
 pub mod LinesRun
 pub mod Output
 pub mod PairOutput
-pub mod Pieces
 pub mod Prefixed
 pub mod Requests
 pub mod RulesOutput
 pub mod SameOutput
 pub mod Whole
+pub mod inner

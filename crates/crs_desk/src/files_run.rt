@@ -4,7 +4,7 @@ ghost use Rattle.crs_streams.specs.Streams.{fresh_sink};
 ghost use Rattle.crs_desk.specs.FileAnswers.{Ends, IsAnswerSent, IsFileFault, IsFileSent, IsSendFault, NoFront};
 ghost use Rattle.crs_desk.specs.FilesRun.{AreFilesAnswered, IsFilesFault, is_json};
 ghost use Rattle.crs_desk.specs.FilesRun.{name_prefix, IsGroupedOutput, IsTaskFront, IsTaskOutput};
-ghost use Rattle.crs_desk.specs.LineCutting.{IsHealthy};
+ghost use Rattle.crs_desk.specs.inner.LineCutting.{IsHealthy};
 ghost use Rattle.std.specs.Io.KnownBytes.{Appends};
 ghost use Rattle.crs_group.specs.GroupOutput.{IsGroupOutputBy};
 ghost use Rattle.crs_desk.specs.LinesRun.{IsFrontOutput, IsLineOutput, IsLinesOutput};

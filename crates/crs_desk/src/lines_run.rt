@@ -4,8 +4,8 @@
 ghost use Rattle.std.specs.Prelude.{◌≡◌, ◌≤◌, ◌^◌, ◌↔◌, [], IfErr, IfOk, IsErrOf, OnOk, false, length, true, ◌+◌, ◌<◌};
 ghost use Rattle.std.specs.Prelude.{◌++◌, ◌∷◌, ℕ, List, IsFalse, IsTrue};
 ghost use Rattle.crs_streams.specs.Streams.{fresh_source, SinkState};
-ghost use Rattle.crs_desk.specs.LineCutting.{IsHealthy, IsReadThrough, IsCut, IsEmptied, IsFlushed, IsKept, IsLinesCut};
-ghost use Rattle.crs_desk.specs.LineCutting.{IsNotKept, IsPut, IsPutOut, IsStopped, IsWrittenOut, PutsLine};
+ghost use Rattle.crs_desk.specs.inner.LineCutting.{IsHealthy, IsReadThrough, IsCut, IsEmptied, IsFlushed, IsKept, IsLinesCut};
+ghost use Rattle.crs_desk.specs.inner.LineCutting.{IsNotKept, IsPut, IsPutOut, IsStopped, IsWrittenOut, PutsLine};
 ghost use Rattle.crs_desk.specs.LinesRun.{IsLinesAnswered, IsLinesFault};
 ghost use Rattle.crs_streams.specs.Lines.{HasNoFeed};
 
@@ -87,7 +87,7 @@ struct LineWriter {
 }
 
 impl Model for LineWriter {
-    ghost use Rattle.crs_desk.specs.LineCutting.{WriterParts};
+    ghost use Rattle.crs_desk.specs.inner.LineCutting.{WriterParts};
 
     ghost Value = { WriterParts };
 
@@ -138,7 +138,7 @@ struct LineCutter {
 }
 
 impl Model for LineCutter {
-    ghost use Rattle.crs_desk.specs.LineCutting.{CutterParts};
+    ghost use Rattle.crs_desk.specs.inner.LineCutting.{CutterParts};
 
     ghost Value = { CutterParts };
 

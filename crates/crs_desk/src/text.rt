@@ -2,7 +2,7 @@
 ghost use Rattle.std.specs.Prelude.{◌≡◌, ◌≤◌, ◌++◌, IfOk, IfErr, false, ℕ, List};
 ghost use Rattle.crs_streams.specs.Streams.{fresh_source};
 ghost use Rattle.crs_desk.specs.Whole.{IsWhole, IsReadFault};
-ghost use Rattle.crs_desk.specs.Pieces.{IsHeld, IsHeldOf};
+ghost use Rattle.crs_desk.specs.inner.Pieces.{IsHeld, IsHeldOf};
 
 use crate::{RunFault, Source};
 use crs_streams::{MAX_READS, append_bytes, make_room};

@@ -7,7 +7,7 @@ ghost use Rattle.crs_streams.specs.Streams.{fresh_sink, fresh_source};
 ghost use Rattle.crs_text.specs.Refusal.{refused_text};
 ghost use Rattle.crs_text.specs.Fault.{refusal_of};
 ghost use Rattle.crs_value.specs.SpellsText.{IsFaultOfText, SpellsKind, Refuses};
-ghost use Rattle.crs_desk.specs.Pieces.{IsWholeHeld};
+ghost use Rattle.crs_desk.specs.inner.Pieces.{IsWholeHeld};
 
 use crate::answer::{Answer, ForText, TextCommand, write_answer};
 use crate::text::{read_pieces, read_text};

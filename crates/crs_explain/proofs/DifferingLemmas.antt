@@ -7,7 +7,7 @@ use Rattle.crs_same.specs.declared.content.Content.{Content}
 use Rattle.crs_same.specs.declared.content.Content.TheVariants as content
 use Rattle.crs_same.specs.declared.step.Step.{Step}
 use Rattle.crs_canon.specs.Named.{ArePairedNames}
-use Rattle.crs_explain.specs.Appended.{AppendsTexts}
+use Rattle.crs_explain.specs.inner.Appended.{AppendsTexts}
 use Rattle.crs_explain.specs.Differing.{AreTextsOf, AreTextsBehind, AreTextsOfNames, AreTextsOfOthers, AreTextsOfParts, AreTextsOfSet, AreTextsAt, AreTextsOfOne, PartTexts}
 
 -- some more texts in front of others

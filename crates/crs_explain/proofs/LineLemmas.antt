@@ -3,7 +3,7 @@ use Rattle.std.proofs.Common.{◌≡◌, ◌≤◌, ℕ, ◌==◌, inl, inr, Lis
 use Rattle.std.proofs.lemmas.Bool.{cases_Bool}
 use Rattle.std.proofs.lemmas.List.{length-map}
 use Rattle.crs_text.specs.Prelude.{feeds}
-use Rattle.crs_explain.specs.Lines.{in_line}
+use Rattle.crs_explain.specs.inner.Lines.{in_line}
 use Rattle.crs_explain.specs.Explained.{AreWords}
 
 no_feeds : (words : List ℕ) → feeds (map in_line words) ≡ 0

@@ -1,7 +1,7 @@
 -- Texts one after the other, and one more.
 use Rattle.std.proofs.Common.{◌≡◌, ◌+◌, ◌-◌, ◌++◌, ◌∷◌, [], ℕ, List, length, take, drop, refl, sym, ap, ◌∙◌, append_assoc, append-nil, arith}
 use Rattle.std.proofs.lemmas.List.{take_at, drop_at, length-append}
-use Rattle.crs_explain.specs.Cut.{cut}
+use Rattle.crs_explain.specs.inner.Cut.{cut}
 use Rattle.crs_explain.specs.Pieces.{ends_from, joined}
 
 -- texts are what is cut where they end

@@ -1,6 +1,4 @@
-pub mod Appended
 pub mod Around
-pub mod Cut
 pub mod Differing
 pub mod Excerpt
 pub mod Expectation
@@ -9,6 +7,5 @@ pub mod Explained
 pub mod Found
 pub mod InOrder
 pub mod Json
-pub mod Lines
-pub mod Meant
 pub mod Pieces
+pub mod inner

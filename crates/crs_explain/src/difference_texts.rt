@@ -10,7 +10,7 @@ ghost use Rattle.crs_same.specs.declared.content.Content.TheVariants as content;
 ghost use Rattle.crs_same.specs.declared.step.Step.TheVariants as step;
 ghost use Rattle.crs_canon.specs.ContentText.{IsContentText};
 ghost use Rattle.crs_canon.specs.Named.{named_once, unpaired};
-ghost use Rattle.crs_explain.specs.Appended.{AppendsTexts};
+ghost use Rattle.crs_explain.specs.inner.Appended.{AppendsTexts};
 ghost use Rattle.crs_explain.specs.Differing.{AreDifferenceTexts, AreTexts, AreTextsOf, AreTextsOfName, AreTextsOfNames, AreTextsOfOne, AreTextsOfOthers};
 ghost use Rattle.crs_explain.specs.Differing.{AreTextsOfParts, AreTextsOfSet, PartTexts, are_empty, parameter_path, parts_of_parameter};
 

@@ -16,7 +16,7 @@ pub struct Pieces {
 
 impl Model for Pieces {
     ghost use Rattle.std.specs.Prelude.{◌≡◌, ℕ, List};
-    ghost use Rattle.crs_explain.specs.Cut.{cut};
+    ghost use Rattle.crs_explain.specs.inner.Cut.{cut};
     ghost use Rattle.crs_explain.specs.Pieces.{ends_from, joined};
 
     ghost Value = { List (List ℕ) };

@@ -2,7 +2,7 @@
 ghost use Rattle.std.specs.Prelude.{◌≡◌, ◌++◌, ◌∷◌, ◌≤◌, [], IfOk, OnOk, codes, decimal, length};
 ghost use Rattle.crs_explain.specs.Explained.{AreExplainedPieces, AreWords, Explains, IsExplained, head, line_if_any, sentence_lines};
 ghost use Rattle.crs_explain.specs.Json.{IsRefusalObject, expected_members, place_members, sentence_members, which_member};
-ghost use Rattle.crs_explain.specs.Lines.{in_line};
+ghost use Rattle.crs_explain.specs.inner.Lines.{in_line};
 
 use crate::excerpt::excerpt;
 use crate::expected::{ExpectedTexts, UNKNOWN_WORD, expectation, or_nothing};

@@ -17,7 +17,7 @@ use Rattle.crs_group.specs.Catalogue.{CatalogueParts, GroupParts, Line, canons, 
 use Rattle.crs_group.specs.GroupTexts.{IsCatalogue, IsCatalogueBy, IsCatalogueOf, IsCatalogueOfBy, IsUnder, then_line, Counts, IsPlacedAs, PlacedLine, ShareWhereSame, if_refused, in_group, lines_in}
 use Rattle.crs_group.specs.UnderRules.{ShareWhereSameUnder}
 use Rattle.crs_value.specs.Sound.{Each}
-use Rattle.crs_group.specs.Putting.{IsJoined, IsNew, IsPut, IsRefused, group_of, with_line}
+use Rattle.crs_group.specs.inner.Putting.{IsJoined, IsNew, IsPut, IsRefused, group_of, with_line}
 use Rattle.crs_group.specs.declared.placed.Placed.{Placed}
 use Rattle.crs_group.specs.declared.placed.Placed.TheVariants.{Blank, Refused, Group}
 use Rattle.crs_group.proofs.ListLemmas.{each-append, each-by, get-last, if-equal, if-other, map-changed, nth-changed, nth-either, nth-front}

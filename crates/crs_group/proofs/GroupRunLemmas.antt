@@ -1,6 +1,6 @@
 -- What the source of a run has given, and what the two halves of the run say of the whole.
 use Rattle.std.proofs.Common.{◌≡◌, ◌∙◌, ◌+◌, ◌<◌, ◌≤◌, ◌++◌, ◌*◌, ◌^◌, [], ℕ, Bool, List, false, ap, append-nil, arith, is_ok, length, length-append, Result, Ok, Err, IfErr, IfOk, IsErr, MatchResult}
-use Rattle.crs_group.specs.GroupReading.{CutterParts, IsCutFault, IsCutTo, IsLedgerFor, LedgerParts, IsLedgerWhole, IsReadInto, WritesLedger}
+use Rattle.crs_group.specs.inner.GroupReading.{CutterParts, IsCutFault, IsCutTo, IsLedgerFor, LedgerParts, IsLedgerWhole, IsReadInto, WritesLedger}
 use Rattle.crs_value.specs.declared.values.level.Level.{Level}
 use Rattle.crs_group.specs.GroupOutput.{IsGroupOutputBy, catalogue_text}
 use Rattle.crs_streams.specs.Prelude.{CountsRead, CutsLines, GivesMore, GivesShortLines, HasGiven, SinkState, SourceState}

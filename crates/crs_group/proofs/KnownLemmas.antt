@@ -8,11 +8,11 @@ use Rattle.std.proofs.lemmas.Option.{slice_get-map, slice_get_within}
 use Rattle.crs_value.specs.declared.values.level.Level.{Level}
 use Rattle.crs_writer.specs.Prelude.{CanonicalText, IsCanonicalOf}
 use Rattle.crs_group.specs.Catalogue.{GroupParts, canons}
-use Rattle.crs_group.specs.Putting.{IsJoined, IsPut, group_of, with_line}
+use Rattle.crs_group.specs.inner.Putting.{IsJoined, IsPut, group_of, with_line}
 use Rattle.crs_group.specs.declared.placed.Placed.{Placed}
 use Rattle.crs_group.specs.declared.placed.Placed.TheVariants.{Group}
 use Rattle.crs_group.specs.GroupTexts.{IsUnder}
-use Rattle.crs_group.specs.Known.{AreKnown, HasGroup, IsKnown, KnownText}
+use Rattle.crs_group.specs.inner.Known.{AreKnown, HasGroup, IsKnown, KnownText}
 use Rattle.crs_group.proofs.ListLemmas.{get-front, get-last, map-changed}
 
 -- nothing is known where nothing is remembered

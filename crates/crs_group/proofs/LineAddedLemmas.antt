@@ -5,7 +5,7 @@ use Rattle.std.proofs.lemmas.List.{length-map, map-append}
 use Rattle.std.proofs.lemmas.List.Sums.{sum_by-append}
 use Rattle.crs_text.specs.Prelude.{is_white}
 use Rattle.crs_group.specs.Catalogue.{CatalogueParts, line_of}
-use Rattle.crs_group.specs.GroupReading.{IsLedgerOf, IsNamed, LedgerParts, blank_count, no_lines, text_in}
+use Rattle.crs_group.specs.inner.GroupReading.{IsLedgerOf, IsNamed, LedgerParts, blank_count, no_lines, text_in}
 use Rattle.crs_group.specs.GroupTexts.{IsCatalogueBy, IsCatalogueOfBy, then_line, IsPlacedAs, PlacedLine}
 use Rattle.crs_streams.specs.Prelude.{blank_in}
 use Rattle.crs_group.specs.GroupOutput.{numbered}

@@ -1,12 +1,9 @@
 pub mod Catalogue
-pub mod Entries
 pub mod GroupObjects
 pub mod GroupOutput
-pub mod GroupReading
 pub mod GroupRun
 pub mod GroupTexts
-pub mod Known
 pub mod Names
-pub mod Putting
 pub mod UnderRules
 pub mod United
+pub mod inner

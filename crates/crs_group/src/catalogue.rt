@@ -9,10 +9,10 @@ ghost use Rattle.crs_writer.specs.Canonical.{IsCanonicalOf};
 ghost use Rattle.crs_rules.specs.Rules.{RulesParts};
 ghost use Rattle.crs_rules.specs.Rewritten.{IsForm};
 ghost use Rattle.crs_group.specs.Catalogue.{Line, canons, line_of, nth};
-ghost use Rattle.crs_group.specs.Putting.{IsJoined, IsPut, IsRefused};
+ghost use Rattle.crs_group.specs.inner.Putting.{IsJoined, IsPut, IsRefused};
 ghost use Rattle.crs_group.specs.declared.placed.Placed.TheVariants.{Group};
 ghost use Rattle.crs_group.specs.GroupTexts.{IsCatalogue, IsCatalogueOf, IsUnder, then_line, PlacedLine};
-ghost use Rattle.crs_group.specs.Known.{HasGroup};
+ghost use Rattle.crs_group.specs.inner.Known.{HasGroup};
 ghost use Rattle.crs_group.specs.UnderRules.{IsCatalogueUnder};
 
 use crate::Placed;
@@ -44,7 +44,7 @@ impl Model for Catalogue {
 
     ghost Value = { CatalogueParts };
 
-    ghost use Rattle.crs_group.specs.Known.{AreKnown};
+    ghost use Rattle.crs_group.specs.inner.Known.{AreKnown};
 
     ghost view = { λ catalogue. record {
       level = catalogue.level;

@@ -4,7 +4,7 @@ ghost use Rattle.std.specs.Prelude.{◌≡◌, ◌+◌, ◌^◌, ◌<◌, [], �
 ghost use Rattle.std.specs.Prelude.{IfOk, IfSome, MatchOption, OnErr};
 ghost use Rattle.std.specs.Option.{option_copied, option_map};
 ghost use Rattle.crs_group.specs.Catalogue.{canons};
-ghost use Rattle.crs_group.specs.Putting.{IsJoined, IsNew, group_of};
+ghost use Rattle.crs_group.specs.inner.Putting.{IsJoined, IsNew, group_of};
 
 use crs_writer::Canon;
 use indexmap::IndexMap;
@@ -20,7 +20,7 @@ pub struct Groups {
 impl Model for Groups {
     ghost use Rattle.std.specs.Prelude.{List};
     ghost use Rattle.crs_group.specs.Catalogue.{GroupParts};
-    ghost use Rattle.crs_group.specs.Entries.{groups_of};
+    ghost use Rattle.crs_group.specs.inner.Entries.{groups_of};
 
     ghost Value = { List GroupParts };
 

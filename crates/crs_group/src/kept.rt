@@ -1,6 +1,6 @@
 //! The lines that a catalogue keeps: those of its groups, and the refused ones.
 ghost use Rattle.std.specs.Prelude.{◌≡◌, IfOk, OnErr};
-ghost use Rattle.crs_group.specs.Putting.{IsRefused};
+ghost use Rattle.crs_group.specs.inner.Putting.{IsRefused};
 
 use crate::groups::Groups;
 use crate::placed::Placed;

@@ -1,7 +1,7 @@
 //! A catalogue of lines that are numbered as they come, counted, and named where they have names; and how a line is
 //! added to it: by its canonical text, or by its form under rules.
 ghost use Rattle.std.specs.Prelude.{◌≡◌, ◌+◌, ◌^◌, ◌<◌, ◌≤◌, ◌++◌, ◌∷◌, [], ℕ, List, OnOk, length, IfOk};
-ghost use Rattle.crs_group.specs.GroupReading.{IsLedgerOf, blank_count, no_lines};
+ghost use Rattle.crs_group.specs.inner.GroupReading.{IsLedgerOf, blank_count, no_lines};
 ghost use Rattle.crs_value.specs.declared.values.level.Level.{Level};
 ghost use Rattle.crs_group.specs.GroupTexts.{IsCatalogueBy, then_line, PlacedLine};
 
@@ -24,7 +24,7 @@ pub(crate) struct Ledger {
 
 impl Model for Ledger {
     ghost use Rattle.std.specs.Prelude.{◌≤◌};
-    ghost use Rattle.crs_group.specs.GroupReading.{LedgerParts};
+    ghost use Rattle.crs_group.specs.inner.GroupReading.{LedgerParts};
 
     ghost Value = { LedgerParts };
 

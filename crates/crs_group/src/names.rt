@@ -1,6 +1,6 @@
 //! Lines that begin with a name and a tab, and the names of lines.
 ghost use Rattle.std.specs.Prelude.{◌≡◌, ◌++◌, ◌<◌, ◌∷◌, [], MatchOption, OnOk, length, slice_get, unwrap_or};
-ghost use Rattle.crs_group.specs.GroupReading.{IsNamed, text_in};
+ghost use Rattle.crs_group.specs.inner.GroupReading.{IsNamed, text_in};
 ghost use Rattle.crs_group.specs.Names.{name_at, tab_at};
 
 use bstr::ByteSlice;

@@ -3,7 +3,7 @@
 ghost use Rattle.std.specs.Prelude.{◌≡◌, ◌<◌, [], All, IfOk, IfSome, List, None, OnOk, Some};
 ghost use Rattle.crs_value.specs.declared.values.level.Level.{Level};
 ghost use Rattle.crs_writer.specs.Canonical.{CanonicalText};
-ghost use Rattle.crs_group.specs.Known.{AreKnown, HasGroup};
+ghost use Rattle.crs_group.specs.inner.Known.{AreKnown, HasGroup};
 
 use std::alloc::{AllocError, Global};
 use std::marker::Model;
@@ -23,7 +23,7 @@ struct KnownLine {
 }
 
 impl Model for KnownLine {
-    ghost use Rattle.crs_group.specs.Known.{KnownText};
+    ghost use Rattle.crs_group.specs.inner.Known.{KnownText};
 
     ghost Value = { KnownText };
 
@@ -62,7 +62,7 @@ pub(crate) struct Recent {
 
 impl Model for Recent {
     ghost use Rattle.std.specs.Prelude.{List};
-    ghost use Rattle.crs_group.specs.Known.{KnownText};
+    ghost use Rattle.crs_group.specs.inner.Known.{KnownText};
 
     ghost Value = { List KnownText };
 

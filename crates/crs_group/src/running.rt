@@ -2,7 +2,7 @@
 //! that is whole within a piece is read in place; the bytes of others are kept until their line feed comes.
 ghost use Rattle.std.specs.Prelude.{◌≡◌, ◌≤◌, ◌↔◌, [], IfErr, IfOk, IsErrOf, OnOk, false, length, true, ◌+◌, ◌^◌, ◌<◌};
 ghost use Rattle.std.specs.Prelude.{◌++◌, ◌∷◌, ℕ, List, IsFalse, IsTrue};
-ghost use Rattle.crs_group.specs.GroupReading.{IsCutTo, IsCutFault, IsKept, IsLedgerFor, IsNextLine, IsNotKept, no_lines, IsLedgerWhole, IsReadInto, IsWritingFault, WritesLedger};
+ghost use Rattle.crs_group.specs.inner.GroupReading.{IsCutTo, IsCutFault, IsKept, IsLedgerFor, IsNextLine, IsNotKept, no_lines, IsLedgerWhole, IsReadInto, IsWritingFault, WritesLedger};
 ghost use Rattle.crs_group.specs.GroupOutput.{IsGroupOutputBy};
 ghost use Rattle.crs_group.specs.GroupRun.{IsGroupFault, IsGroupedBy, IsReadingFault};
 ghost use Rattle.crs_streams.specs.Streams.{fresh_sink, fresh_source};
@@ -120,7 +120,7 @@ struct Cutter {
 }
 
 impl Model for Cutter {
-    ghost use Rattle.crs_group.specs.GroupReading.{CutterParts};
+    ghost use Rattle.crs_group.specs.inner.GroupReading.{CutterParts};
 
     ghost Value = { CutterParts };
 

@@ -13,7 +13,7 @@ use Rattle.crs_value.specs.declared.values.frame.Frame.TheVariants as frames
 use Rattle.crs_value.specs.declared.values.level.Level.{Level}
 use Rattle.crs_normal.specs.Prelude.{StaysInOrder, in_order, item_parameter, norm_parameter, set_parameters, norm_dynamic, is_zero, item_member, norm_datum, norm_ellipsoid, norm_ensemble, norm_frame, norm_member, norm_meridian, set_members, axes_from, axis_at, is_at, norm_axis, norm_axis_meridians, norm_system, with_axis, norm_length, norm_unit, norm_units, set_idents}
 use Rattle.crs_text.specs.Prelude.{item_text}
-use Rattle.crs_rules.specs.LowerLaws.{SetLaws}
+use Rattle.crs_rules.specs.inner.LowerLaws.{SetLaws}
 use Rattle.crs_rules.specs.Rewritten.{axis, axis_meridian, counted, counted_frame, counted_name, datum, dynamic, ellipsoid, ensemble, frame_or_ensemble, meridian, named, parameter, system, units}
 use Rattle.crs_rules.specs.Rules.{Meaning, without_ensemble}
 use Rattle.crs_rules.proofs.AliasLemmas.{choice}

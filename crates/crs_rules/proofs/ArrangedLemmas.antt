@@ -16,7 +16,7 @@ use Rattle.crs_value.specs.Prelude.{own_or, AxisMeridianParts, AxisParts, System
 use Rattle.crs_value.specs.declared.values.level.Level.{Level}
 use Rattle.crs_value.specs.declared.values.level.Level.TheVariants as levels
 use Rattle.crs_normal.specs.Prelude.{axes_from, axis_at, norm_axis, norm_axis_meridians, norm_system, norm_unit, norm_units, set_idents}
-use Rattle.crs_rules.specs.LowerLaws.{SetLaws}
+use Rattle.crs_rules.specs.inner.LowerLaws.{SetLaws}
 use Rattle.crs_rules.specs.Rewritten.{among, arranged, ascending, axis, axis_meridian, system, units}
 use Rattle.crs_rules.specs.Rules.{Meaning}
 use Rattle.crs_rules.proofs.AgainLemmas.{any-axis, counted-name-again, kind-twice, mapped}

@@ -12,7 +12,7 @@ use Rattle.crs_value.specs.declared.values.crs.Crs.TheVariants as crs
 use Rattle.std.specs.Cmp.Lexicographic.{slice_cmp}
 use Rattle.std.specs.Ordering.{nat_cmp, match_ordering}
 use Rattle.std.proofs.lemmas.List.{length-map, nil_from_length}
-use Rattle.crs_rules.specs.Sinking.{IsOrderless, IsOrderlessAcross, IsOrderlessCrs}
+use Rattle.crs_rules.specs.inner.Sinking.{IsOrderless, IsOrderlessAcross, IsOrderlessCrs}
 use Rattle.crs_rules.specs.Rewritten.{across, among, arranged, arranged_across, arranged_compound, arranged_crs, arranged_geodetic, arranged_projected, arranged_vertical, ascending, axis, axis_meridian, renamed, base, compound, geodetic, geoid_models, projected, rewritten, system, units, vertical}
 use Rattle.crs_rules.specs.Rules.{Meaning, RulesParts, meaning}
 use Rattle.crs_rules.specs.SoundRules.{AreRules}

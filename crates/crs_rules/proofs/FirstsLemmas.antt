@@ -2,7 +2,7 @@
 use Rattle.std.proofs.Common.{◌≡◌, ◌≤◌, ◌+◌, ℕ, zero, suc, Bool, true, false, List, [], ◌∷◌, ◌++◌, Some, None, drop, take, length, refl, sym, ap, ◌∙◌, if◌then◌else◌, arith}
 use Rattle.std.proofs.Math.Seq.{drop-length}
 use Rattle.crs_value.specs.Sound.{Each}
-use Rattle.crs_rules.specs.Firsts.{AreFound, IsFound, IsNoted, place_of}
+use Rattle.crs_rules.specs.inner.Firsts.{AreFound, IsFound, IsNoted, place_of}
 use Rattle.crs_rules.specs.Rules.{first_that}
 
 module _ {A : Type 0} (digest : A → ℕ) where

@@ -5,10 +5,10 @@ use Rattle.std.proofs.lemmas.List.{append-nil, append_assoc}
 use Rattle.crs_shape.specs.declared.unit_kind.UnitKind.{UnitKind}
 use Rattle.crs_rules.specs.Rules.{RulesParts}
 use Rattle.crs_rules.specs.declared.uncounted.Uncounted.{Uncounted}
-use Rattle.crs_rules.specs.Grown.{Extends, HasGrown}
-use Rattle.crs_rules.specs.Marks.{IsMarked, gone_back}
+use Rattle.crs_rules.specs.inner.Grown.{Extends, HasGrown}
+use Rattle.crs_rules.specs.inner.Marks.{IsMarked, gone_back}
 use Rattle.crs_rules.specs.Members.{MemberParts, kind_of}
-use Rattle.crs_rules.specs.AddedNodes.{IsAdded}
+use Rattle.crs_rules.specs.inner.AddedNodes.{IsAdded}
 use Rattle.crs_rules.specs.Statements.{Reading, joined, with_alias}
 use Rattle.crs_rules.specs.declared.reader.Mark.{Mark}
 

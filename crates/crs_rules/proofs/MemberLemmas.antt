@@ -8,7 +8,7 @@ use Rattle.crs_shape.specs.declared.class.Class.{Class}
 use Rattle.crs_shape.specs.declared.unit_kind.UnitKind.{UnitKind}
 use Rattle.crs_value.specs.Prelude.{IsAboveZero, IsText}
 use Rattle.crs_rules.specs.Members.{MemberParts, SaysFactor, SaysName, kind_of}
-use Rattle.crs_rules.specs.Named.{IsFactor, SaysNamed}
+use Rattle.crs_rules.specs.inner.Named.{IsFactor, SaysNamed}
 use Rattle.crs_rules.proofs.OneLemmas.{DenotesOne}
 
 -- a number that isn't above zero is no factor

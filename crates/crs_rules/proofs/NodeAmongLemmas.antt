@@ -3,10 +3,10 @@ use Rattle.std.proofs.Common.{arith, ◌↔◌, ◌≡◌, ◌∷◌, [], Bool, 
 use Rattle.std.specs.List.{list_any}
 use Rattle.indexmap.specs.IndexSet.{insert_key}
 use Rattle.crs_value.specs.Prelude.{OneIs}
-use Rattle.crs_rules.specs.Equality.{members_equal}
-use Rattle.crs_rules.specs.EqualityLaws.{members-decide}
+use Rattle.crs_rules.specs.inner.Equality.{members_equal}
+use Rattle.crs_rules.specs.inner.EqualityLaws.{members-decide}
 use Rattle.crs_rules.specs.Members.{MemberParts}
-use Rattle.crs_rules.specs.AddedNodes.{IsAdded}
+use Rattle.crs_rules.specs.inner.AddedNodes.{IsAdded}
 
 -- a test that tells the node finds it where it is
 among : (m : MemberParts) (test : MemberParts → Bool) → ((x : MemberParts) → (test x ≡ true) ↔ (m ≡ x))

@@ -9,7 +9,7 @@ use Rattle.crs_same.specs.Prelude.{SameCrs}
 use Rattle.crs_normal.specs.Prelude.{IsNormalText, axis_text, item_crs, norm_crs}
 use Rattle.crs_writer.specs.Prelude.{IsCanonicalOf, IsCanonicalText}
 use Rattle.crs_canon.specs.MainTheorem.{MainTheorem}
-use Rattle.crs_rules.specs.LowerLaws.{FormLaws, SetLaws}
+use Rattle.crs_rules.specs.inner.LowerLaws.{FormLaws, SetLaws}
 use Rattle.crs_rules.specs.ReorderedAxes.{IsCrsReordered}
 use Rattle.crs_rules.specs.Rewritten.{rewritten, AreTextsOfAxes, IsForm}
 use Rattle.crs_rules.specs.Rules.{Meaning, RulesParts, meaning}

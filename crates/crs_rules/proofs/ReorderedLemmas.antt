@@ -18,7 +18,7 @@ use Rattle.crs_value.specs.declared.values.crs.Crs.TheVariants as crs
 use Rattle.crs_value.specs.declared.values.level.Level.{Level}
 use Rattle.crs_value.specs.declared.values.level.Level.TheVariants as levels
 use Rattle.crs_normal.specs.Prelude.{norm_axis_alone, norm_crs, norm_horizontal, norm_vertical, norm_axis, norm_axis_meridians, norm_system, norm_units}
-use Rattle.crs_rules.specs.LowerLaws.{SetLaws}
+use Rattle.crs_rules.specs.inner.LowerLaws.{SetLaws}
 use Rattle.crs_rules.specs.ReorderedAxes.{AreAxesReordered, IsAcrossReordered, IsCrsReordered, IsReordered, IsVerticalReordered, unordered}
 use Rattle.crs_rules.specs.Rewritten.{across, among, arranged, arranged_across, arranged_compound, arranged_crs, arranged_geodetic, arranged_projected, arranged_vertical, ascending, axis, axis_meridian, compound, geodetic, projected, renamed, system, units, vertical}
 use Rattle.crs_rules.specs.Rules.{Meaning}

@@ -15,7 +15,7 @@ use Rattle.crs_value.specs.declared.values.level.Level.{Level}
 use Rattle.crs_value.specs.declared.values.level.Level.TheVariants as levels
 use Rattle.crs_text.specs.Prelude.{item_text}
 use Rattle.crs_normal.specs.Prelude.{in_order, item_geoid_model, norm_geoid_model, norm_parameter, set_geoid_models, set_parameters, norm_compound, norm_crs, norm_geodetic, norm_horizontal, norm_projected, norm_vertical, is_zero, norm_meridian, norm_system, norm_length, norm_units, item_usage, norm_extent, norm_usage, set_usages}
-use Rattle.crs_rules.specs.LowerLaws.{SetLaws}
+use Rattle.crs_rules.specs.inner.LowerLaws.{SetLaws}
 use Rattle.crs_rules.specs.Rewritten.{across, arranged, arranged_across, arranged_crs, compound, counted, extent, geodetic, has_own_unit, meridian, named, parameter, projected, renamed, rewritten, system, units, usage, vertical}
 use Rattle.crs_rules.specs.Rules.{Meaning}
 use Rattle.crs_rules.proofs.AgainLemmas.{IsAgain, IsLeft, counted-name-twice, dynamics-again, each-all, each-fixed, frame-again, length-kind, mapped, member-fixed, meridian-again, parameters-again, set-again, some-again, system-again, unit-again, units-again}

@@ -1,13 +1,4 @@
-pub mod AddedNodes
-pub mod Equality
-pub mod EqualityLaws
-pub mod Faults
-pub mod Firsts
-pub mod Grown
-pub mod LowerLaws
-pub mod Marks
 pub mod Members
-pub mod Named
 pub mod NoRules
 pub mod OrderOfLines
 pub mod OrderOfRules
@@ -15,7 +6,7 @@ pub mod ReorderedAxes
 pub mod Rewritten
 pub mod Rules
 pub mod RulesFile
-pub mod Sinking
 pub mod SoundRules
 pub mod Statements
 pub mod SteadyRules
+pub mod inner

@@ -3,7 +3,7 @@ ghost use Rattle.std.specs.Prelude.{◌≡◌, IfOk, MatchResult};
 ghost use Rattle.crs_value.specs.SpellsText.{IsFaultOfText, Spells};
 ghost use Rattle.crs_value.specs.declared.values.crs.Crs.{Crs};
 ghost use Rattle.crs_value.specs.declared.values.level.Level.TheVariants as levels;
-ghost use Rattle.crs_normal.specs.PartTexts.{axis_text};
+ghost use Rattle.crs_normal.specs.inner.PartTexts.{axis_text};
 ghost use Rattle.crs_writer.specs.Canonical.{IsCanonicalText};
 ghost use Rattle.crs_canon.specs.MainTheorem.{IsAccepted};
 ghost use Rattle.crs_rules.specs.Rewritten.{rewritten, IsForm};

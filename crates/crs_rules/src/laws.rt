@@ -7,7 +7,7 @@ ghost use Rattle.crs_value.specs.declared.values.crs.Crs.{Crs};
 ghost use Rattle.crs_value.specs.declared.values.level.Level.{Level};
 ghost use Rattle.crs_writer.specs.Canonical.{IsCanonicalOf};
 ghost use Rattle.crs_canon.specs.MainTheorem.{IsAccepted, SpellSame};
-ghost use Rattle.crs_rules.specs.LowerLaws.{FormLaws, SetLaws};
+ghost use Rattle.crs_rules.specs.inner.LowerLaws.{FormLaws, SetLaws};
 ghost use Rattle.crs_rules.specs.NoRules.{no_rules};
 ghost use Rattle.crs_rules.specs.OrderOfRules.{DifferInOrder};
 ghost use Rattle.crs_rules.specs.ReorderedAxes.{IsCrsReordered};

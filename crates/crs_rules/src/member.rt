@@ -4,7 +4,7 @@ ghost use Rattle.crs_text.specs.Items.{HasId, here, kind_of_item, rest_of};
 ghost use Rattle.crs_value.specs.Checks.{IsAboveZero};
 ghost use Rattle.crs_value.specs.Reading.{IsReading, item_at};
 ghost use Rattle.crs_rules.specs.Members.{Says, SaysFactor, kind_of, subject_of};
-ghost use Rattle.crs_rules.specs.Named.{SaysNamed};
+ghost use Rattle.crs_rules.specs.inner.Named.{SaysNamed};
 
 use crs_decimal::Decimal;
 use crs_decimal::laws::denotes_one;
@@ -22,7 +22,7 @@ pub(crate) struct Member<'a> {
 
 impl<'a> Model for Member<'a> {
     ghost use Rattle.crs_rules.specs.Members.{MemberParts};
-    ghost use Rattle.crs_rules.specs.Named.{IsMember};
+    ghost use Rattle.crs_rules.specs.inner.Named.{IsMember};
 
     ghost Value = { MemberParts };
 

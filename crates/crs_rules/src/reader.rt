@@ -9,9 +9,9 @@ ghost use Rattle.crs_rules.specs.RulesFile.{FaultOfLine, Reads, ReadsFile, Refus
 ghost use Rattle.crs_rules.specs.Statements.{Adds, AddsSet, Drops, FaultOfNode, FaultOfSet, FaultOfStatement};
 ghost use Rattle.crs_rules.specs.Statements.{FaultOfWord, FaultOver, IsRefusedBy, Joins, Over, States};
 ghost use Rattle.crs_rules.specs.Statements.{IsOfSet, joined, listed, refused_at};
-ghost use Rattle.crs_rules.specs.Grown.{HasGrown};
-ghost use Rattle.crs_rules.specs.Marks.{IsMarked, gone_back};
-ghost use Rattle.crs_rules.specs.Faults.{IsFaultIn};
+ghost use Rattle.crs_rules.specs.inner.Grown.{HasGrown};
+ghost use Rattle.crs_rules.specs.inner.Marks.{IsMarked, gone_back};
+ghost use Rattle.crs_rules.specs.inner.Faults.{IsFaultIn};
 
 use crate::fault::{NO_STATEMENT, NOT_HERE, OTHER_CLASS, REPEATED, RulesFault, RulesRefusal};
 use crate::member::{Member, kind_of, member_at};

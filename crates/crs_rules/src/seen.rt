@@ -1,9 +1,9 @@
 //! The nodes that stand in the sets so far.
 ghost use Rattle.std.specs.Prelude.{◌≡◌, [], IfOk, OnErr, length, take};
 ghost use Rattle.std.specs.Cmp.{partial_equiv_from_equiv};
-ghost use Rattle.crs_rules.specs.Equality.{digest_of, factors_equal, member_writes, members_equal};
-ghost use Rattle.crs_rules.specs.EqualityLaws.{members-equivalence, members-hash};
-ghost use Rattle.crs_rules.specs.AddedNodes.{IsAdded};
+ghost use Rattle.crs_rules.specs.inner.Equality.{digest_of, factors_equal, member_writes, members_equal};
+ghost use Rattle.crs_rules.specs.inner.EqualityLaws.{members-equivalence, members-hash};
+ghost use Rattle.crs_rules.specs.inner.AddedNodes.{IsAdded};
 
 use crate::member::Member;
 use crs_decimal::Decimal;

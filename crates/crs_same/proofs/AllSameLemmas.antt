@@ -5,7 +5,7 @@ use Rattle.crs_same.specs.declared.found.Found.{Found}
 use Rattle.crs_same.specs.declared.found.Found.TheVariants as found
 use Rattle.crs_same.specs.declared.step.Step.{Step}
 use Rattle.crs_same.specs.Parts.{Parts, PartsOf, none, part, ◌⨾◌, within, AllSame, AreSame, First}
-use Rattle.crs_same.specs.Walked.{Walks, Walked}
+use Rattle.crs_same.specs.inner.Walked.{Walks, Walked}
 
 -- those that are within something are within one thing
 abbrev pub IsSettled : Parts → Type 0

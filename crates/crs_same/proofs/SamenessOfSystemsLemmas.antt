@@ -6,7 +6,7 @@ use Rattle.crs_shape.specs.Prelude.{asked_kind}
 use Rattle.crs_value.specs.declared.values.level.Level.{Level}
 use Rattle.crs_value.specs.Prelude.{IsSystem, UnitParts, AxisParts, SystemParts}
 use Rattle.crs_same.specs.MatchingPrelude.{IsSameness, IsSamenessOf, SameIdents, SameAxisMeridian, own_or, HasAt, SameValue, SameUnit, equal-by, by, ◌⊗◌, in-words, optional}
-use Rattle.crs_same.specs.Agreement.{AgreeAxisIn, AgreeAxis, AgreeAxes, AgreeSystem}
+use Rattle.crs_same.specs.inner.Agreement.{AgreeAxisIn, AgreeAxis, AgreeAxes, AgreeSystem}
 use Rattle.crs_same.proofs.AxisLemmas.{which, at-both, which-both}
 
 -- ---- axes

@@ -12,7 +12,7 @@ use Rattle.crs_same.specs.Parts.{◌▸◌, Parts, none, part, ◌⨾◌, within
 use Rattle.crs_same.specs.PartsOfFrames.{parts_of_given, or_greenwich}
 use Rattle.crs_same.specs.PartsOfSystems.{parts_at, parts_of_axes}
 use Rattle.crs_same.specs.MatchingPrelude.{SameIdents, SameValue}
-use Rattle.crs_same.specs.Walked.{IsDone, IsRefused, Walks, Walked}
+use Rattle.crs_same.specs.inner.Walked.{IsDone, IsRefused, Walks, Walked}
 
 -- over parts of which none differs
 unchanged : {parts : Parts} {old : Found} → First parts None → Differences parts [] → Walked parts old old

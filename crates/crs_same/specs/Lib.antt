@@ -1,4 +1,3 @@
-pub mod Agreement
 pub mod Contents
 pub mod Definition
 pub mod MatchingPrelude
@@ -12,7 +11,6 @@ pub mod SameCrs
 pub mod SameIdents
 pub mod SameParts
 pub mod Sameness
-pub mod SamenessLaws
 pub mod Sets
 pub mod SingleParts
-pub mod Walked
+pub mod inner

@@ -3,5 +3,5 @@ pub use Rattle.crs_same.specs.SameParts.{SameGeoidModel, SameParameter, SameDefo
 pub use Rattle.crs_same.specs.SameIdents.{SameIdent, SameIdents, SameNamed}
 unfoldable pub use Rattle.crs_same.specs.SameParts.{SameValue}
 pub use Rattle.crs_same.specs.Sameness.{IsSameness, IsSamenessOf}
-pub use Rattle.crs_same.specs.SamenessLaws.{agree-as, agree-as-of, by, equal-by, in-words, of, optional, over, same-as, same-as-of, set, ◌⊗◌}
+pub use Rattle.crs_same.specs.inner.SamenessLaws.{agree-as, agree-as-of, by, equal-by, in-words, of, optional, over, same-as, same-as-of, set, ◌⊗◌}
 pub use Rattle.crs_same.specs.Sets.{AllHaveSame, BothOrNeither, HasSame, SameSet, with_bare}

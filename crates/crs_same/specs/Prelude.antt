@@ -1,6 +1,6 @@
 -- The names that proofs of the crates above cite, passed on from one place. Declares nothing.
-pub use Rattle.crs_same.specs.Agreement.{AgreeAt, AgreeAxes, AgreeBase, AgreeCompound, AgreeConversion, AgreeCrs, AgreeDatum, AgreeDynamic, AgreeEllipsoid, AgreeEnsemble, AgreeFrame, AgreeGeodetic, AgreeGiven, AgreeHorizontal, AgreeMeridian, AgreeMethod, AgreeProjected, AgreeSystem, AgreeTail, AgreeVertical}
-unfoldable pub use Rattle.crs_same.specs.Agreement.{AgreeAxis}
+pub use Rattle.crs_same.specs.inner.Agreement.{AgreeAt, AgreeAxes, AgreeBase, AgreeCompound, AgreeConversion, AgreeCrs, AgreeDatum, AgreeDynamic, AgreeEllipsoid, AgreeEnsemble, AgreeFrame, AgreeGeodetic, AgreeGiven, AgreeHorizontal, AgreeMeridian, AgreeMethod, AgreeProjected, AgreeSystem, AgreeTail, AgreeVertical}
+unfoldable pub use Rattle.crs_same.specs.inner.Agreement.{AgreeAxis}
 pub use Rattle.crs_same.specs.Contents.{given}
 pub use Rattle.crs_same.specs.Parts.{DifferenceParts, Differences, Parts, exchanged, part, ◌⨾◌}
 unfoldable pub use Rattle.crs_same.specs.Parts.{AreSame}

@@ -8,7 +8,7 @@ ghost use Rattle.crs_same.specs.PartsOfCrs.{kind_word, horizontal_word, parts_of
 ghost use Rattle.crs_same.specs.PartsOfCrs.{parts_of_projected, parts_of_vertical, parts_of_horizontal};
 ghost use Rattle.crs_same.specs.PartsOfCrs.{parts_of_compound, parts_of_crs, FirstInCrs, DifferencesInCrs};
 ghost use Rattle.crs_same.specs.SingleParts.{words, unlike, sets};
-ghost use Rattle.crs_same.specs.Walked.{Walked};
+ghost use Rattle.crs_same.specs.inner.Walked.{Walked};
 ghost use Rattle.crs_same.specs.SameCrs.{SameCrs};
 ghost use Rattle.crs_same.specs.SameParts.{SameGeoidModel};
 

@@ -12,7 +12,7 @@ ghost use Rattle.crs_same.specs.Parts.{◌▸◌, part};
 ghost use Rattle.crs_same.specs.SingleParts.{texts, optional_texts, unlike, numbers, optional_numbers, units};
 ghost use Rattle.crs_same.specs.SingleParts.{identifiers};
 ghost use Rattle.crs_same.specs.SameParts.{SameLength};
-ghost use Rattle.crs_same.specs.Walked.{IsDone, IsOfAll, Walked};
+ghost use Rattle.crs_same.specs.inner.Walked.{IsDone, IsOfAll, Walked};
 
 use crate::content::{Content, Members};
 use crate::path::{At, Path};

@@ -8,7 +8,7 @@ ghost use Rattle.crs_same.specs.PartsOfFrames.{parts_of_ellipsoid, parts_of_elli
 ghost use Rattle.crs_same.specs.PartsOfFrames.{unit_of, or_greenwich, parts_of_meridian};
 ghost use Rattle.crs_same.specs.PartsOfFrames.{parts_of_datum, parts_of_ensemble, parts_of_frame};
 ghost use Rattle.crs_same.specs.SingleParts.{sets};
-ghost use Rattle.crs_same.specs.Walked.{Walked};
+ghost use Rattle.crs_same.specs.inner.Walked.{Walked};
 ghost use Rattle.crs_same.specs.Parts.{◌▸◌, AreSame};
 ghost use Rattle.crs_same.specs.SameParts.{SameMember};
 

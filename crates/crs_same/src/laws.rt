@@ -12,7 +12,7 @@ ghost use Rattle.crs_value.specs.Values.{AxisParts, SystemParts};
 ghost use Rattle.crs_same.specs.declared.step.Step.{Step};
 ghost use Rattle.crs_same.specs.declared.step.Step.TheVariants as step;
 ghost use Rattle.crs_same.specs.Definition.{IsOfDefinition};
-ghost use Rattle.crs_same.specs.Agreement.{AgreeWhereSame};
+ghost use Rattle.crs_same.specs.inner.Agreement.{AgreeWhereSame};
 ghost use Rattle.crs_same.specs.PartsOfCrs.{parts_of_method, parts_of_conversion, parts_of_tail, parts_of_geodetic};
 ghost use Rattle.crs_same.specs.PartsOfCrs.{parts_of_base, parts_of_projected, parts_of_vertical, parts_of_horizontal};
 ghost use Rattle.crs_same.specs.PartsOfCrs.{parts_of_compound, FirstInCrs, DifferencesInCrs};

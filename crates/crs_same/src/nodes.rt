@@ -9,7 +9,7 @@ ghost use Rattle.crs_same.specs.Parts.{◌▸◌, AreSame};
 ghost use Rattle.crs_same.specs.PartsOfCrs.{parts_of_conversion, parts_of_dynamic, parts_of_method, parts_of_tail};
 ghost use Rattle.crs_same.specs.SameCrs.{SameDynamic};
 ghost use Rattle.crs_same.specs.SingleParts.{optional, sets};
-ghost use Rattle.crs_same.specs.Walked.{Walked};
+ghost use Rattle.crs_same.specs.inner.Walked.{Walked};
 
 use crate::content::{Content, Members, Usages};
 use crate::found::Found;

@@ -1,13 +1,8 @@
 pub mod Choice
-pub mod ClassSet
-pub mod Counts
 pub mod Dimensions
 pub mod Expected
 pub mod FaultPlace
-pub mod FirstFault
-pub mod KeywordTable
 pub mod Keywords
-pub mod Left
 pub mod Near
 pub mod Prelude
 pub mod RefusedItem
@@ -17,5 +12,5 @@ pub mod Shaped
 pub mod Slots
 pub mod Sought
 pub mod UnitKinds
-pub mod Walk
 pub mod Words
+pub mod inner

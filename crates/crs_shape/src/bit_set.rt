@@ -1,7 +1,7 @@
 //! Sets of classes and of keywords, as words with a bit for each: the test of a bit is one step, where a `match` is an
 //! often mispredicted branch.
 ghost use Rattle.std.specs.Prelude.{◌≡◌, ◌<◌};
-ghost use Rattle.crs_shape.specs.ClassSet.{has_bit};
+ghost use Rattle.crs_shape.specs.inner.ClassSet.{has_bit};
 
 // the set of these variants of an enum
 macro_rules! set {

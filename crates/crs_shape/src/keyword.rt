@@ -1,7 +1,7 @@
 //! Keywords, and the classes of each.
 ghost use Rattle.std.specs.Prelude.{◌≡◌};
 ghost use Rattle.std.specs.List.{find};
-ghost use Rattle.crs_shape.specs.KeywordTable.{classes_of, classes_by, is_among, is_root, rivals_of};
+ghost use Rattle.crs_shape.specs.inner.KeywordTable.{classes_of, classes_by, is_among, is_root, rivals_of};
 ghost use Rattle.crs_shape.specs.Keywords.{keywords_of, is_known, root_named};
 ghost use Rattle.crs_shape.specs.Shape.{has_class};
 

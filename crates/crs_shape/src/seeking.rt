@@ -1,7 +1,7 @@
 //! The search for an argument of a class.
 ghost use Rattle.std.specs.Prelude.{◌≡◌};
 ghost use Rattle.crs_text.specs.Items.{first_of, here, HasId};
-ghost use Rattle.crs_shape.specs.ClassSet.{keyword_set};
+ghost use Rattle.crs_shape.specs.inner.ClassSet.{keyword_set};
 ghost use Rattle.crs_shape.specs.ShapeFault.{class_in};
 ghost use Rattle.crs_shape.specs.Slots.{is_class};
 ghost use Rattle.crs_shape.specs.Sought.{kind_for, SoughtParts};

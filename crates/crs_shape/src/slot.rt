@@ -1,6 +1,6 @@
 //! Slots.
 ghost use Rattle.std.specs.Prelude.{◌≡◌};
-ghost use Rattle.crs_shape.specs.ClassSet.{HasSet};
+ghost use Rattle.crs_shape.specs.inner.ClassSet.{HasSet};
 ghost use Rattle.crs_shape.specs.Slots.{shown, takes};
 
 use crate::bit_set::BitSet;

@@ -1,4 +1,3 @@
-pub mod Cutting
 pub mod Escaped
 pub mod Filled
 pub mod Given
@@ -7,3 +6,4 @@ pub mod Lines
 pub mod LongLines
 pub mod Prelude
 pub mod Streams
+pub mod inner

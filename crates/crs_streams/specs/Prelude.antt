@@ -1,5 +1,5 @@
 -- The names that proofs of the crates above cite, passed on from one place. Declares nothing.
-pub use Rattle.crs_streams.specs.Cutting.{AreCut, CutsLines}
+pub use Rattle.crs_streams.specs.inner.Cutting.{AreCut, CutsLines}
 pub use Rattle.crs_streams.specs.Given.{GivesMore, GivesShortLines, HasGiven}
 pub use Rattle.crs_streams.specs.Json.{json_more, json_text}
 pub use Rattle.crs_streams.specs.Lines.{AreLines, HasNoFeed, IsSplit, IsTextOf, blank_in}

@@ -1,7 +1,7 @@
 //! Laws of lines: calls that do nothing, and whose contracts are the laws.
 ghost use Rattle.std.specs.Prelude.{◌≡◌, ℕ, List, map};
 ghost use Rattle.bstr.specs.Text.{lines_of, without_terminator};
-ghost use Rattle.crs_streams.specs.Cutting.{CutsLines};
+ghost use Rattle.crs_streams.specs.inner.Cutting.{CutsLines};
 ghost use Rattle.crs_streams.specs.Lines.{AreLines};
 
 /// Bytes have one list of lines, and it is the one that `bstr` cuts. Profile.

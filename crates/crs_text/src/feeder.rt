@@ -2,7 +2,7 @@
 ghost use Rattle.std.specs.Prelude.{◌≡◌, ◌++◌, [], None, take, IfErr, MatchResult};
 ghost use Rattle.crs_text.specs.Settled.{IsTakenSoFar, IsPieceFault, IsWantUnrefused};
 ghost use Rattle.crs_text.specs.TextFault.{SpellsNode, IsTextFault};
-ghost use Rattle.crs_text.specs.Feeding.{IsSettledTo, IsRefusalOf};
+ghost use Rattle.crs_text.specs.inner.Feeding.{IsSettledTo, IsRefusalOf};
 
 use crate::fault::Fault;
 use crate::feeding::{Held, Pending, read_on};
@@ -25,7 +25,7 @@ pub struct Feeder {
 
 impl Model for Feeder {
     ghost use Rattle.std.specs.Prelude.{ℕ, List};
-    ghost use Rattle.crs_text.specs.Feeding.{IsFed};
+    ghost use Rattle.crs_text.specs.inner.Feeding.{IsFed};
 
     ghost Value = { List ℕ };
 

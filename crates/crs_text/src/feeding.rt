@@ -1,10 +1,10 @@
 //! How far the front of a text is settled while more of it may come. What is pending at its end is scanned
 //! from where the last piece left it.
 ghost use Rattle.std.specs.Prelude.{◌<◌, length, IfSome, MatchBool, MatchResult};
-ghost use Rattle.crs_text.specs.Lexing.{IsLexed};
-ghost use Rattle.crs_text.specs.Feeding.{IsFlawSettled, IsLexedSettled, IsSettledTo, IsUnsettledAt, IsFedTo};
-ghost use Rattle.crs_text.specs.Feeding.{IsFedBefore, IsSettledFault, IsPendingIn, IsPendingBefore};
-ghost use Rattle.crs_text.specs.Feeding.{StaysPending, IsInsideTo, IsOpenTo};
+ghost use Rattle.crs_text.specs.inner.Lexing.{IsLexed};
+ghost use Rattle.crs_text.specs.inner.Feeding.{IsFlawSettled, IsLexedSettled, IsSettledTo, IsUnsettledAt, IsFedTo};
+ghost use Rattle.crs_text.specs.inner.Feeding.{IsFedBefore, IsSettledFault, IsPendingIn, IsPendingBefore};
+ghost use Rattle.crs_text.specs.inner.Feeding.{StaysPending, IsInsideTo, IsOpenTo};
 
 use crate::fault::Fault;
 use crate::lexing::{Lexed, closing_quote, rest_of, token_at, valid_length};

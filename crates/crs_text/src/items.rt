@@ -2,11 +2,11 @@ ghost use Rattle.std.specs.Prelude.{◌≡◌, ℕ, ◌+◌, ◌^◌, ◌<◌, �
 ghost use Rattle.std.specs.Prelude.{slice_index_or};
 ghost use Rattle.crs_text.specs.Items.{More, End, arguments, count, first_of, rest_of, skip, kind_of_item, raw_of, place_of};
 ghost use Rattle.crs_text.specs.Items.{keyword_in, close_of, size_of, here, HasId, IsAt, IsNumberOf};
-ghost use Rattle.crs_text.specs.Table.{no_row};
-ghost use Rattle.crs_text.specs.Rows.{rows, row_of};
-ghost use Rattle.crs_text.specs.Tree.{raw_place};
+ghost use Rattle.crs_text.specs.inner.Table.{no_row};
+ghost use Rattle.crs_text.specs.inner.Rows.{rows, row_of};
+ghost use Rattle.crs_text.specs.inner.Tree.{raw_place};
 ghost use Rattle.crs_text.specs.Written.{AreFormed, item_text};
-ghost use Rattle.crs_text.specs.Laid.{AreSquare, bytes_beside, bytes_of_rows};
+ghost use Rattle.crs_text.specs.inner.Laid.{AreSquare, bytes_beside, bytes_of_rows};
 
 use crate::keyword::Keyword;
 use crate::table::{Row, Table};
@@ -49,7 +49,7 @@ pub struct Items<'a> {
 
 impl<'a> Model for Items<'a> {
     ghost use Rattle.crs_text.specs.Items.{Item};
-    ghost use Rattle.crs_text.specs.Tree.{item_code, tree_of, IsTable};
+    ghost use Rattle.crs_text.specs.inner.Tree.{item_code, tree_of, IsTable};
 
     ghost Value = { Item };
 
@@ -63,7 +63,7 @@ impl<'a> Model for Items<'a> {
 #[tactic(auto, using(crate::proofs::rows::IdLemmas::id_rules))]
 impl<'a> Items<'a> {
     ghost use Rattle.crs_text.specs.Items.{Item};
-    ghost use Rattle.crs_text.specs.Tree.{IsTable};
+    ghost use Rattle.crs_text.specs.inner.Tree.{IsTable};
 
     /// The items of a whole table over its source.
     pub(crate) fn from_table(source: &'a [u8], table: Table) -> Self

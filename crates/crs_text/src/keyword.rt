@@ -3,7 +3,7 @@ ghost use Rattle.std.specs.Prelude.{◌≡◌, ℕ, ◌≤◌, ◌<◌, IsTrue, 
 ghost use Rattle.std.specs.Char.{to_ascii_lowercase};
 ghost use Rattle.std.specs.Str.{str_eq_ignore_ascii_case};
 ghost use Rattle.crs_text.specs.Keywords.{keyword_of, spelling_of};
-ghost use Rattle.crs_text.specs.KeywordTable.{as_spelled, spelled, of_length, first_among, is_capital, AreSuspects};
+ghost use Rattle.crs_text.specs.inner.KeywordTable.{as_spelled, spelled, of_length, first_among, is_capital, AreSuspects};
 ghost use Rattle.std.specs.List.{list_all};
 
 use crate::lexing::front_of;

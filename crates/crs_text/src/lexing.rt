@@ -3,9 +3,9 @@ ghost use Rattle.std.specs.Prelude.{◌≡◌, ◌+◌, ◌≤◌, ◌<◌, ◌�
 ghost use Rattle.std.specs.Prelude.{IsTrue, IfSome};
 ghost use Rattle.crs_text.specs.Quoted.{BeginsWith, IsInside, IsShutAt, StopsAt, is_quote};
 ghost use Rattle.crs_decimal.specs.Spelling as spelling;
-ghost use Rattle.crs_text.specs.Lexing.{IsLexed};
+ghost use Rattle.crs_text.specs.inner.Lexing.{IsLexed};
 ghost use Rattle.crs_text.specs.Utf8.{IsLongestUtf8, IsUtf8Front, IsValidTo};
-ghost use Rattle.crs_text.specs.Runs.{IsOneDigit, IsSigned, IsFractional};
+ghost use Rattle.crs_text.specs.inner.Runs.{IsOneDigit, IsSigned, IsFractional};
 
 use crate::refusal::Reason;
 use crate::runs::{ByteKind, Digits, PlainAscii, RunBytes, WordBytes, ends_run};

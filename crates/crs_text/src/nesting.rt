@@ -3,9 +3,9 @@ ghost use Rattle.std.specs.Prelude.{◌≡◌, ◌<◌, ℕ, None, [], length, d
 ghost use Rattle.crs_text.specs.Items.{Item};
 ghost use Rattle.crs_text.specs.Viable.{opens};
 ghost use Rattle.crs_text.specs.TextFault.{RefusesText, SpellsNode};
-ghost use Rattle.crs_text.specs.Lexing.{IsLexed};
+ghost use Rattle.crs_text.specs.inner.Lexing.{IsLexed};
 ghost use Rattle.crs_text.specs.Innermost.{IsInnermost};
-ghost use Rattle.crs_text.specs.Nesting.{IsPassed, IsHalted, IsAnswered};
+ghost use Rattle.crs_text.specs.inner.Nesting.{IsPassed, IsHalted, IsAnswered};
 
 use crate::lexing::{Lexed, rest_of, token_at};
 use crate::scanning::after_white;

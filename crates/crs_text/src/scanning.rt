@@ -4,10 +4,10 @@ ghost use Rattle.std.specs.List.{prefix_len};
 ghost use Rattle.crs_text.specs.Tokens.{Forms, opening, is_letter, is_white};
 ghost use Rattle.crs_text.specs.Quoted.{BeginsWith};
 ghost use Rattle.crs_text.specs.TextFault.{IsTextFault, SpellsNode};
-ghost use Rattle.crs_text.specs.Scan.{IsReached, IsFurther, IsPassed, IsTaken, IsStoppedBy, IsScanned};
-ghost use Rattle.crs_text.specs.Lexing.{IsLexed};
+ghost use Rattle.crs_text.specs.inner.Scan.{IsReached, IsFurther, IsPassed, IsTaken, IsStoppedBy, IsScanned};
+ghost use Rattle.crs_text.specs.inner.Lexing.{IsLexed};
 ghost use Rattle.crs_text.specs.Items.{keyword_at};
-ghost use Rattle.crs_text.specs.Table.{flat_single, IsStep};
+ghost use Rattle.crs_text.specs.inner.Table.{flat_single, IsStep};
 
 use crate::fault::Fault;
 use crate::items::{ItemKind, Items};

@@ -1,12 +1,12 @@
 ghost use Rattle.std.specs.Prelude.{◌≡◌, ◌+◌, ◌-◌, ◌<◌, ◌≤◌, ◌&&◌, true, IsSome, IfOk, OnOk, OnErr, MatchBool};
 ghost use Rattle.std.specs.Prelude.{[], length};
-ghost use Rattle.crs_text.specs.Table.{may_begin, with_first, with_opened};
-ghost use Rattle.crs_text.specs.Table.{flat_single, may_go_on, flat_comma, has_square};
-ghost use Rattle.crs_text.specs.Table.{flat_close, IsStep, IsOpened, IsNodeBegun, is_whole};
+ghost use Rattle.crs_text.specs.inner.Table.{may_begin, with_first, with_opened};
+ghost use Rattle.crs_text.specs.inner.Table.{flat_single, may_go_on, flat_comma, has_square};
+ghost use Rattle.crs_text.specs.inner.Table.{flat_close, IsStep, IsOpened, IsNodeBegun, is_whole};
 ghost use Rattle.crs_text.specs.Items.{keyword_at};
 ghost use Rattle.crs_text.specs.Keywords.{keyword_of};
-ghost use Rattle.crs_text.specs.State.{start};
-ghost use Rattle.crs_text.specs.Rows.{flat};
+ghost use Rattle.crs_text.specs.inner.State.{start};
+ghost use Rattle.crs_text.specs.inner.Rows.{flat};
 
 use crate::items::ItemKind;
 use crate::keyword::Keyword;
@@ -72,7 +72,7 @@ pub(crate) struct Table {
 
 impl Model for Table {
     ghost use Rattle.std.specs.Prelude.{◌≤◌};
-    ghost use Rattle.crs_text.specs.Table.{Flat, held, IsRoomy};
+    ghost use Rattle.crs_text.specs.inner.Table.{Flat, held, IsRoomy};
 
     ghost Value = { Flat };
 

@@ -3,19 +3,10 @@ pub mod CompoundValues
 pub mod CrsValues
 pub mod Cursor
 pub mod EnsembleFrames
-pub mod FirstArguments
-pub mod FirstByte
-pub mod FoundArguments
-pub mod Fronts
-pub mod Judged
 pub mod Kept
-pub mod KeptLaws
-pub mod Least
 pub mod Members
 pub mod NamedValues
 pub mod Prelude
-pub mod QuickChecks
-pub mod ReadOnce
 pub mod Reading
 pub mod Reads
 pub mod ReadsCrs
@@ -30,4 +21,4 @@ pub mod SoundSingle
 pub mod Spells
 pub mod SpellsText
 pub mod Values
-pub mod WholeNumbers
+pub mod inner

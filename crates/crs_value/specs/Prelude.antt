@@ -5,12 +5,12 @@ pub use Rattle.crs_value.specs.CompoundValues.{CompoundParts}
 pub use Rattle.crs_value.specs.Values.{ConversionParts, GeoidModelParts, MethodParts, ParameterParts, DeformationModelParts, DynamicParts, AxisMeridianParts, AxisParts, BoxParts, DatumParts, EllipsoidParts, EnsembleParts, ExtentParts, MemberParts, MeridianParts, SaysSome, SystemParts, TailParts, UnitParts, UsageParts}
 pub use Rattle.crs_value.specs.CrsValues.{BaseParts, GeodeticParts, ProjectedParts, VerticalParts}
 pub use Rattle.crs_value.specs.EnsembleFrames.{datum_of, frame_of}
-pub use Rattle.crs_value.specs.FoundArguments.{from_found}
+pub use Rattle.crs_value.specs.inner.FoundArguments.{from_found}
 pub use Rattle.crs_value.specs.Kept.{kept, kept_one}
-pub use Rattle.crs_value.specs.KeptLaws.{kept-each, kept-if_some, kept-joined, kept-made, kept-made_one, kept-none, kept-where_none, kept-where_none-one}
+pub use Rattle.crs_value.specs.inner.KeptLaws.{kept-each, kept-if_some, kept-joined, kept-made, kept-made_one, kept-none, kept-where_none, kept-where_none-one}
 pub use Rattle.crs_value.specs.Members.{AreIn, HaveSameMembers, IsIn}
 pub use Rattle.crs_value.specs.NamedValues.{NamedParts}
-pub use Rattle.crs_value.specs.ReadOnce.{IsReadAs, IsReadOnce}
+pub use Rattle.crs_value.specs.inner.ReadOnce.{IsReadAs, IsReadOnce}
 pub use Rattle.crs_value.specs.Reading.{Holds, IsFound, IsReading, OneIs, ReadsAll, ReadsEach, ReadsElse, ReadsFirst, ReadsIfAny, ReadsOne, ReadsOptional, ahead, is_a, is_same, item_at, those}
 pub use Rattle.crs_value.specs.Reads.{IsUnitClass, LacksUsage, ReadsAxis, ReadsAxisMeridian, ReadsBare, ReadsBox, ReadsDatum, ReadsDirection, ReadsEllipsoid, ReadsEnsemble, ReadsExtent, ReadsHead, ReadsIdent, ReadsIds, ReadsKind, ReadsMember, ReadsMeridian, ReadsNumber, ReadsNumberOf, ReadsSystem, ReadsTail, ReadsText, ReadsTextOf, ReadsType, ReadsUnit, ReadsUsage, single_of, ReadsAsUnit, ReadsConversion, ReadsGeoidModel, ReadsMethod, ReadsParameter, ReadsUnitOf, parameter_units, ReadsDeformationModel, ReadsDynamic}
 pub use Rattle.crs_value.specs.ReadsCrs.{IsGeodeticClass, ReadsAsDatum, ReadsAsEnsemble, ReadsAsHorizontal, ReadsBase, ReadsCompound, ReadsCrs, ReadsFrame, ReadsGeodetic, ReadsProjected, ReadsVertical, kind_by, kind_of}

@@ -9,7 +9,7 @@ use Rattle.crs_text.specs.Items.{HasId}
 use Rattle.crs_shape.specs.contracts.class.Class.{the_type}
 use Rattle.crs_shape.specs.declared.class.Class.{Class}
 pub use Rattle.crs_shape.specs.Choice.{OneIs, IsReading}
-use Rattle.crs_shape.specs.Counts.{is_bounded, least, most}
+use Rattle.crs_shape.specs.inner.Counts.{is_bounded, least, most}
 use Rattle.crs_shape.specs.ShapeFault.{class_in}
 use Rattle.crs_shape.specs.Slots.{slots_of, is_class}
 

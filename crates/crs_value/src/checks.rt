@@ -10,8 +10,8 @@ ghost use Rattle.crs_shape.specs.declared.class.Class.{Class};
 ghost use Rattle.crs_shape.specs.Shaped.{Shaped};
 ghost use Rattle.crs_value.specs.Checks.{at, AnyOf, IsLeast};
 ghost use Rattle.crs_value.specs.Cursor.{args, item};
-ghost use Rattle.crs_value.specs.FoundArguments.{from_found, AllShaped};
-ghost use Rattle.crs_value.specs.Least.{lesser};
+ghost use Rattle.crs_value.specs.inner.FoundArguments.{from_found, AllShaped};
+ghost use Rattle.crs_value.specs.inner.Least.{lesser};
 ghost use Rattle.crs_value.specs.Reading.{item_at, Holds, TakesOne};
 
 use crate::reading::arguments::{first, later};

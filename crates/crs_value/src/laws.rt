@@ -8,7 +8,7 @@ ghost use Rattle.crs_value.specs.Reads.{ReadsIdent, ReadsUnit, ReadsMember, Read
 ghost use Rattle.crs_value.specs.SoundCrs.{IsCrs};
 ghost use Rattle.crs_value.specs.Spells.{SpellsCrs, RefusesCrs};
 ghost use Rattle.crs_value.specs.SpellsText.{Spells, Refuses, IsRefusalNumber};
-ghost use Rattle.crs_value.specs.ReadOnce.{IsReadOnce};
+ghost use Rattle.crs_value.specs.inner.ReadOnce.{IsReadOnce};
 
 pub mod parts;
 

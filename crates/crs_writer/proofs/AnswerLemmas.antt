@@ -7,7 +7,7 @@ use Rattle.crs_value.specs.Prelude.{ReadsCrs, SpellsCrs}
 use Rattle.crs_value.specs.declared.values.crs.Crs.{Crs}
 use Rattle.crs_value.specs.declared.values.level.Level.{Level}
 use Rattle.crs_writer.specs.Prelude.{crs_text}
-use Rattle.crs_writer.specs.FromItems.{IsRead, Writes}
+use Rattle.crs_writer.specs.inner.FromItems.{IsRead, Writes}
 
 pub from-items : (level : Level) (item root : Item) (c : Class) (old bytes : List ℕ) (crs : Crs) → root ≡ item → old ≡ [] →
     Writes (ReadsCrs c root) (crs_text level) old bytes → SpellsCrs item crs → class_of_root item ≡ Some c → bytes ≡ crs_text level crs

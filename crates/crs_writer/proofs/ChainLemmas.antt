@@ -3,7 +3,7 @@ use Rattle.std.proofs.Common.{◌≡◌, ℕ, suc, ◌<◌, length, List, [], �
 use Rattle.crs_text.specs.Prelude.{Item, rest_of, here}
 use Rattle.crs_shape.specs.declared.class.Class.{Class}
 use Rattle.crs_value.specs.Prelude.{from_found, item_at, those, ReadsEach}
-use Rattle.crs_writer.specs.Parts.{SaysFirst}
+use Rattle.crs_writer.specs.inner.Parts.{SaysFirst}
 
 pub none-left : {V : Type 0} (R : Item → V → Type 0) (tree : Item) (parent c : Class) (at : Option ℕ) → at ≡ None →
     (values : List V) → ReadsEach R (from_found tree parent c at) values → values ≡ []

@@ -9,7 +9,7 @@ use Rattle.crs_shape.specs.declared.unit_kind.UnitKind.TheVariants as kinds
 use Rattle.crs_value.specs.Prelude.{those, ReadsAxis, ReadsAxisMeridian, ReadsUnit, AxisParts, SystemParts}
 use Rattle.crs_value.specs.declared.values.level.Level.{Level}
 use Rattle.crs_normal.specs.Prelude.{item_axis, norm_axis, number_node, whole_value}
-use Rattle.crs_writer.specs.Copied.{IsDirectionWord, IsEnd, IsPlainOrder, IsSaidKind, IsSaidUnit, IsText}
+use Rattle.crs_writer.specs.inner.Copied.{IsDirectionWord, IsEnd, IsPlainOrder, IsSaidKind, IsSaidUnit, IsText}
 use Rattle.crs_writer.proofs.CopiedLemmas.{Identifies, end-copied, end-none, leaf-at, leaf-text, node-at, node-text, none-read, some-read, those-in, unit-copied}
 
 -- units of length and of angle are those of axes

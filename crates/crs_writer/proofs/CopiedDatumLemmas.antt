@@ -9,7 +9,7 @@ use Rattle.crs_value.specs.Prelude.{ReadsEach, ReadsDatum, ReadsEllipsoid, Reads
 use Rattle.crs_value.specs.Values.{IdentParts}
 use Rattle.crs_value.specs.declared.values.level.Level.{Level}
 use Rattle.crs_normal.specs.Prelude.{ellipsoid_text, item_datum, norm_datum, set_idents}
-use Rattle.crs_writer.specs.Copied.{IsPlainEllipsoid, IsText}
+use Rattle.crs_writer.specs.inner.Copied.{IsPlainEllipsoid, IsText}
 use Rattle.crs_writer.proofs.CopiedLemmas.{leaf-at, leaf-text, node-at, node-text, none-kept, none-read, number-said, some-read, those-in, unit-copied}
 
 -- no identifiers are read, and none are written

@@ -14,7 +14,7 @@ use Rattle.crs_value.specs.Values.{IdentParts}
 use Rattle.crs_value.specs.declared.values.level.Level.{Level}
 use Rattle.crs_value.specs.declared.values.level.Level.TheVariants as levels
 use Rattle.crs_normal.specs.Prelude.{method_text, parameter_text, each, is_short, item_ident, item_unit, norm_unit, set_idents}
-use Rattle.crs_writer.specs.Copied.{IsEnd, IsPlainNumber, IsSaidUnit, IsShortIdent, IsText, SaysKind}
+use Rattle.crs_writer.specs.inner.Copied.{IsEnd, IsPlainNumber, IsSaidUnit, IsShortIdent, IsText, SaysKind}
 
 -- ---- items that are no nodes
 

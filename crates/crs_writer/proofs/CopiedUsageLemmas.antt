@@ -7,7 +7,7 @@ use Rattle.crs_shape.specs.declared.class.Class.TheVariants as class
 use Rattle.crs_value.specs.Prelude.{ReadsBox, ReadsExtent, ReadsTextOf, ReadsUsage, BoxParts, UsageParts}
 use Rattle.crs_value.specs.declared.values.level.Level.{Level}
 use Rattle.crs_normal.specs.Prelude.{usage_text, text_node, item_box}
-use Rattle.crs_writer.specs.Copied.{IsPlainBox, IsTextNode}
+use Rattle.crs_writer.specs.inner.Copied.{IsPlainBox, IsTextNode}
 use Rattle.crs_writer.proofs.CopiedLemmas.{leaf-at, leaf-text, node-at, node-text, none-read, number-said, some-read, those-in}
 
 -- a node of one text

@@ -1,7 +1,7 @@
 -- Bytes that are copied.
 use Rattle.std.proofs.Common.{◌≡◌, ℕ, List, ◌∷◌, ◌++◌, OnOk, Result, ap, ◌∙◌}
 use Rattle.std.proofs.lemmas.Result.{on_ok_weaker}
-use Rattle.crs_writer.specs.FromItems.{Writes}
+use Rattle.crs_writer.specs.inner.FromItems.{Writes}
 
 -- a copy, if it is the text of all that is read
 pub copy-writes : {T E V : Type 0} (r : Result T E) (Reads : V → Type 0) (spell : V → List ℕ) (bytes old new : List ℕ) →

@@ -5,8 +5,8 @@ use denote.Bor.{Bor}
 use Rattle.crs_text.specs.Prelude.{Item}
 use Rattle.crs_shape.specs.declared.class.Class.{Class}
 use Rattle.crs_value.specs.Prelude.{ReadsEach, ReadsFirst, ReadsOptional}
-use Rattle.crs_writer.specs.Node.{IsFirst, args, item}
-use Rattle.crs_writer.specs.Found.{SaysIfAny}
+use Rattle.crs_writer.specs.inner.Node.{IsFirst, args, item}
+use Rattle.crs_writer.specs.inner.Found.{SaysIfAny}
 use Rattle.crs_writer.specs.declared.node.Node.{Node}
 use Rattle.crs_writer.proofs.FlatLemmas.{through}
 

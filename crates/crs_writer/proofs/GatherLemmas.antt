@@ -1,8 +1,8 @@
 -- Spellings of the members of a set that are gathered one after another.
 use Rattle.std.proofs.Common.{◌≡◌, ℕ, List, [], ◌∷◌, ◌++◌, map, refl, sym, ap, ◌∙◌}
 use Rattle.crs_normal.specs.Prelude.{in_order, put, put_all}
-use Rattle.crs_writer.specs.Members.{set_text}
-use Rattle.crs_writer.specs.Parts.{SaysFirst}
+use Rattle.crs_writer.specs.inner.Members.{set_text}
+use Rattle.crs_writer.specs.inner.Parts.{SaysFirst}
 use Rattle.crs_writer.specs.SetText.{commas}
 
 -- the spellings of the members before these are among those that are gathered

@@ -12,8 +12,8 @@ use Rattle.crs_value.specs.declared.values.level.Level.{Level}
 use Rattle.crs_value.specs.declared.values.level.Level.TheVariants as levels
 use Rattle.crs_same.specs.MatchingPrelude.{with_bare}
 use Rattle.crs_normal.specs.Prelude.{item_ensemble, item_frame, norm_ensemble, norm_frame, each, item_ident, set_idents, item_usage, norm_usage, set_usages}
-use Rattle.crs_writer.specs.FromItems.{Writes}
-use Rattle.crs_writer.specs.Members.{set_text}
+use Rattle.crs_writer.specs.inner.FromItems.{Writes}
+use Rattle.crs_writer.specs.inner.Members.{set_text}
 use Rattle.crs_writer.proofs.WrittenLemmas.{idents-written, usages-written}
 
 -- the same text in other words

@@ -7,8 +7,8 @@ use Rattle.std.specs.Cmp.Lexicographic.{slice_cmp}
 use Rattle.std.specs.Ordering.{nat_cmp, match_ordering}
 use Rattle.std.specs.declared.cmp.Ordering.{Ordering}
 use Rattle.std.specs.declared.cmp.Ordering.TheVariants.{Less}
-use Rattle.crs_writer.specs.Members.{set_text}
-use Rattle.crs_writer.specs.Openings.{text_behind}
+use Rattle.crs_writer.specs.inner.Members.{set_text}
+use Rattle.crs_writer.specs.inner.Openings.{text_behind}
 use Rattle.crs_writer.specs.SetText.{commas}
 
 more-text : (item : Item) (rest : Siblings) → others_text (More item rest) ≡ others_text (More item End) ++ others_text rest

@@ -1,14 +1,5 @@
 pub mod Canonical
-pub mod Copied
-pub mod CrsText
 pub mod Equality
-pub mod EqualityLaws
-pub mod Found
-pub mod FromItems
-pub mod Members
-pub mod Node
-pub mod Openings
-pub mod Parts
 pub mod Prelude
 pub mod SetText
-pub mod Spans
+pub mod inner

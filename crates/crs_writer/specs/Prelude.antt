@@ -1,8 +1,8 @@
 -- The names that proofs of the crates above cite, passed on from one place. Declares nothing.
 pub use Rattle.crs_writer.specs.Canonical.{AppendsSpelling, CanonicalText, IsCanonicalOf, IsCanonicalText}
-pub use Rattle.crs_writer.specs.CrsText.{crs_text}
+pub use Rattle.crs_writer.specs.inner.CrsText.{crs_text}
 pub use Rattle.crs_writer.specs.Equality.{canons_equal}
-pub use Rattle.crs_writer.specs.EqualityLaws.{canons-decide, canons-hash}
-pub use Rattle.crs_writer.specs.Members.{ArePut, AreSpellingsOf, IsOnlySpelling, lacking, spellings}
-unfoldable pub use Rattle.crs_writer.specs.Members.{set_text}
+pub use Rattle.crs_writer.specs.inner.EqualityLaws.{canons-decide, canons-hash}
+pub use Rattle.crs_writer.specs.inner.Members.{ArePut, AreSpellingsOf, IsOnlySpelling, lacking, spellings}
+unfoldable pub use Rattle.crs_writer.specs.inner.Members.{set_text}
 pub use Rattle.crs_writer.specs.SetText.{HaveOneTextWhereSame, IsSetText, SpellsOneOf, comma_separated, commas}

@@ -4,7 +4,7 @@ ghost use Rattle.crs_shape.specs.ShapeFault.{class_of_root};
 ghost use Rattle.crs_value.specs.Spells.{SpellsCrs};
 ghost use Rattle.crs_value.specs.SpellsText.{IsFaultOfText};
 ghost use Rattle.crs_value.specs.declared.values.crs.Crs.{Crs};
-ghost use Rattle.crs_writer.specs.FromItems.{IsRead};
+ghost use Rattle.crs_writer.specs.inner.FromItems.{IsRead};
 ghost use Rattle.crs_writer.specs.Canonical.{IsCanonicalOf, IsCanonicalText};
 
 use crate::canon_text::canon_from;

@@ -4,8 +4,8 @@ ghost use Rattle.crs_text.specs.Items.{HasId, arguments};
 ghost use Rattle.crs_value.specs.Reading.{Holds, item_at, those, ReadsAll};
 ghost use Rattle.crs_value.specs.Reads.{ReadsAxis};
 ghost use Rattle.crs_value.specs.Values.{AxisParts};
-ghost use Rattle.crs_normal.specs.SpelledSystems.{axis_at, is_at, is_number};
-ghost use Rattle.crs_writer.specs.FromItems.{IsReadAt};
+ghost use Rattle.crs_normal.specs.inner.SpelledSystems.{axis_at, is_at, is_number};
+ghost use Rattle.crs_writer.specs.inner.FromItems.{IsReadAt};
 
 use crate::Node;
 use crate::lookup::{first, later};

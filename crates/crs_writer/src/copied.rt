@@ -7,13 +7,13 @@ ghost use Rattle.crs_value.specs.Values.{MethodParts, ParameterParts, AxisParts,
 ghost use Rattle.crs_value.specs.Reading.{Holds, ahead, item_at};
 ghost use Rattle.crs_value.specs.Reads.{ReadsAxis, ReadsDatum, ReadsIdent, ReadsUsage, ReadsMethod, ReadsParameter};
 ghost use Rattle.crs_value.specs.declared.values.level.Level.TheVariants as levels;
-ghost use Rattle.crs_normal.specs.PartTexts.{method_text, parameter_text, usage_text};
-ghost use Rattle.crs_normal.specs.SpelledFrames.{item_datum, norm_datum};
-ghost use Rattle.crs_normal.specs.SpelledItems.{is_short, item_ident};
-ghost use Rattle.crs_normal.specs.SpelledSystems.{item_axis, norm_axis};
-ghost use Rattle.crs_writer.specs.Copied.{IsDirectionWord, IsEnd, IsNext, IsOpened, IsPlainBox, IsPlainEllipsoid};
-ghost use Rattle.crs_writer.specs.Copied.{IsPlainNumber, IsPlainOrder, IsSaidKind, IsSaidUnit, IsShortIdent, IsTextNode};
-ghost use Rattle.crs_writer.specs.Node.{item};
+ghost use Rattle.crs_normal.specs.inner.PartTexts.{method_text, parameter_text, usage_text};
+ghost use Rattle.crs_normal.specs.inner.SpelledFrames.{item_datum, norm_datum};
+ghost use Rattle.crs_normal.specs.inner.SpelledItems.{is_short, item_ident};
+ghost use Rattle.crs_normal.specs.inner.SpelledSystems.{item_axis, norm_axis};
+ghost use Rattle.crs_writer.specs.inner.Copied.{IsDirectionWord, IsEnd, IsNext, IsOpened, IsPlainBox, IsPlainEllipsoid};
+ghost use Rattle.crs_writer.specs.inner.Copied.{IsPlainNumber, IsPlainOrder, IsSaidKind, IsSaidUnit, IsShortIdent, IsTextNode};
+ghost use Rattle.crs_writer.specs.inner.Node.{item};
 
 use crate::node::Node;
 use crs_decimal::{are_digits, is_plain};

@@ -2,9 +2,9 @@
 ghost use Rattle.crs_value.specs.SoundCrs.{IsCrs};
 ghost use Rattle.crs_value.specs.declared.values.level.Level.{Level};
 ghost use Rattle.crs_same.specs.SameCrs.{SameCrs};
-ghost use Rattle.crs_normal.specs.WrittenForm.{IsWrittenForm};
+ghost use Rattle.crs_normal.specs.inner.WrittenForm.{IsWrittenForm};
 ghost use Rattle.crs_writer.specs.Canonical.{IsCanonicalText};
-ghost use Rattle.crs_writer.specs.CrsText.{crs_text};
+ghost use Rattle.crs_writer.specs.inner.CrsText.{crs_text};
 
 use crs_normal::laws::texts::{
     normal_text_is_closed_node, normal_texts_are_equal_where_same, one_form_is_the_same,

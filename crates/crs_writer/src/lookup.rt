@@ -1,9 +1,9 @@
 //! The arguments of a node, by their class.
 ghost use Rattle.std.specs.Prelude.{◌≡◌, IsTrue, drop};
 ghost use Rattle.crs_text.specs.Items.{arguments, rest_of, here, HasId};
-ghost use Rattle.crs_value.specs.FoundArguments.{from_found};
+ghost use Rattle.crs_value.specs.inner.FoundArguments.{from_found};
 ghost use Rattle.crs_value.specs.Reading.{item_at, ahead, Holds, those};
-ghost use Rattle.crs_writer.specs.Found.{AreLeaves};
+ghost use Rattle.crs_writer.specs.inner.Found.{AreLeaves};
 
 use crs_shape::{Class, Sought};
 use crs_text::{ItemId, Items};

@@ -2,13 +2,13 @@
 ghost use Rattle.std.specs.Prelude.{◌≡◌, ◌<◌, [], ℕ, IsTrue, List, MatchOption, OnOk, length};
 ghost use Rattle.crs_text.specs.Items.{Item};
 ghost use Rattle.crs_shape.specs.declared.class.Class.{Class};
-ghost use Rattle.crs_value.specs.FoundArguments.{from_found};
+ghost use Rattle.crs_value.specs.inner.FoundArguments.{from_found};
 ghost use Rattle.crs_value.specs.Reading.{Holds, ReadsEach};
-ghost use Rattle.crs_normal.specs.Ordered.{put};
-ghost use Rattle.crs_writer.specs.Node.{item};
-ghost use Rattle.crs_writer.specs.FromItems.{Writes};
-ghost use Rattle.crs_writer.specs.Parts.{SaysFirst};
-ghost use Rattle.crs_writer.specs.Spans.{AreInOrder, texts_at};
+ghost use Rattle.crs_normal.specs.inner.Ordered.{put};
+ghost use Rattle.crs_writer.specs.inner.Node.{item};
+ghost use Rattle.crs_writer.specs.inner.FromItems.{Writes};
+ghost use Rattle.crs_writer.specs.inner.Parts.{SaysFirst};
+ghost use Rattle.crs_writer.specs.inner.Spans.{AreInOrder, texts_at};
 
 use crate::parts::{Appended, Part, Spell};
 use crate::set::{FEW, MEMBER_ROOM};

@@ -2,9 +2,9 @@
 ghost use Rattle.std.specs.Prelude.{◌≡◌, ◌++◌, OnOk, Some};
 ghost use Rattle.crs_decimal.specs.Plain.{plain};
 ghost use Rattle.crs_decimal.specs.Value.{Value};
-ghost use Rattle.crs_normal.specs.SpelledItems.{whole_value};
-ghost use Rattle.crs_writer.specs.Found.{IsNumber};
-ghost use Rattle.crs_writer.specs.FromItems.{Writes};
+ghost use Rattle.crs_normal.specs.inner.SpelledItems.{whole_value};
+ghost use Rattle.crs_writer.specs.inner.Found.{IsNumber};
+ghost use Rattle.crs_writer.specs.inner.FromItems.{Writes};
 
 use crate::texts::{append, write_decimal};
 use crs_decimal::{Decimal, plain_of};

@@ -1,10 +1,10 @@
 //! Sets: each spelling once, in ascending order of the bytes.
 ghost use Rattle.std.specs.Prelude.{◌≡◌, ◌∷◌, ◌++◌, List, map, OnOk};
-ghost use Rattle.crs_normal.specs.Ordered.{put, put_all};
-ghost use Rattle.crs_writer.specs.FromItems.{Writes};
-ghost use Rattle.crs_writer.specs.Members.{set_text, spellings};
+ghost use Rattle.crs_normal.specs.inner.Ordered.{put, put_all};
+ghost use Rattle.crs_writer.specs.inner.FromItems.{Writes};
+ghost use Rattle.crs_writer.specs.inner.Members.{set_text, spellings};
 ghost use Rattle.crs_writer.specs.SetText.{commas};
-ghost use Rattle.crs_writer.specs.Spans.{AreInOrder, texts_at};
+ghost use Rattle.crs_writer.specs.inner.Spans.{AreInOrder, texts_at};
 
 use crate::append;
 use crate::members::{MemberPart, MembersPart};
@@ -131,7 +131,7 @@ pub(crate) fn write_set_with<T: Spell, P: MemberPart<T>, M: MembersPart<T>>(
 /// Appends a set, a comma before each member. Profile.
 ///
 /// `AllocError`: there is no memory for it.
-#[tactic(auto, unfolding(crate::specs::Members::set_text))]
+#[tactic(auto, unfolding(crate::specs::inner::Members::set_text))]
 #[inline(always)]
 pub fn write_set<T: Spell, M: MembersPart<T>>(
     out: &mut Vec<u8>,

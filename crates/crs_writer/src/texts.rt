@@ -4,8 +4,8 @@ ghost use Rattle.std.specs.Option.{option_copied};
 ghost use Rattle.crs_decimal.specs.Plain.{plain};
 ghost use Rattle.crs_text.specs.Items.{End, More};
 ghost use Rattle.crs_text.specs.Written.{item_text, others_text};
-ghost use Rattle.crs_normal.specs.SpelledItems.{code_item, number_item};
-ghost use Rattle.crs_writer.specs.Openings.{opened, text_behind};
+ghost use Rattle.crs_normal.specs.inner.SpelledItems.{code_item, number_item};
+ghost use Rattle.crs_writer.specs.inner.Openings.{opened, text_behind};
 
 use crate::is_short;
 use crs_decimal::Decimal;

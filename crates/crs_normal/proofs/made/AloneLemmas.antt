@@ -11,7 +11,7 @@ use Rattle.crs_value.specs.Prelude.{those, IsAxis, IsAxisUnit, IsUnit, AxisParts
 use Rattle.crs_value.specs.declared.values.level.Level.{Level}
 use Rattle.crs_same.specs.MatchingPrelude.{kind_as}
 use Rattle.crs_normal.specs.AxisAlone.{AreNormalArguments, IsNormalArgument, IsNormalAxis}
-use Rattle.crs_normal.specs.LowerLaws.{LowerLaws}
+use Rattle.crs_normal.specs.inner.LowerLaws.{LowerLaws}
 use Rattle.crs_normal.specs.Normal.{IsNormalIn}
 use Rattle.crs_normal.specs.Prelude.{norm_axis_alone, number_node, item_axis, item_axis_meridian, norm_axis_meridians, item_unit, norm_units}
 use Rattle.crs_normal.proofs.made.AxisLemmas.{axis-meridians-made, known-direction, order-argument, axis-names, direction-letters}

@@ -9,7 +9,7 @@ use Rattle.crs_shape.specs.Prelude.{is_keyword, Allowed, SlotParts, class_in, cl
 use Rattle.crs_value.specs.declared.values.level.Level.{Level}
 use Rattle.crs_value.specs.Prelude.{IsText, those, Own as BreaksOwn}
 use Rattle.crs_value.specs.Sound.{Each}
-use Rattle.crs_normal.specs.LowerLaws.{LowerLaws}
+use Rattle.crs_normal.specs.inner.LowerLaws.{LowerLaws}
 use Rattle.crs_normal.specs.Normal.{IsFirstKeyword, IsNormalIn, AreNormalIn, IsNormalNode}
 use Rattle.crs_normal.specs.NormalOwn.{HasOwnForm, Rise, set_classes, Ascend}
 use Rattle.crs_normal.specs.Prelude.{each, node_of, number_item, number_node, opt, text_item, text_node, in_order}

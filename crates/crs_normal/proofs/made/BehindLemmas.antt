@@ -10,7 +10,7 @@ use Rattle.crs_shape.specs.Prelude.{class_named, IsOneOf}
 use Rattle.crs_value.specs.Prelude.{kept_one, those, IsSystem, SystemParts, TailParts}
 use Rattle.crs_value.specs.declared.values.level.Level.{Level}
 use Rattle.crs_value.specs.Sound.{Each}
-use Rattle.crs_normal.specs.LowerLaws.{LowerLaws}
+use Rattle.crs_normal.specs.inner.LowerLaws.{LowerLaws}
 use Rattle.crs_normal.specs.Prelude.{axes_from, item_axis, item_head, norm_system, text_node}
 use Rattle.crs_normal.specs.NormalOwn.{Lacks, bare_classes}
 use Rattle.crs_normal.proofs.read.ViewLemmas.{each-so}

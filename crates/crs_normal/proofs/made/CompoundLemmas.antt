@@ -13,9 +13,9 @@ use Rattle.crs_value.specs.declared.values.compound.Horizontal.{Horizontal}
 use Rattle.crs_value.specs.declared.values.compound.Horizontal.TheVariants as horizontal
 use Rattle.crs_value.specs.declared.values.level.Level.{Level}
 use Rattle.crs_value.specs.Sound.{Each}
-use Rattle.crs_normal.specs.LowerLaws.{LowerLaws}
+use Rattle.crs_normal.specs.inner.LowerLaws.{LowerLaws}
 use Rattle.crs_normal.specs.PartSpellings.{geodetic_class}
-use Rattle.crs_normal.specs.SpelledCrs.{geodetic_keyword, item_compound, item_geodetic, item_projected, item_vertical, norm_compound, norm_geodetic, norm_projected, norm_vertical}
+use Rattle.crs_normal.specs.inner.SpelledCrs.{geodetic_keyword, item_compound, item_geodetic, item_projected, item_vertical, norm_compound, norm_geodetic, norm_projected, norm_vertical}
 use Rattle.crs_normal.specs.Prelude.{node_of, text_item, norm_tail, tail_items}
 use Rattle.crs_normal.proofs.made.BehindLemmas.{Shows, tail-seen, tail_classes}
 use Rattle.crs_normal.proofs.made.CheckLemmas.{first-number, word-type}

@@ -10,7 +10,7 @@ use Rattle.crs_value.specs.Prelude.{ConversionParts, ParameterParts, IsUnit, IsC
 use Rattle.crs_value.specs.declared.values.level.Level.{Level}
 use Rattle.crs_same.specs.MatchingPrelude.{kind_as}
 use Rattle.crs_normal.specs.Prelude.{unit_class, item_conversion, item_method, item_parameter, norm_conversion, norm_method, norm_parameter, set_parameters, item_unit, norm_units}
-use Rattle.crs_normal.specs.LowerLaws.{LowerLaws}
+use Rattle.crs_normal.specs.inner.LowerLaws.{LowerLaws}
 use Rattle.crs_normal.proofs.made.AscendLemmas.{set-ascends}
 use Rattle.crs_normal.proofs.made.IdentLemmas.{ids-of, ids-orderly, ids_run}
 use Rattle.crs_normal.proofs.made.NodeLemmas.{IsAcceptedNormal, Made, as-argument, given, IsFree}

@@ -6,7 +6,7 @@ use Rattle.crs_value.specs.declared.values.crs.Crs.{Crs}
 use Rattle.crs_value.specs.declared.values.crs.Crs.TheVariants as crs
 use Rattle.crs_value.specs.declared.values.level.Level.{Level}
 use Rattle.crs_value.specs.Prelude.{IsCrs}
-use Rattle.crs_normal.specs.LowerLaws.{LowerLaws}
+use Rattle.crs_normal.specs.inner.LowerLaws.{LowerLaws}
 use Rattle.crs_normal.specs.Prelude.{IsNormalText, item_crs, norm_crs}
 use Rattle.crs_normal.proofs.made.CompoundLemmas.{compound-made}
 use Rattle.crs_normal.proofs.made.GeodeticLemmas.{geodetic-made}

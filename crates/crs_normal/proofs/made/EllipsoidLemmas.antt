@@ -10,9 +10,9 @@ use Rattle.crs_shape.specs.Prelude.{is_keyword, class_named, unit_word}
 use Rattle.crs_value.specs.Prelude.{IsAboveZero, OfEllipsoid, kept-none, those, IsUnitOf, IsEllipsoid, EllipsoidParts, UnitParts, Own as BreaksOwn}
 use Rattle.crs_value.specs.declared.values.level.Level.{Level}
 use Rattle.crs_value.specs.Values.{IdentParts}
-use Rattle.crs_normal.specs.LowerLaws.{LowerLaws}
+use Rattle.crs_normal.specs.inner.LowerLaws.{LowerLaws}
 use Rattle.crs_normal.specs.Prelude.{item_ellipsoid, norm_ellipsoid, number_item}
-use Rattle.crs_normal.specs.SpelledItems.{item_unit, metre, norm_length, norm_unit, norm_units}
+use Rattle.crs_normal.specs.inner.SpelledItems.{item_unit, metre, norm_length, norm_unit, norm_units}
 use Rattle.crs_normal.proofs.members.IdentLemmas.{none-form}
 use Rattle.crs_normal.proofs.made.IdentLemmas.{ids-of, ids-orderly}
 use Rattle.crs_normal.proofs.made.NodeLemmas.{IsAcceptedNormal, Made, as-argument}

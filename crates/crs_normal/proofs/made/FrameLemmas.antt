@@ -7,8 +7,8 @@ use Rattle.crs_value.specs.declared.values.frame.Frame.{Frame}
 use Rattle.crs_value.specs.declared.values.frame.Frame.TheVariants as frame
 use Rattle.crs_value.specs.declared.values.level.Level.{Level}
 use Rattle.crs_value.specs.Prelude.{IsEllipsoid, IsEnsemble, IsGeodeticFrame, IsVerticalFrame, EllipsoidParts, EnsembleParts, Own as BreaksOwn, AnyOf, anchors, those, IsRepeated, RepeatsAny, IsDatum, DatumParts}
-use Rattle.crs_normal.specs.LowerLaws.{LowerLaws}
-use Rattle.crs_normal.specs.SpelledFrames.{item_ellipsoid, item_ensemble, item_frame, item_member, norm_ellipsoid, norm_ensemble, norm_frame, norm_member, set_members}
+use Rattle.crs_normal.specs.inner.LowerLaws.{LowerLaws}
+use Rattle.crs_normal.specs.inner.SpelledFrames.{item_ellipsoid, item_ensemble, item_frame, item_member, norm_ellipsoid, norm_ensemble, norm_frame, norm_member, set_members}
 use Rattle.crs_normal.proofs.made.AscendLemmas.{set-ascends}
 use Rattle.crs_normal.proofs.made.EllipsoidLemmas.{ellipsoid-made}
 use Rattle.crs_normal.proofs.made.IdentLemmas.{ids-of, ids-orderly, ids_run}

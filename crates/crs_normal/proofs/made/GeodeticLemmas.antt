@@ -10,11 +10,11 @@ use Rattle.crs_shape.specs.Prelude.{is_keyword, class_named, geodetic_slots, slo
 use Rattle.crs_value.specs.Prelude.{OfCrs, GeodeticParts, those, IsGeodetic, Own as BreaksOwn}
 use Rattle.crs_value.specs.declared.values.level.Level.{Level}
 use Rattle.crs_value.specs.Sound.{Each}
-use Rattle.crs_normal.specs.LowerLaws.{LowerLaws}
+use Rattle.crs_normal.specs.inner.LowerLaws.{LowerLaws}
 use Rattle.crs_normal.specs.PartSpellings.{geodetic_class}
 use Rattle.crs_normal.specs.Normal.{IsFirstKeyword}
 use Rattle.crs_normal.specs.NormalOwn.{Has, HasAxes, HasTail, HasOwnForm, words_in}
-use Rattle.crs_normal.specs.SpelledCrs.{geodetic_keyword, item_geodetic, norm_geodetic}
+use Rattle.crs_normal.specs.inner.SpelledCrs.{geodetic_keyword, item_geodetic, norm_geodetic}
 use Rattle.crs_normal.specs.Prelude.{item_frame, norm_frame, word_item}
 use Rattle.crs_normal.proofs.made.SystemLemmas.{IsFew}
 use Rattle.crs_normal.proofs.made.BehindLemmas.{NamesSystem, few-system, system-seen, behind_arguments}

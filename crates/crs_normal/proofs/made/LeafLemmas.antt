@@ -11,10 +11,10 @@ use Rattle.crs_shape.specs.contracts.class.Class.{the_type}
 use Rattle.crs_shape.specs.Prelude.{class_of_kind}
 use Rattle.crs_value.specs.declared.values.level.Level.{Level}
 use Rattle.crs_value.specs.Prelude.{IsText}
-use Rattle.crs_normal.specs.LowerLaws.{LowerLaws}
+use Rattle.crs_normal.specs.inner.LowerLaws.{LowerLaws}
 use Rattle.crs_normal.specs.Normal.{IsNumberIn, IsSingleIn, IsWordIn}
 use Rattle.crs_normal.specs.NormalOwn.{IsShort}
-use Rattle.crs_normal.specs.SpelledItems.{is_short, number_item, text_item, word_item}
+use Rattle.crs_normal.specs.inner.SpelledItems.{is_short, number_item, text_item, word_item}
 use Rattle.crs_normal.proofs.made.NodeLemmas.{Made}
 use Rattle.crs_normal.proofs.texts.ItemLemmas.{run-single}
 

@@ -10,9 +10,9 @@ use Rattle.crs_shape.specs.Prelude.{is_keyword, class_named}
 use Rattle.crs_value.specs.Prelude.{kept-none, those, IsMeridian, IsUnitOf, MeridianParts, UnitParts, Own as BreaksOwn}
 use Rattle.crs_value.specs.declared.values.level.Level.{Level}
 use Rattle.crs_value.specs.Values.{IdentParts}
-use Rattle.crs_normal.specs.LowerLaws.{LowerLaws}
+use Rattle.crs_normal.specs.inner.LowerLaws.{LowerLaws}
 use Rattle.crs_normal.specs.NormalOwn.{HasNoUnitAtZero}
-use Rattle.crs_normal.specs.SpelledFrames.{greenwich, is_zero, item_meridian, norm_given, norm_meridian}
+use Rattle.crs_normal.specs.inner.SpelledFrames.{greenwich, is_zero, item_meridian, norm_given, norm_meridian}
 use Rattle.crs_normal.specs.Prelude.{number_item, item_unit, norm_units, whole_value}
 use Rattle.crs_normal.proofs.made.EllipsoidLemmas.{given-unit}
 use Rattle.crs_normal.proofs.members.IdentLemmas.{none-form}

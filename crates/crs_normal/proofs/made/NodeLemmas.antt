@@ -10,7 +10,7 @@ use Rattle.crs_value.specs.declared.values.level.Level.{Level}
 use Rattle.crs_normal.specs.Normal.{AtLevel, IsNormalIn, left_out}
 use Rattle.crs_normal.specs.NormalOwn.{Ascend, rank, set_classes, Rise}
 use Rattle.crs_value.specs.Sound.{Each}
-use Rattle.crs_normal.specs.SpelledItems.{node_of}
+use Rattle.crs_normal.specs.inner.SpelledItems.{node_of}
 use Rattle.crs_normal.proofs.texts.SegmentLemmas.{placed-none, those-line}
 use Rattle.crs_normal.proofs.read.ViewLemmas.{each-so}
 pub use Rattle.crs_normal.proofs.read.ViewLemmas.{onto as line}

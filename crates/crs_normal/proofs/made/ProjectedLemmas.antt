@@ -6,9 +6,9 @@ use Rattle.crs_shape.specs.declared.unit_kind.UnitKind.TheVariants as kinds
 use Rattle.crs_shape.specs.Prelude.{is_keyword, class_named, dimensions_of}
 use Rattle.crs_value.specs.Prelude.{BaseParts, ProjectedParts, those, IsBase, IsProjected, Own as BreaksOwn}
 use Rattle.crs_value.specs.declared.values.level.Level.{Level}
-use Rattle.crs_normal.specs.LowerLaws.{LowerLaws}
+use Rattle.crs_normal.specs.inner.LowerLaws.{LowerLaws}
 use Rattle.crs_normal.specs.Prelude.{item_conversion, norm_conversion, item_frame, norm_frame, item_unit, norm_units}
-use Rattle.crs_normal.specs.SpelledCrs.{item_base, item_projected, norm_base, norm_projected}
+use Rattle.crs_normal.specs.inner.SpelledCrs.{item_base, item_projected, norm_base, norm_projected}
 use Rattle.crs_normal.proofs.made.SystemLemmas.{IsFew}
 use Rattle.crs_normal.proofs.made.BehindLemmas.{crs_classes, system-seen, few-system, behind_arguments, projected-names}
 use Rattle.crs_normal.proofs.made.CheckLemmas.{IsSystemIn}

@@ -7,7 +7,7 @@ use Rattle.crs_shape.specs.declared.unit_kind.UnitKind.TheVariants as kinds
 use Rattle.crs_value.specs.declared.values.level.Level.{Level}
 use Rattle.crs_value.specs.Prelude.{ReadsBox, ReadsExtent, IsUnit, IsUnitOf, IsBox, IsExtent, BoxParts, ExtentParts, UnitParts}
 use Rattle.crs_normal.specs.Prelude.{item_unit, norm_length, item_box, item_extent, norm_extent}
-use Rattle.crs_normal.specs.LowerLaws.{LowerLaws}
+use Rattle.crs_normal.specs.inner.LowerLaws.{LowerLaws}
 use Rattle.crs_normal.proofs.texts.SegmentLemmas.{a-number, if-any, opt-field, seen, some-imp}
 use Rattle.crs_normal.proofs.members.MemberUnitLemmas.{number-read, unit-in, unit-kept, unit-read}
 use Rattle.crs_normal.proofs.read.NameLemmas.{keyword-names}

@@ -11,7 +11,7 @@ use Rattle.crs_value.specs.Prelude.{ReadsIds, ReadsNumber, ReadsUnit, IsIdent, I
 use Rattle.crs_value.specs.Sound.{Each}
 use Rattle.crs_value.specs.Values.{IdentParts}
 use Rattle.crs_normal.specs.Prelude.{number_item, item_ident, item_unit, norm_unit}
-use Rattle.crs_normal.specs.LowerLaws.{LowerLaws}
+use Rattle.crs_normal.specs.inner.LowerLaws.{LowerLaws}
 use Rattle.crs_normal.proofs.members.IdentLemmas.{ident-read}
 use Rattle.crs_normal.proofs.texts.SegmentLemmas.{IsIn, Seen, Segment, a-number, a-text, all-of, each-field, items_of, seen}
 use Rattle.crs_normal.proofs.read.ViewLemmas.{each-so}

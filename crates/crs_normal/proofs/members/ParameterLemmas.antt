@@ -13,7 +13,7 @@ use Rattle.crs_value.specs.declared.values.level.Level.{Level}
 use Rattle.crs_value.specs.Sound.{Each}
 use Rattle.crs_value.specs.Values.{IdentParts}
 use Rattle.crs_normal.specs.Prelude.{unit_class, item_parameter, norm_parameter, each, node_of, number_item, opt, text_item, item_ident, item_unit, norm_units}
-use Rattle.crs_normal.specs.LowerLaws.{LowerLaws}
+use Rattle.crs_normal.specs.inner.LowerLaws.{LowerLaws}
 use Rattle.crs_normal.proofs.texts.SegmentLemmas.{IsIn, MayIn, Seen, Segment, a-number, a-text, if-any, items_of, lacks, placed-at, seen}
 use Rattle.crs_normal.proofs.members.MemberUnitLemmas.{NamesId, identifiers-back, identifiers-of, number-read, unit-kept, unit-read}
 use Rattle.crs_normal.proofs.read.NameLemmas.{keyword-names}

@@ -5,7 +5,7 @@ use Rattle.crs_shape.specs.declared.class.Class.TheVariants as class
 use Rattle.crs_value.specs.Prelude.{ReadsUsage, IsText, IsBox, IsUsage, BoxParts, ExtentParts, SaysSome, UsageParts}
 use Rattle.crs_value.specs.declared.values.level.Level.TheVariants as levels
 use Rattle.crs_normal.specs.Prelude.{opt, text_node, item_box, item_extent, item_usage, norm_extent, norm_usage}
-use Rattle.crs_normal.specs.LowerLaws.{LowerLaws}
+use Rattle.crs_normal.specs.inner.LowerLaws.{LowerLaws}
 use Rattle.crs_normal.proofs.members.ExtentLemmas.{IsWrittenExtent, box-read, extent-kept, extent-read}
 use Rattle.crs_normal.proofs.texts.ItemLemmas.{from-arguments}
 use Rattle.crs_normal.proofs.texts.SegmentLemmas.{may-be, opt-field, seen, text-field, some-imp, some-mapped}

@@ -10,7 +10,7 @@ use Rattle.crs_value.specs.Prelude.{RepeatsAny, anchors, those, ReadsOptional, R
 use Rattle.crs_value.specs.Sound.{Each}
 use Rattle.crs_value.specs.declared.values.level.Level.{Level}
 use Rattle.crs_normal.specs.NormalOwn.{Rise}
-use Rattle.crs_normal.specs.SpelledItems.{number_node, opt, text_node}
+use Rattle.crs_normal.specs.inner.SpelledItems.{number_node, opt, text_node}
 use Rattle.crs_normal.proofs.normal.CheckedLemmas.{once-only}
 use Rattle.crs_normal.proofs.normal.FormLemmas.{front_in, Looked, Opened, found-in, good-in, optional-spelled}
 use Rattle.crs_normal.proofs.normal.LeafLemmas.{PlainIsOne, number-node-form, text-node-form}

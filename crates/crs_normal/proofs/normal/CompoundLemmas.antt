@@ -10,8 +10,8 @@ use Rattle.crs_value.specs.declared.values.compound.Horizontal.TheVariants as ho
 use Rattle.crs_value.specs.declared.values.crs.Crs.TheVariants as crs
 use Rattle.crs_value.specs.declared.values.level.Level.{Level}
 use Rattle.crs_normal.proofs.WithoutPlaces.{without_places}
-use Rattle.crs_normal.specs.SpelledCrs.{item_compound, item_crs, item_horizontal, norm_compound, norm_crs, norm_horizontal}
-use Rattle.crs_normal.specs.LowerLaws.{LowerLaws}
+use Rattle.crs_normal.specs.inner.SpelledCrs.{item_compound, item_crs, item_horizontal, norm_compound, norm_crs, norm_horizontal}
+use Rattle.crs_normal.specs.inner.LowerLaws.{LowerLaws}
 use Rattle.crs_normal.proofs.normal.CheckedLemmas.{Checked, IsUnbroken, by-class, first-checked, first-or-none, unbroken-by-slots, unbroken-in}
 use Rattle.crs_normal.proofs.normal.FormLemmas.{Form, IsGood, Looked, Opened, front_in, good-in, one-in, only-in, spelled-by}
 use Rattle.crs_normal.proofs.normal.GeodeticLemmas.{geodetic-form, geographic-form}

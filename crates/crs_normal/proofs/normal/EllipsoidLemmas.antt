@@ -7,8 +7,8 @@ use Rattle.crs_shape.specs.declared.class.Class.TheVariants as class
 use Rattle.crs_shape.specs.declared.unit_kind.UnitKind.TheVariants as kinds
 use Rattle.crs_value.specs.Prelude.{those, ReadsFirst, ReadsOptional, ReadsEllipsoid, ReadsMeridian, ReadsNumber, ReadsUnit, UnitParts}
 use Rattle.crs_value.specs.declared.values.level.Level.{Level}
-use Rattle.crs_normal.specs.SpelledFrames.{is_zero, item_ellipsoid, item_meridian, norm_ellipsoid, norm_given}
-use Rattle.crs_normal.specs.SpelledItems.{opt, item_unit, norm_unit, norm_units}
+use Rattle.crs_normal.specs.inner.SpelledFrames.{is_zero, item_ellipsoid, item_meridian, norm_ellipsoid, norm_given}
+use Rattle.crs_normal.specs.inner.SpelledItems.{opt, item_unit, norm_unit, norm_units}
 use Rattle.crs_normal.proofs.normal.FormLemmas.{Form, by-slots, front_in, one-in, only-in, optional-in, raws-in, spelled-by}
 use Rattle.crs_normal.proofs.normal.LeafLemmas.{PlainIsOne, number-form, text-form}
 use Rattle.crs_normal.proofs.members.PairLemmas.{opt-length, two-in}

@@ -13,8 +13,8 @@ use Rattle.crs_normal.specs.Normal.{IsNormalIn, AreNormalIn, IsFirstKeyword, Kee
 use Rattle.crs_normal.specs.NormalOwn.{Ascend, HasSets, HasOwnForm}
 use Rattle.crs_value.specs.Sound.{Each}
 use Rattle.crs_normal.specs.Ascending.{Ascends, Below}
-use Rattle.crs_normal.specs.Ordered.{in_order}
-use Rattle.crs_normal.specs.SpelledItems.{each, node_from, opt}
+use Rattle.crs_normal.specs.inner.Ordered.{in_order}
+use Rattle.crs_normal.specs.inner.SpelledItems.{each, node_from, opt}
 use Rattle.crs_normal.proofs.members.SetLemmas.{in_order-of}
 use Rattle.crs_normal.proofs.read.ViewLemmas.{View, looked, spread, those-at, those-looked, view, without_places_onto, without_places-spread, Front, alone, front-at, front_at, same_class, slot_at}
 

@@ -5,7 +5,7 @@ use Rattle.crs_shape.specs.declared.class.Class.{Class}
 use Rattle.crs_shape.specs.declared.class.Class.TheVariants as class
 use Rattle.crs_value.specs.Prelude.{Own, ReadsOptional, ReadsDatum}
 use Rattle.crs_value.specs.declared.values.level.Level.{Level}
-use Rattle.crs_normal.specs.SpelledFrames.{item_datum, item_ellipsoid, norm_datum, norm_ellipsoid}
+use Rattle.crs_normal.specs.inner.SpelledFrames.{item_datum, item_ellipsoid, norm_datum, norm_ellipsoid}
 use Rattle.crs_normal.proofs.normal.AnchorLemmas.{anchors-in}
 use Rattle.crs_normal.proofs.normal.CheckedLemmas.{Checked, unbroken-by-slots}
 use Rattle.crs_normal.proofs.normal.EllipsoidLemmas.{ellipsoid-form}

@@ -12,7 +12,7 @@ use Rattle.crs_value.specs.declared.values.level.Level.{Level}
 use Rattle.crs_normal.proofs.WithoutPlaces.{without_places}
 use Rattle.crs_normal.specs.NormalOwn.{IsCode, IsShort}
 use Rattle.crs_value.specs.Sound.{Each}
-use Rattle.crs_normal.specs.SpelledItems.{code_item, is_short, opt, item_ident}
+use Rattle.crs_normal.specs.inner.SpelledItems.{code_item, is_short, opt, item_ident}
 use Rattle.crs_normal.proofs.made.LeafLemmas.{short-true, true-short}
 use Rattle.crs_normal.proofs.normal.FormLemmas.{Form, IsGood, front-in, front_in, good-in, no-leaf, only-in, opened, optional-in, spelled-by}
 use Rattle.crs_normal.proofs.normal.LeafLemmas.{no-keyword, text-form, text-node-form}

@@ -8,7 +8,7 @@ use Rattle.crs_shape.specs.Prelude.{is_keyword, class_of_kind, one, slots_of}
 use Rattle.crs_value.specs.Prelude.{ReadsText, ReadsNumber, ReadsTextOf, ReadsNumberOf}
 use Rattle.crs_value.specs.declared.values.level.Level.{Level}
 use Rattle.crs_normal.specs.Normal.{IsNumberIn, IsSingleIn, IsFirstKeyword}
-use Rattle.crs_normal.specs.SpelledItems.{number_item, number_node, text_item, text_node}
+use Rattle.crs_normal.specs.inner.SpelledItems.{number_item, number_node, text_item, text_node}
 use Rattle.crs_normal.proofs.normal.FormLemmas.{Form, by-slots, one-in, spelled-by}
 
 -- the law of plain spellings: a normal value has just one

@@ -13,9 +13,9 @@ use Rattle.crs_value.specs.Prelude.{those, ReadsEach, ReadsAxis, ReadsHead, Read
 use Rattle.crs_value.specs.declared.values.level.Level.{Level}
 use Rattle.crs_normal.specs.NormalOwn.{AreOrdered, Has, HasAxes}
 use Rattle.crs_value.specs.Sound.{Each}
-use Rattle.crs_normal.specs.SpelledItems.{each}
-use Rattle.crs_normal.specs.SpelledSystems.{axes_from, axis_at, is_at, item_axis, item_head, norm_system, system_items, with_axis}
-use Rattle.crs_normal.specs.LowerLaws.{LowerLaws}
+use Rattle.crs_normal.specs.inner.SpelledItems.{each}
+use Rattle.crs_normal.specs.inner.SpelledSystems.{axes_from, axis_at, is_at, item_axis, item_head, norm_system, system_items, with_axis}
+use Rattle.crs_normal.specs.inner.LowerLaws.{LowerLaws}
 use Rattle.crs_normal.proofs.normal.AxisLemmas.{IsNumbered, axis-form, type-form}
 use Rattle.crs_normal.proofs.normal.FormLemmas.{Form, IsGood, Looked, Opened, by-slots, found-in, front_in, good-in, one-in, spelled-by}
 use Rattle.crs_normal.proofs.normal.DimensionLemmas.{AreSmall}

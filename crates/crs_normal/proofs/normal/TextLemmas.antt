@@ -6,8 +6,8 @@ use Rattle.crs_value.specs.Prelude.{SpellsCrs, Spells}
 use Rattle.crs_value.specs.declared.values.crs.Crs.{Crs}
 use Rattle.crs_value.specs.declared.values.level.Level.{Level}
 use Rattle.crs_normal.specs.Normal.{IsNormalIn, IsNormalText}
-use Rattle.crs_normal.specs.SpelledCrs.{item_crs, norm_crs}
-use Rattle.crs_normal.specs.LowerLaws.{LowerLaws}
+use Rattle.crs_normal.specs.inner.SpelledCrs.{item_crs, norm_crs}
+use Rattle.crs_normal.specs.inner.LowerLaws.{LowerLaws}
 use Rattle.crs_normal.proofs.normal.CompoundLemmas.{crs-form}
 use Rattle.crs_normal.proofs.normal.FormLemmas.{without_places-text}
 use Rattle.crs_normal.proofs.texts.ClosedLemmas.{same-some}

@@ -13,8 +13,8 @@ use Rattle.crs_same.specs.MatchingPrelude.{kind_as}
 use Rattle.crs_normal.specs.Normal.{IsFirstKeyword}
 use Rattle.crs_normal.specs.NormalOwn.{Ascend}
 use Rattle.crs_value.specs.Sound.{Each}
-use Rattle.crs_normal.specs.Ordered.{in_order}
-use Rattle.crs_normal.specs.SpelledItems.{each, item_ident, item_unit, norm_unit, set_idents}
+use Rattle.crs_normal.specs.inner.Ordered.{in_order}
+use Rattle.crs_normal.specs.inner.SpelledItems.{each, item_ident, item_unit, norm_unit, set_idents}
 use Rattle.crs_normal.proofs.normal.FormLemmas.{Form, IsGood, Looked, Opened, by-slots, found-in, front_in, good-in, one-in, reads-kept, set-spelled, spelled-by}
 use Rattle.crs_normal.proofs.normal.IdentLemmas.{ident-form}
 use Rattle.crs_normal.proofs.normal.LeafLemmas.{ArePlain, PlainIsOne, number-form, text-form}

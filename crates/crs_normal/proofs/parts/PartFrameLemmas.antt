@@ -10,8 +10,8 @@ use Rattle.crs_value.specs.declared.values.level.Level.{Level}
 use Rattle.crs_same.specs.Prelude.{AreSame, parts_of_datum, parts_of_ensemble, parts_of_frame}
 use Rattle.crs_normal.specs.Prelude.{IsWrittenForm, item_datum, item_ensemble, norm_datum, norm_ellipsoid, norm_ensemble}
 use Rattle.crs_normal.specs.PartSpellings.{IsFrame, IsSpelledDatum, IsSpelledEnsemble, IsSpelledFrame, datum_class, ensemble_class}
-use Rattle.crs_normal.specs.PartTexts.{datum_keyword, datum_text, ensemble_text, frame_text, item_own_datum}
-use Rattle.crs_normal.specs.LowerLaws.{LowerLaws}
+use Rattle.crs_normal.specs.inner.PartTexts.{datum_keyword, datum_text, ensemble_text, frame_text, item_own_datum}
+use Rattle.crs_normal.specs.inner.LowerLaws.{LowerLaws}
 use Rattle.crs_normal.proofs.made.FrameLemmas.{geodetic-frame-made, vertical-frame-made}
 use Rattle.crs_normal.proofs.normal.EnsembleLemmas.{geodetic_ensemble-form, vertical_ensemble-form}
 use Rattle.crs_normal.proofs.normal.FrameLemmas.{geodetic_datum-form, vertical_datum-form}

@@ -6,10 +6,10 @@ use Rattle.crs_shape.specs.declared.class.Class.{Class}
 use Rattle.crs_value.specs.Prelude.{IsSound, IsReadAs, IsReadOnce}
 use Rattle.crs_value.specs.declared.values.level.Level.{Level}
 use Rattle.crs_normal.specs.Prelude.{IsWrittenForm, IsClosed}
-use Rattle.crs_normal.specs.Decides.{FormDecides}
+use Rattle.crs_normal.specs.inner.Decides.{FormDecides}
 use Rattle.crs_normal.proofs.WithoutPlaces.{without_places}
 use Rattle.crs_normal.specs.Normal.{IsNormalIn}
-use Rattle.crs_normal.specs.LowerLaws.{LowerLaws}
+use Rattle.crs_normal.specs.inner.LowerLaws.{LowerLaws}
 use Rattle.crs_normal.specs.SpelledAs.{IsSpelledAs, IsSpelledBy}
 use Rattle.crs_normal.proofs.texts.ClosedLemmas.{node-closed}
 use Rattle.crs_normal.proofs.normal.CheckedLemmas.{Checked}

@@ -11,9 +11,9 @@ use Rattle.crs_value.specs.declared.values.compound.Horizontal.TheVariants as ho
 use Rattle.crs_value.specs.declared.values.crs.Crs.{Crs}
 use Rattle.crs_value.specs.declared.values.crs.Crs.TheVariants as crs
 use Rattle.crs_value.specs.declared.values.level.Level.{Level}
-use Rattle.crs_normal.specs.LowerLaws.{LowerLaws}
+use Rattle.crs_normal.specs.inner.LowerLaws.{LowerLaws}
 use Rattle.crs_normal.specs.PartSpellings.{geodetic_class}
-use Rattle.crs_normal.specs.SpelledCrs.{geodetic_keyword, item_compound, item_crs, item_geodetic, item_horizontal, item_projected, item_vertical, norm_compound, norm_crs, norm_geodetic, norm_horizontal, norm_projected, norm_vertical}
+use Rattle.crs_normal.specs.inner.SpelledCrs.{geodetic_keyword, item_compound, item_crs, item_geodetic, item_horizontal, item_projected, item_vertical, norm_compound, norm_crs, norm_geodetic, norm_horizontal, norm_projected, norm_vertical}
 use Rattle.crs_normal.proofs.read.CrsLemmas.{geodetic-read, projected-read, vertical-read}
 use Rattle.crs_normal.proofs.made.TailLemmas.{compound-names}
 use Rattle.crs_normal.proofs.read.EndLemmas.{of-tail, tail-read}

@@ -9,8 +9,8 @@ use Rattle.crs_value.specs.declared.values.frame.Frame.{Frame}
 use Rattle.crs_value.specs.declared.values.frame.Frame.TheVariants as frame
 use Rattle.crs_value.specs.declared.values.level.Level.{Level}
 use Rattle.crs_value.specs.Prelude.{those, ReadsElse, ReadsFirst, ReadsDatum, ReadsEnsemble, ReadsAsDatum, ReadsAsEnsemble, ReadsFrame, IsGeodeticFrame, IsVerticalFrame, EllipsoidParts}
-use Rattle.crs_normal.specs.SpelledFrames.{item_datum, item_ellipsoid, item_ensemble, item_frame, norm_ellipsoid, norm_frame}
-use Rattle.crs_normal.specs.LowerLaws.{LowerLaws}
+use Rattle.crs_normal.specs.inner.SpelledFrames.{item_datum, item_ellipsoid, item_ensemble, item_frame, norm_ellipsoid, norm_frame}
+use Rattle.crs_normal.specs.inner.LowerLaws.{LowerLaws}
 use Rattle.crs_normal.proofs.read.FrameLemmas.{datum-read, ensemble-read}
 use Rattle.crs_normal.proofs.texts.SegmentLemmas.{IsIn, MayIn, ReadsBack, Seen, Segment, either-item, if_left, if_right, items_of, lacks, placed-at, some-all}
 use Rattle.crs_normal.proofs.read.NameLemmas.{keyword-names}

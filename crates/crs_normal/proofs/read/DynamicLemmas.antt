@@ -8,9 +8,9 @@ use Rattle.crs_shape.specs.Prelude.{class_named}
 use Rattle.crs_value.specs.Prelude.{DeformationModelParts, DynamicParts, ReadsIfAny, ReadsDeformationModel, ReadsDynamic, IsDeformationModel, IsDynamic, IsDynamicOf}
 use Rattle.crs_value.specs.declared.values.frame.Frame.{Frame}
 use Rattle.crs_value.specs.declared.values.level.Level.{Level}
-use Rattle.crs_normal.specs.SpelledDynamic.{item_deformation_model, item_dynamic, norm_deformation_model, norm_dynamic}
-use Rattle.crs_normal.specs.SpelledItems.{number_node}
-use Rattle.crs_normal.specs.LowerLaws.{LowerLaws}
+use Rattle.crs_normal.specs.inner.SpelledDynamic.{item_deformation_model, item_dynamic, norm_deformation_model, norm_dynamic}
+use Rattle.crs_normal.specs.inner.SpelledItems.{number_node}
+use Rattle.crs_normal.specs.inner.LowerLaws.{LowerLaws}
 use Rattle.crs_normal.proofs.same.DynamicLemmas.{dynamics-sound}
 use Rattle.crs_normal.proofs.members.MemberLemmas.{named-kept, named-read}
 use Rattle.crs_normal.proofs.members.MemberUnitLemmas.{number-read}

@@ -11,10 +11,10 @@ use Rattle.crs_value.specs.Sound.{Each}
 use Rattle.crs_value.specs.declared.values.level.Level.{Level}
 use Rattle.crs_same.specs.Prelude.{AgreeAxis}
 use Rattle.crs_same.specs.MatchingPrelude.{HasAt, IsPositionOf, SameAxisAlone, SameAxisMeridian, BothOrNeither}
-use Rattle.crs_normal.specs.Decides.{FormDecides, SetsDecide}
-use Rattle.crs_normal.specs.LowerLaws.{LowerLaws}
-use Rattle.crs_normal.specs.PartTexts.{norm_axis_alone}
-use Rattle.crs_normal.specs.SpelledSystems.{axis_at, is_at, norm_axis, norm_axis_meridian, norm_axis_meridians}
+use Rattle.crs_normal.specs.inner.Decides.{FormDecides, SetsDecide}
+use Rattle.crs_normal.specs.inner.LowerLaws.{LowerLaws}
+use Rattle.crs_normal.specs.inner.PartTexts.{norm_axis_alone}
+use Rattle.crs_normal.specs.inner.SpelledSystems.{axis_at, is_at, norm_axis, norm_axis_meridian, norm_axis_meridians}
 use Rattle.crs_normal.proofs.same.PartLemmas.{Maybe, options-agree, values-agree}
 use Rattle.crs_normal.proofs.same.UnitLemmas.{unit-agrees}
 

@@ -7,9 +7,9 @@ use Rattle.crs_shape.specs.Prelude.{IsOneOf, dimensions_of}
 use Rattle.crs_value.specs.Prelude.{IsCompound, IsHorizontal, IsCrs, IsBase, IsGeodetic, IsProjected, IsVertical, IsSystem, SystemParts}
 use Rattle.crs_value.specs.declared.values.level.Level.{Level}
 use Rattle.crs_same.specs.Prelude.{AgreeBase, AgreeCompound, AgreeCrs, AgreeGeodetic, AgreeHorizontal, AgreeProjected, AgreeVertical}
-use Rattle.crs_normal.specs.Decides.{FormDecides, SetsDecide}
-use Rattle.crs_normal.specs.LowerLaws.{LowerLaws}
-use Rattle.crs_normal.specs.SpelledCrs.{norm_base, norm_compound, norm_crs, norm_geodetic, norm_horizontal, norm_projected, norm_vertical}
+use Rattle.crs_normal.specs.inner.Decides.{FormDecides, SetsDecide}
+use Rattle.crs_normal.specs.inner.LowerLaws.{LowerLaws}
+use Rattle.crs_normal.specs.inner.SpelledCrs.{norm_base, norm_compound, norm_crs, norm_geodetic, norm_horizontal, norm_projected, norm_vertical}
 use Rattle.crs_normal.proofs.same.ConversionLemmas.{conversion-agrees}
 use Rattle.crs_normal.proofs.normal.DimensionLemmas.{small-geodetic, small-projected, small-vertical, AreSmall, few-axes}
 use Rattle.crs_normal.proofs.same.DynamicLemmas.{dynamic-agrees}

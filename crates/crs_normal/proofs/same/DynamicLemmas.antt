@@ -4,8 +4,8 @@ use Rattle.crs_value.specs.Prelude.{DynamicParts, IsDynamic, IsDynamicOf}
 use Rattle.crs_value.specs.declared.values.frame.Frame.{Frame}
 use Rattle.crs_value.specs.declared.values.level.Level.{Level}
 use Rattle.crs_same.specs.Prelude.{AgreeDynamic}
-use Rattle.crs_normal.specs.Decides.{FormDecides, SetsDecide}
-use Rattle.crs_normal.specs.SpelledDynamic.{norm_dynamic}
+use Rattle.crs_normal.specs.inner.Decides.{FormDecides, SetsDecide}
+use Rattle.crs_normal.specs.inner.SpelledDynamic.{norm_dynamic}
 use Rattle.crs_normal.proofs.same.PartLemmas.{NumbersDecide, values-agree}
 use Rattle.crs_normal.proofs.same.UnitLemmas.{named-agrees}
 

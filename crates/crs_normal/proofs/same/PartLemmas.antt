@@ -2,7 +2,7 @@
 use Rattle.std.proofs.Common.{◌≡◌, ◌↔◌, Option, Some, None, IfSome, arith}
 use Rattle.crs_decimal.specs.Prelude.{SameNumber, Value, IsNormal, exact}
 use Rattle.crs_same.specs.MatchingPrelude.{SameValue, BothOrNeither}
-use Rattle.crs_normal.specs.Decides.{FormDecides}
+use Rattle.crs_normal.specs.inner.Decides.{FormDecides}
 
 -- a part that may be missing, with what is asked of it where it is there
 abbrev pub Maybe : {A : Type 0} → (A → Type 0) → Option A → Type 0

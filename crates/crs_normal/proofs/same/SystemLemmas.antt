@@ -5,9 +5,9 @@ use Rattle.crs_value.specs.Prelude.{IsSystem, SystemParts}
 use Rattle.crs_value.specs.declared.values.level.Level.{Level}
 use Rattle.crs_same.specs.MatchingPrelude.{SameValue}
 use Rattle.crs_same.specs.Prelude.{AgreeAt, AgreeAxes, AgreeAxis, AgreeSystem}
-use Rattle.crs_normal.specs.Decides.{FormDecides, SetsDecide}
-use Rattle.crs_normal.specs.LowerLaws.{LowerLaws}
-use Rattle.crs_normal.specs.SpelledSystems.{axes_from, norm_axis, norm_system}
+use Rattle.crs_normal.specs.inner.Decides.{FormDecides, SetsDecide}
+use Rattle.crs_normal.specs.inner.LowerLaws.{LowerLaws}
+use Rattle.crs_normal.specs.inner.SpelledSystems.{axes_from, norm_axis, norm_system}
 use Rattle.crs_normal.proofs.same.AxisLemmas.{Found, axis-agrees, both-agree, found, sound-at}
 use Rattle.crs_normal.proofs.same.PartLemmas.{values-agree}
 

@@ -3,8 +3,8 @@ use Rattle.std.proofs.Common.{arith}
 use Rattle.crs_value.specs.Prelude.{IsTail}
 use Rattle.crs_value.specs.declared.values.level.Level.{Level}
 use Rattle.crs_same.specs.Prelude.{AgreeTail}
-use Rattle.crs_normal.specs.Decides.{FormDecides, SetsDecide}
-use Rattle.crs_normal.specs.SpelledUsages.{norm_tail}
+use Rattle.crs_normal.specs.inner.Decides.{FormDecides, SetsDecide}
+use Rattle.crs_normal.specs.inner.SpelledUsages.{norm_tail}
 use Rattle.crs_normal.proofs.made.TailLemmas.{usages-sound}
 
 module _ (sets : SetsDecide) where

@@ -6,9 +6,9 @@ use Rattle.crs_value.specs.Prelude.{IsIdent, IsNamed, IsUnit, IsUnitOf, Suits, U
 use Rattle.crs_value.specs.Sound.{Each}
 use Rattle.crs_value.specs.declared.values.level.Level.{Level}
 use Rattle.crs_same.specs.MatchingPrelude.{SameIdents, SameNamed, SameLength, SameUnit, or_metre, kind_as}
-use Rattle.crs_normal.specs.Decides.{FormDecides}
-use Rattle.crs_normal.specs.SpelledFrames.{norm_member}
-use Rattle.crs_normal.specs.SpelledItems.{metre, norm_length, norm_unit, set_idents, whole_value}
+use Rattle.crs_normal.specs.inner.Decides.{FormDecides}
+use Rattle.crs_normal.specs.inner.SpelledFrames.{norm_member}
+use Rattle.crs_normal.specs.inner.SpelledItems.{metre, norm_length, norm_unit, set_idents, whole_value}
 use Rattle.crs_normal.proofs.members.IdentLemmas.{none-form}
 use Rattle.crs_normal.proofs.same.PartLemmas.{Maybe, NumbersDecide, values-agree}
 

@@ -6,7 +6,7 @@ use Rattle.crs_shape.specs.Prelude.{AtRoot, Inside, IsFree, class_of_root, Shape
 use Rattle.crs_value.specs.declared.values.crs.Crs.{Crs}
 use Rattle.crs_value.specs.declared.values.level.Level.{Level}
 use Rattle.crs_value.specs.Prelude.{ReadsCrs, SpellsCrs, Spells}
-use Rattle.crs_normal.specs.SpelledCrs.{item_crs, norm_crs}
+use Rattle.crs_normal.specs.inner.SpelledCrs.{item_crs, norm_crs}
 use Rattle.crs_normal.proofs.made.PlaceLemmas.{text-at, placed-twice}
 use Rattle.crs_normal.proofs.texts.RootLemmas.{crs_class, crs-rooted}
 use Rattle.crs_normal.proofs.texts.ItemLemmas.{IsWritable}

@@ -11,7 +11,7 @@ use Rattle.crs_value.specs.declared.values.crs.Crs.{Crs}
 use Rattle.crs_value.specs.declared.values.crs.Crs.TheVariants as crs
 use Rattle.crs_value.specs.declared.values.level.Level.{Level}
 use Rattle.crs_normal.specs.PartSpellings.{geodetic_class}
-use Rattle.crs_normal.specs.SpelledCrs.{geodetic_keyword, item_crs, norm_crs}
+use Rattle.crs_normal.specs.inner.SpelledCrs.{geodetic_keyword, item_crs, norm_crs}
 
 -- a CRS is written as a node of its kind
 abbrev pub crs_class : Crs → Class

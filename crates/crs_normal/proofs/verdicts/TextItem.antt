@@ -2,7 +2,7 @@
 use Rattle.std.proofs.Common.{ℕ, Bool, true, false, ◌==◌, List, [], ◌∷◌, reverse, fold, if◌then◌else◌}
 use Rattle.crs_decimal.specs.Prelude.{is_run_start}
 use Rattle.crs_text.specs.Prelude.{Item, leaf, Siblings, End, More, number, text, word}
-use Rattle.crs_normal.specs.SpelledItems.{node_from}
+use Rattle.crs_normal.specs.inner.SpelledItems.{node_from}
 
 -- a node that is open: its keyword, and what comes before it in the node around it, the last first
 record Open : Type 0 where

@@ -1,5 +1,5 @@
 //! What is taken from the lower crates.
-ghost use Rattle.crs_normal.specs.LowerLaws.{LowerLaws};
+ghost use Rattle.crs_normal.specs.inner.LowerLaws.{LowerLaws};
 
 use crate::laws::numbers::whole_numbers_are_tested;
 use crs_decimal::laws::{

@@ -31,13 +31,13 @@ ghost use Rattle.crs_normal.specs.PartSpellings.{IsSpelledGeoidModel, IsSpelledH
 ghost use Rattle.crs_normal.specs.PartSpellings.{IsSpelledMember, IsSpelledMeridian, IsSpelledMethod};
 ghost use Rattle.crs_normal.specs.PartSpellings.{IsSpelledParameter, IsSpelledProjected, IsSpelledUnit, IsSpelledUsage};
 ghost use Rattle.crs_normal.specs.PartSpellings.{IsSpelledVertical};
-ghost use Rattle.crs_normal.specs.PartTexts.{axis_meridian_text, axis_text, base_text, box_text, compound_text};
-ghost use Rattle.crs_normal.specs.PartTexts.{conversion_text, datum_text, deformation_model_text, dynamic_text};
-ghost use Rattle.crs_normal.specs.PartTexts.{ellipsoid_text, ensemble_text, extent_text, frame_text, geodetic_text};
-ghost use Rattle.crs_normal.specs.PartTexts.{geoid_model_text, horizontal_text, ident_text, member_text, meridian_text};
-ghost use Rattle.crs_normal.specs.PartTexts.{method_text, parameter_text, projected_text, unit_text, usage_text};
-ghost use Rattle.crs_normal.specs.PartTexts.{norm_axis_alone, vertical_text};
-ghost use Rattle.crs_normal.specs.WrittenForm.{AreWrittenForms};
+ghost use Rattle.crs_normal.specs.inner.PartTexts.{axis_meridian_text, axis_text, base_text, box_text, compound_text};
+ghost use Rattle.crs_normal.specs.inner.PartTexts.{conversion_text, datum_text, deformation_model_text, dynamic_text};
+ghost use Rattle.crs_normal.specs.inner.PartTexts.{ellipsoid_text, ensemble_text, extent_text, frame_text, geodetic_text};
+ghost use Rattle.crs_normal.specs.inner.PartTexts.{geoid_model_text, horizontal_text, ident_text, member_text, meridian_text};
+ghost use Rattle.crs_normal.specs.inner.PartTexts.{method_text, parameter_text, projected_text, unit_text, usage_text};
+ghost use Rattle.crs_normal.specs.inner.PartTexts.{norm_axis_alone, vertical_text};
+ghost use Rattle.crs_normal.specs.inner.WrittenForm.{AreWrittenForms};
 
 use crate::laws::lower::lower_laws;
 use crate::laws::sets::sets_decide;

@@ -10,9 +10,9 @@ ghost use Rattle.crs_text.specs.Items.{Item};
 ghost use Rattle.crs_text.specs.TextFault.{SpellsNode};
 ghost use Rattle.crs_text.specs.Written.{item_text};
 ghost use Rattle.crs_normal.specs.Closed.{IsClosed};
-ghost use Rattle.crs_normal.specs.Decides.{DecidesSameness};
+ghost use Rattle.crs_normal.specs.inner.Decides.{DecidesSameness};
 ghost use Rattle.crs_normal.specs.Normal.{IsNormalText};
-ghost use Rattle.crs_normal.specs.SpelledCrs.{item_crs, norm_crs};
+ghost use Rattle.crs_normal.specs.inner.SpelledCrs.{item_crs, norm_crs};
 
 use crate::laws::lower::lower_laws;
 use crate::laws::sets::sets_decide;

@@ -4,7 +4,7 @@ ghost use Rattle.std.specs.List.{list_all};
 ghost use Rattle.std.specs.Option.{is_some};
 ghost use Rattle.crs_shape.specs.declared.class.Class.TheVariants as classes;
 ghost use Rattle.crs_value.specs.declared.values.level.Level.TheVariants as levels;
-ghost use Rattle.crs_normal.specs.PartTexts.{axis_text};
+ghost use Rattle.crs_normal.specs.inner.PartTexts.{axis_text};
 ghost use Rattle.crs_rules.specs.Rewritten.{across, base, compound, counted, geodetic, geoid_models, has_own_unit, is_idle, named, projected, renamed, rewritten, units, vertical};
 ghost use Rattle.crs_rules.specs.Rules.{meaning};
 

@@ -5,9 +5,9 @@ ghost use Rattle.std.specs.List.{slice_index_or, swap};
 ghost use Rattle.std.specs.Ordering.{nat_cmp};
 ghost use Rattle.std.specs.declared.cmp.Ordering.TheVariants.{Greater};
 ghost use Rattle.crs_value.specs.declared.values.level.Level.TheVariants as levels;
-ghost use Rattle.crs_normal.specs.PartTexts.{axis_text};
+ghost use Rattle.crs_normal.specs.inner.PartTexts.{axis_text};
 ghost use Rattle.crs_rules.specs.Rewritten.{arranged, arranged_across, arranged_compound, arranged_crs, arranged_geodetic, arranged_projected, arranged_vertical, ascending};
-ghost use Rattle.crs_rules.specs.Sinking.{IsOrderless, IsOrderlessAcross, IsOrderlessCrs, sunk_from};
+ghost use Rattle.crs_rules.specs.inner.Sinking.{IsOrderless, IsOrderlessAcross, IsOrderlessCrs, sunk_from};
 
 use crs_canon::Canonical;
 use crs_value::{

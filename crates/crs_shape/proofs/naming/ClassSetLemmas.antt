@@ -9,8 +9,8 @@ use Rattle.std.proofs.lemmas.Nat.Bits.{bit_at_or, bit_at-lt, bit_at-zero, bit_at
 use denote.Enum.Bare.{sameb}
 use Rattle.crs_shape.specs.contracts.class.Class.{the_type}
 use Rattle.crs_shape.specs.declared.class.Class.{Class}
-use Rattle.crs_shape.specs.ClassSet.{word_of, has_bit, bit_of, set_of}
-use Rattle.crs_shape.specs.KeywordTable.{is_among, is_part, argument_classes}
+use Rattle.crs_shape.specs.inner.ClassSet.{word_of, has_bit, bit_of, set_of}
+use Rattle.crs_shape.specs.inner.KeywordTable.{is_among, is_part, argument_classes}
 use Rattle.crs_shape.specs.Slots.{SlotParts, slots_of, takes}
 use Rattle.crs_shape.proofs.naming.ListLemmas.{list_any-map}
 

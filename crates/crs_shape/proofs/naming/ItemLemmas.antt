@@ -8,7 +8,7 @@ use Rattle.crs_text.specs.declared.items.ItemKind.TheVariants.{Node}
 use Rattle.crs_shape.specs.contracts.class.Class.{the_type}
 use Rattle.crs_shape.specs.declared.class.Class.{Class}
 use Rattle.crs_shape.specs.Keywords.{is_known}
-use Rattle.crs_shape.specs.KeywordTable.{classes_by, is_among, is_part, is_root}
+use Rattle.crs_shape.specs.inner.KeywordTable.{classes_by, is_among, is_part, is_root}
 use Rattle.crs_shape.specs.Shape.{has_class}
 use Rattle.crs_shape.specs.ShapeFault.{class_in, class_of_root, is_of}
 use Rattle.crs_shape.specs.Slots.{is_class}

@@ -11,9 +11,9 @@ use Rattle.crs_text.specs.Prelude.{Item, leaf, node, kind_of_item, keyword_in, k
 use Rattle.crs_shape.specs.contracts.class.Class.{the_type}
 use Rattle.crs_shape.specs.declared.class.Class.{Class}
 use Rattle.crs_shape.specs.declared.class.Class.TheVariants as class
-use Rattle.crs_shape.specs.ClassSet.{has_bit, keyword_bit, keyword_set}
+use Rattle.crs_shape.specs.inner.ClassSet.{has_bit, keyword_bit, keyword_set}
 use Rattle.crs_shape.specs.Keywords.{is_keyword, keywords_of}
-use Rattle.crs_shape.specs.KeywordTable.{classes_of, classes_by, is_among, is_part, IsClear}
+use Rattle.crs_shape.specs.inner.KeywordTable.{classes_of, classes_by, is_among, is_part, IsClear}
 use Rattle.crs_shape.specs.ShapeFault.{class_in}
 use Rattle.crs_shape.specs.Slots.{is_class}
 use Rattle.crs_shape.specs.Sought.{kind_for}

@@ -9,7 +9,7 @@ use Rattle.crs_shape.specs.contracts.class.Class.{the_type}
 use Rattle.crs_shape.specs.declared.class.Class.{Class}
 use Rattle.crs_shape.specs.Slots.{SlotParts}
 use Rattle.crs_shape.specs.Shape.{AllTaken, Fills, AllFilled, joined, Allowed}
-use Rattle.crs_shape.specs.Counts.{one_if, how_many, least, most, is_bounded}
+use Rattle.crs_shape.specs.inner.Counts.{one_if, how_many, least, most, is_bounded}
 use Rattle.crs_shape.proofs.naming.ListLemmas.{passes-all, passes-none}
 
 how_many-append : (p : Class → Bool) (xs ys : List Class) → how_many p (xs ++ ys) ≡ how_many p xs + how_many p ys

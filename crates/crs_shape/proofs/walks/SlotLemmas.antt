@@ -9,7 +9,7 @@ use Rattle.crs_shape.specs.contracts.class.Class.{the_type}
 use Rattle.crs_shape.specs.declared.class.Class.{Class}
 use Rattle.crs_shape.specs.Slots.{SlotParts, takes}
 use Rattle.crs_shape.specs.Shape.{AllTaken, Fills, AllFilled, joined, Allowed, reaches, has_class, is_apart}
-use Rattle.crs_shape.specs.Walk.{again, after, may_end}
+use Rattle.crs_shape.specs.inner.Walk.{again, after, may_end}
 use Rattle.crs_shape.proofs.naming.ListLemmas.{passes-none}
 
 -- what is apart

@@ -3,7 +3,7 @@ use Rattle.std.proofs.Common.{◌≡◌, ℕ, suc, ◌+◌, ◌≤◌, Bool, Som
 use Rattle.std.proofs.lemmas.Bool.{ltb-true}
 use Rattle.crs_text.specs.Tokens.{Kind, number, text, word, Token, single, comma, opening, closing}
 use Rattle.crs_text.specs.Items.{Item, leaf, node, Siblings, End, More, depth, depths, IsNode}
-use Rattle.crs_text.specs.State.{Frame, State, wants, worded, after, gather, behind_leaf, behind_item, step, run}
+use Rattle.crs_text.specs.inner.State.{Frame, State, wants, worded, after, gather, behind_leaf, behind_item, step, run}
 use Rattle.crs_text.proofs.rows.StateLemmas.{only_if-some, run-some}
 
 abbrev pub EachFits : ℕ → ℕ → List Item → Type 0

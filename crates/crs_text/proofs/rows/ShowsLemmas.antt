@@ -4,9 +4,9 @@ use Rattle.std.specs.Option.{option_map}
 use Rattle.crs_text.specs.Tokens.{Token, opening}
 use Rattle.crs_text.specs.Items.{Item, AreNode}
 use Rattle.crs_text.specs.Viable.{IsViable, IsViableAtAnyDepth}
-use Rattle.crs_text.specs.State.{State, wants, worded, after, start, step, run}
-use Rattle.crs_text.specs.Table.{Flat, flat_step, IsOpened, is_whole}
-use Rattle.crs_text.specs.Rows.{flat, Shows}
+use Rattle.crs_text.specs.inner.State.{State, wants, worded, after, start, step, run}
+use Rattle.crs_text.specs.inner.Table.{Flat, flat_step, IsOpened, is_whole}
+use Rattle.crs_text.specs.inner.Rows.{flat, Shows}
 use Rattle.crs_text.specs.declared.table.Opened.TheVariants.{TooDeep, Refused}
 use Rattle.crs_text.specs.declared.table.Progress.{Progress}
 use Rattle.crs_text.specs.declared.table.Progress.TheVariants.{BeforeItem, AfterWord, AfterItem}

@@ -4,10 +4,10 @@ use Rattle.std.proofs.lemmas.List.{length-append, drop_at}
 use Rattle.std.proofs.Math.Seq.{take-append_seam}
 use Rattle.crs_text.specs.Tokens as tokens
 use Rattle.crs_text.specs.Tokens.{Token, single, spelling, IsFormed, Forms, Fronts}
-use Rattle.crs_text.specs.Laid.{AreLaid, EndsIn}
-use Rattle.crs_text.specs.Tree.{StandsAt, TokenStands, AllStand, EachToken, IsTable}
-use Rattle.crs_text.specs.Table.{Flat}
-use Rattle.crs_text.specs.Scan.{IsScanned}
+use Rattle.crs_text.specs.inner.Laid.{AreLaid, EndsIn}
+use Rattle.crs_text.specs.inner.Tree.{StandsAt, TokenStands, AllStand, EachToken, IsTable}
+use Rattle.crs_text.specs.inner.Table.{Flat}
+use Rattle.crs_text.specs.inner.Scan.{IsScanned}
 use Rattle.crs_text.proofs.texts.WrittenLemmas.{fronts_formed}
 
 pub cut_front : (source bytes white rest : List ℕ) → EndsIn source bytes → bytes ≡ white ++ rest → EndsIn source rest

@@ -5,7 +5,7 @@ use Rattle.std.proofs.lemmas.List.{append-nil}
 use Rattle.std.proofs.lemmas.List.Sums.{fold-append}
 use Rattle.crs_text.specs.Tokens.{Kind, word, Token, single, comma, opening, closing}
 use Rattle.crs_text.specs.Items.{Item, leaf, Siblings, More, tokens, others_tokens}
-use Rattle.crs_text.specs.State.{Frame, State, wants, worded, after, start, gather, only_if, same_square, behind_leaf, behind_item, step, move, run}
+use Rattle.crs_text.specs.inner.State.{Frame, State, wants, worded, after, start, gather, only_if, same_square, behind_leaf, behind_item, step, move, run}
 
 -- the tokens of complete arguments, the last first, each with a comma after it
 abbrev pub before_tokens : List Item → List Token

@@ -5,7 +5,7 @@ use Rattle.crs_text.specs.declared.table.Open.{Open}
 use Rattle.crs_text.specs.declared.table.Row.{Row}
 use Rattle.crs_text.specs.declared.table.Progress.{Progress}
 use Rattle.crs_text.specs.declared.table.Progress.TheVariants.{BeforeItem, AfterWord}
-use Rattle.crs_text.specs.Table.{IsRoomy, AreRoomy, counted, held, no_open}
+use Rattle.crs_text.specs.inner.Table.{IsRoomy, AreRoomy, counted, held, no_open}
 
 pub held-top : (depth : ℕ) (os : List Open) → 0 < depth → held depth os ≡ get_or os (depth - 1) no_open ∷ held (depth - 1) os
 held-top zero os h = absurd (omega arith)

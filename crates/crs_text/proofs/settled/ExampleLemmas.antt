@@ -3,7 +3,7 @@ use Rattle.std.proofs.Common.{◌≡◌, ℕ, ◌+◌, Some, None, true, false, 
 use Rattle.crs_text.specs.Quoted.{is_quote}
 use Rattle.crs_text.specs.Tokens as tokens
 use Rattle.crs_text.specs.Tokens.{Token, single, comma, opening, closing, is_white}
-use Rattle.crs_text.specs.State.{State, start, step, run}
+use Rattle.crs_text.specs.inner.State.{State, start, step, run}
 use Rattle.crs_text.specs.TextFault.{IsTooDeep}
 use Rattle.crs_text.specs.declared.refusal.Reason.TheVariants.{BadCharacter, Unexpected}
 use Rattle.crs_text.specs.Settled.{FormsSettled, SettledFronts, IsSettledRefusal, IsTakenSoFar, begun}

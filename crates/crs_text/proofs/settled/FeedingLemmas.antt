@@ -14,16 +14,16 @@ use Rattle.crs_text.specs.Quoted.{StopsAt, BeginsWith, doubled, IsInside, IsShut
 use Rattle.crs_text.specs.Utf8.{IsUtf8Front, IsValidTo}
 use Rattle.crs_text.specs.TextFault.{IsFlaw, IsStop, IsTextFault}
 use Rattle.crs_text.specs.Settled.{IsSettled, FormsSettled, SettledFronts, IsRunSettled, IsSettledStop, IsTakenSoFar}
-use Rattle.crs_text.specs.Feeding.{IsFlawSettled, IsLexedSettled, IsUnsettled, IsSettledTo, IsUnsettledAt, IsSettledFault, IsPendingIn, IsPendingBefore, StaysPending, IsUnsettledIn, IsInsideTo, IsOpenTo, IsFedTo, IsFed, IsRefusalOf}
+use Rattle.crs_text.specs.inner.Feeding.{IsFlawSettled, IsLexedSettled, IsUnsettled, IsSettledTo, IsUnsettledAt, IsSettledFault, IsPendingIn, IsPendingBefore, StaysPending, IsUnsettledIn, IsInsideTo, IsOpenTo, IsFedTo, IsFed, IsRefusalOf}
 use Rattle.crs_text.specs.declared.feeding.Held.{Held}
 use Rattle.crs_text.specs.declared.feeding.Pending.{Pending}
 use Rattle.crs_text.specs.declared.feeding.Pending.TheVariants as pending
-use Rattle.crs_text.specs.Rows.{Shows, flat}
-use Rattle.crs_text.specs.State.{start}
-use Rattle.crs_text.specs.Table.{Flat}
+use Rattle.crs_text.specs.inner.Rows.{Shows, flat}
+use Rattle.crs_text.specs.inner.State.{start}
+use Rattle.crs_text.specs.inner.Table.{Flat}
 use Rattle.crs_text.specs.Refusal.{RefusedAt}
-use Rattle.crs_text.specs.Lexing.{IsLexed}
-use Rattle.crs_text.specs.Scan.{IsReached, IsTaken, IsStoppedBy}
+use Rattle.crs_text.specs.inner.Lexing.{IsLexed}
+use Rattle.crs_text.specs.inner.Scan.{IsReached, IsTaken, IsStoppedBy}
 use Rattle.crs_text.specs.declared.fault.Fault.{Fault}
 use Rattle.crs_text.specs.declared.fault.Fault.TheVariants as faults
 use Rattle.crs_text.specs.declared.refusal.Reason.{Reason}

@@ -13,7 +13,7 @@ use Rattle.crs_text.specs.declared.refusal.Reason.{Reason}
 use Rattle.crs_text.specs.declared.refusal.Reason.TheVariants.{BadCharacter, BadNumber, NumberRange, NotUtf8, OpenText, Unexpected, UnexpectedEnd, TooDeep}
 use Rattle.crs_text.specs.TextFault.{BeginsNoToken, IsFirstRun, IsFlaw, IsStop, RefusesText}
 use Rattle.crs_text.specs.Settled.{IsSettled, FormsSettled, SettledFronts, IsRunSettled, IsSettledStop, IsSettledRefusal, IsTakenSoFar}
-use Rattle.crs_text.specs.Feeding.{IsUnsettled}
+use Rattle.crs_text.specs.inner.Feeding.{IsUnsettled}
 use Rattle.crs_text.proofs.tokens.TokenLemmas.{Forms-one}
 use Rattle.crs_text.proofs.tokens.FlawLemmas.{flaw_some}
 use Rattle.crs_text.proofs.tokens.QuotedLemmas.{same_head, same_tail, shut_one, shut_not_open}

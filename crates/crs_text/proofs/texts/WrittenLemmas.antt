@@ -5,7 +5,7 @@ use Rattle.crs_text.specs.Quoted.{StopsAt}
 use Rattle.crs_text.specs.Tokens.{Kind, number, text, word, Token, single, comma, opening, closing, is_white, IsWord, IsSingle, single_spelling, takes_byte, IsFormed, Forms, Fronts}
 use Rattle.crs_text.specs.Items.{Item, leaf, node, Siblings, End, More, tokens, others_tokens, depth, depths, IsNode}
 use Rattle.crs_text.specs.TextFault.{SpellsNode}
-use Rattle.crs_text.specs.Tree.{EachToken}
+use Rattle.crs_text.specs.inner.Tree.{EachToken}
 use Rattle.crs_text.specs.Written.{item_text, others_text, AreFormed, AreAllFormed, at_place, at_places, WrittenSpells}
 use Rattle.crs_text.proofs.tokens.FrontsLemmas.{dark_start, dark_word, at_once}
 use Rattle.crs_text.proofs.tokens.ViableLemmas.{node_tokens}

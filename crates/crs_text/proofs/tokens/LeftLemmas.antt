@@ -9,7 +9,7 @@ use Rattle.crs_decimal.specs.Prelude.{is_run_byte, is_run_start, HasForm, IsInBo
 use Rattle.crs_text.specs.Quoted.{IsInside, IsShut, BeginsWith, is_quote, doubled}
 use Rattle.crs_text.specs.Utf8.{IsLongestUtf8}
 use Rattle.crs_text.specs.Tokens.{Kind, number, text, word, Token, single, comma, opening, closing, is_letter, is_word_byte, Forms}
-use Rattle.crs_text.specs.Lexing.{StandsBefore}
+use Rattle.crs_text.specs.inner.Lexing.{StandsBefore}
 use Rattle.crs_text.specs.declared.refusal.Reason.{Reason}
 use Rattle.crs_text.specs.declared.refusal.Reason.TheVariants.{BadCharacter, BadNumber, NumberRange, NotUtf8, OpenText}
 use Rattle.crs_text.specs.TextFault.{IsFlaw}

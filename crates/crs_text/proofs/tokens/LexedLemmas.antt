@@ -13,7 +13,7 @@ use Rattle.crs_text.specs.Tokens.{is_letter, is_word_byte, IsWord}
 use Rattle.crs_decimal.specs.Prelude.{is_run_byte, is_run_start, HasForm, IsInBounds}
 use Rattle.crs_text.specs.TextFault.{IsFirstRun, IsFlaw}
 use Rattle.crs_text.proofs.tokens.TokenLemmas.{letter_in_word}
-use Rattle.crs_text.specs.Lexing.{IsLexed}
+use Rattle.crs_text.specs.inner.Lexing.{IsLexed}
 use Rattle.crs_text.specs.declared.refusal.Reason.TheVariants.{BadNumber, NumberRange, NotUtf8, OpenText}
 use Rattle.crs_text.specs.declared.lexing.Lexed.TheVariants.{Number, Text, Word}
 use Rattle.crs_text.proofs.tokens.Utf8Lemmas.{IsUtf8-before_quote, IsUtf8-from_front_at_quote, IsLongestUtf8-longer}

@@ -5,7 +5,7 @@ use Rattle.std.proofs.lemmas.List.{append-nil}
 use Rattle.crs_text.specs.Tokens.{number, word, Token, single, comma, opening, closing}
 use Rattle.crs_text.specs.Items.{Item, leaf, node, Siblings, End, More, tokens, others_tokens, depth, depths, IsNode, AreNode}
 use Rattle.crs_text.specs.Viable.{IsViable}
-use Rattle.crs_text.specs.State.{Frame, State, wants, worded, after, start, gather, behind_leaf, step, run}
+use Rattle.crs_text.specs.inner.State.{Frame, State, wants, worded, after, start, gather, behind_leaf, step, run}
 use Rattle.crs_text.proofs.rows.StateLemmas.{same_square-refl, unread-run, run-cons, run-append, run-front}
 use Rattle.crs_text.proofs.rows.LimitLemmas.{sound-run}
 

@@ -13,7 +13,7 @@ use denote.Enum.Enum.{tag_below}
 use Rattle.crs_text.specs.contracts.keyword.Keyword.{the_type}
 use Rattle.crs_text.specs.declared.keyword.Keyword.{Keyword}
 use Rattle.crs_text.specs.Keywords.{spelling_of, every_keyword, first_spelled, keyword_of}
-use Rattle.crs_text.specs.KeywordTable.{spelled, of_length, first_among}
+use Rattle.crs_text.specs.inner.KeywordTable.{spelled, of_length, first_among}
 
 -- two words that differ in letter case alone
 abbrev Same : List ℕ → List ℕ → Type 0

@@ -5,7 +5,7 @@ use Rattle.std.proofs.lemmas.Simd.{zip2_splat, length-zip2, mask_l-mod, first_se
 use Rattle.std.proofs.lemmas.Slice.Eq.{bytes_eq-Decides}
 use Rattle.std.specs.Str.{str_to_ascii_lowercase}
 use lib.Lanes.{zip2, mask_l, top, Each1}
-use Rattle.crs_text.specs.Runs.{first_set}
+use Rattle.crs_text.specs.inner.Runs.{first_set}
 use Rattle.crs_text.specs.declared.keyword.Suspect.{Suspect}
 use Rattle.std.specs.Char.{to_ascii_lowercase}
 use Rattle.std.proofs.lemmas.Bool.{cases_Bool, agree_below, agree_below_at, leb-true, and_parts}
@@ -13,7 +13,7 @@ use Rattle.std.proofs.Math.Numerals.{one-add}
 use Rattle.std.specs.List.{list_all, prefix_len}
 use Rattle.crs_text.specs.declared.keyword.Keyword.{Keyword}
 use Rattle.crs_text.specs.Keywords.{spelling_of, keyword_of}
-use Rattle.crs_text.specs.KeywordTable.{spelled, of_length, first_among, is_capital, IsNamed, IsSuspect, AreSuspects}
+use Rattle.crs_text.specs.inner.KeywordTable.{spelled, of_length, first_among, is_capital, IsNamed, IsSuspect, AreSuspects}
 use Rattle.crs_text.proofs.words.KeywordLemmas.{keyword-spelled, keyword_of-table, same-keyword_of}
 
 -- a byte is a capital, letter case aside, exactly where it is with the bit cleared in which the cases differ

@@ -5,8 +5,8 @@ use Rattle.crs_text.specs.Prelude.{Item, arguments, rest_of, raw_of, here, Refus
 use Rattle.crs_shape.specs.declared.class.Class.{Class}
 use Rattle.crs_shape.specs.Prelude.{Shaped}
 use Rattle.crs_value.specs.Checks.{IsAboveZero, NotAbove, IsNegative, AnyOf, IsLeast}
-use Rattle.crs_value.specs.FoundArguments.{from_found, AllShaped}
-use Rattle.crs_value.specs.Least.{lesser}
+use Rattle.crs_value.specs.inner.FoundArguments.{from_found, AllShaped}
+use Rattle.crs_value.specs.inner.Least.{lesser}
 use Rattle.crs_value.specs.Reading.{item_at, those, Holds, IsFound, TakesOne}
 use Rattle.crs_value.specs.Reads.{ReadsNumber}
 use Rattle.crs_value.proofs.found.ArgumentLemmas.{SlotsBound, arguments-few, found-is, found-holds, all-shaped, found-shaped, nothing}

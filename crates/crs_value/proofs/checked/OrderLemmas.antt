@@ -8,8 +8,8 @@ use Rattle.crs_shape.specs.declared.class.Class.{Class}
 use Rattle.crs_shape.specs.declared.class.Class.TheVariants as class
 use Rattle.crs_shape.specs.Prelude.{Shaped}
 use Rattle.crs_value.specs.Checks.{orders_in, SomeHasOrder, AllHaveOrder, LacksOrder, ReadsOrder, IsPosition, HasThis, OneHas, IsWrongOrder, IsBadOrder, BadOrders, BadOrder, at, AnyOf, IsLeast}
-use Rattle.crs_value.specs.FoundArguments.{from_found, AllShaped}
-use Rattle.crs_value.specs.Least.{lesser}
+use Rattle.crs_value.specs.inner.FoundArguments.{from_found, AllShaped}
+use Rattle.crs_value.specs.inner.Least.{lesser}
 use Rattle.crs_value.specs.Reading.{OneIs, item_at, those, Holds, IsFound, ReadsFirst}
 use Rattle.crs_value.specs.Reads.{ReadsNumber}
 use Rattle.crs_value.proofs.found.ArgumentLemmas.{found-is, found-holds, found-shaped, all-shaped}

@@ -8,8 +8,8 @@ use Rattle.crs_shape.specs.declared.unit_kind.UnitKind.{UnitKind}
 use Rattle.crs_shape.specs.declared.unit_kind.UnitKind.TheVariants as kinds
 use Rattle.crs_shape.specs.Prelude.{asked_kind, SpellsWord, unit_word, Shaped}
 use Rattle.crs_value.specs.Checks.{Asks, Fits, units_in, Misfits, BadOwnUnit, HasOwnUnit, BadShared, BadUnit, AllAsk, at, AnyOf, IsLeast}
-use Rattle.crs_value.specs.FoundArguments.{from_found, AllShaped}
-use Rattle.crs_value.specs.Least.{lesser}
+use Rattle.crs_value.specs.inner.FoundArguments.{from_found, AllShaped}
+use Rattle.crs_value.specs.inner.Least.{lesser}
 use Rattle.crs_value.specs.Reading.{item_at, those, Holds, IsFound, IsReading}
 use Rattle.crs_value.specs.Reads.{ReadsDirection, ReadsKind}
 use Rattle.crs_value.proofs.found.ArgumentLemmas.{SlotsBound, found-is, found-holds, found-shaped}

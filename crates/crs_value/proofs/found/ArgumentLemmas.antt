@@ -7,7 +7,7 @@ use Rattle.crs_text.specs.declared.items.ItemKind.TheVariants as kinds
 use Rattle.crs_shape.specs.declared.class.Class.{Class}
 use Rattle.crs_shape.specs.declared.class.Class.TheVariants as class
 use Rattle.crs_shape.specs.Prelude.{is_keyword, one_if, how_many, is_bounded, least, most, Allowed, Shaped, AreShaped, class_in, class_of_kind, SlotParts, slots_of, is_class}
-use Rattle.crs_value.specs.FoundArguments.{from_found, AllShaped}
+use Rattle.crs_value.specs.inner.FoundArguments.{from_found, AllShaped}
 use Rattle.crs_value.specs.Checks.{AtClass, Breaks, BreaksAmong, IsSound}
 use Rattle.crs_value.specs.Reading.{Each, item_at, is_same, is_a, those, ahead, Holds, IsFound}
 

@@ -5,7 +5,7 @@ use Rattle.crs_shape.specs.declared.class.Class.{Class}
 use Rattle.crs_shape.specs.declared.class.Class.TheVariants as class
 use Rattle.crs_shape.specs.Prelude.{one_if, class_in, is_class}
 use Rattle.crs_value.specs.declared.reading.firsts.Firsts.{Firsts}
-use Rattle.crs_value.specs.FirstArguments.{AreNoted, fields, first_with}
+use Rattle.crs_value.specs.inner.FirstArguments.{AreNoted, fields, first_with}
 use Rattle.crs_value.specs.Reading.{Each, item_at, is_same, is_a, those, ahead, Holds, IsFound}
 use Rattle.crs_value.proofs.found.ArgumentLemmas.{ahead_at, each-as, holds_at, those-first, those-later}
 

@@ -5,7 +5,7 @@ use Rattle.std.specs.Option.{IsSome}
 use Rattle.crs_text.specs.Prelude.{Item, arguments, rest_of, here}
 use Rattle.crs_shape.specs.declared.class.Class.{Class}
 use Rattle.crs_shape.specs.Prelude.{least, slots_of, Shaped}
-use Rattle.crs_value.specs.FoundArguments.{from_found}
+use Rattle.crs_value.specs.inner.FoundArguments.{from_found}
 use Rattle.crs_value.specs.Checks.{IsSound}
 use Rattle.crs_value.specs.Reading.{item_at, is_same, those, Holds, IsFound, ReadsFirst, ReadsOptional, ReadsEach}
 use Rattle.crs_value.proofs.found.ArgumentLemmas.{AllSound, SlotsCount, arguments-many, found-is, found-holds, arguments-sound, each-drop, all-shaped, arguments-shaped}

@@ -6,7 +6,7 @@ use Rattle.crs_shape.specs.declared.class.Class.{Class}
 use Rattle.crs_shape.specs.Prelude.{is_keyword, first_named, root_classes, root_named, Shaped, IsFree, Inside, AtRoot, class_of_root}
 use Rattle.crs_value.specs.declared.values.crs.Crs.{Crs}
 use Rattle.crs_value.specs.Checks.{IsLeast, Breaks, IsSound}
-use Rattle.crs_value.specs.FoundArguments.{IsAmong}
+use Rattle.crs_value.specs.inner.FoundArguments.{IsAmong}
 use Rattle.crs_value.specs.ReadsCrs.{ReadsCrs}
 use Rattle.crs_value.specs.Spells.{SpellsCrs, BreaksFirst, RefusesCrs}
 use Rattle.crs_value.proofs.checked.CheckLemmas.{DenotesOne}

@@ -9,7 +9,7 @@ use Rattle.crs_value.specs.declared.values.compound.Horizontal.TheVariants as ho
 use Rattle.crs_value.specs.declared.values.crs.Crs.TheVariants as crs
 use Rattle.crs_value.specs.declared.values.frame.Frame.TheVariants as frames
 use Rattle.crs_value.specs.Checks.{IsSound}
-use Rattle.crs_value.specs.FoundArguments.{IsAmong}
+use Rattle.crs_value.specs.inner.FoundArguments.{IsAmong}
 use Rattle.crs_value.specs.Reading.{Each, those, Requires, RequiresOneOf, ReadsFirst, ReadsElse}
 use Rattle.crs_value.specs.Reads.{IsUnitClass, ReadsNumberOf, ReadsUnit, ReadsMeridian, ReadsAsUnit, ReadsUnitOf, parameter_units, ReadsParameter, ReadsConversion, ReadsDynamic}
 use Rattle.crs_value.specs.ReadsNamed.{ReadsNamed}

@@ -6,7 +6,7 @@ use Rattle.crs_text.specs.Prelude.{number, Item, leaf, node, Siblings, End, More
 use Rattle.crs_shape.specs.declared.class.Class.{Class}
 use Rattle.crs_shape.specs.declared.class.Class.TheVariants as class
 use Rattle.crs_shape.specs.Prelude.{Shaped}
-use Rattle.crs_value.specs.FoundArguments.{AllShaped}
+use Rattle.crs_value.specs.inner.FoundArguments.{AllShaped}
 use Rattle.crs_value.specs.Reading.{Each, is_a, those, ReadsFirst}
 use Rattle.crs_value.specs.Reads.{ReadsNumber}
 use Rattle.crs_value.proofs.found.ArgumentLemmas.{each-if, arguments-shaped, shaped-number}

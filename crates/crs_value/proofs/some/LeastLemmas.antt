@@ -10,7 +10,7 @@ use Rattle.crs_shape.specs.declared.system_type.SystemType.TheVariants as types
 use Rattle.crs_shape.specs.declared.unit_kind.UnitKind.{UnitKind}
 use Rattle.crs_shape.specs.declared.unit_kind.UnitKind.TheVariants as kinds
 use Rattle.crs_value.specs.Checks.{IsAboveZero, NotAbove, IsNegative, AxisCount, orders_in, ReadsOrder, IsPosition, HasThis, OneHas, IsBadOrder, BadOrders, BadOrder, IsNotEllipsoidal, IsNotPlane, IsNotHorizontal, BadComponent, BadComponents, BadSystem, Asks, Fits, units_in, Misfits, BadOwnUnit, HasOwnUnit, AllAsk, BadUnit, at, AnyOf, FirstIs, IsLeast, BadDynamic, anchors, once, OfHead, OfCrs, OfUnit, OfEllipsoid, Own, AtClass, Breaks, BreaksAmong, horizontal_classes, RepeatsAny}
-use Rattle.crs_value.specs.Least.{lesser}
+use Rattle.crs_value.specs.inner.Least.{lesser}
 use Rattle.crs_value.specs.Reading.{Each, those, ReadsFirst}
 use Rattle.crs_value.specs.Reads.{HasType, HasDimension, ReadsNumber, ReadsType, ReadsDirection}
 use Rattle.crs_value.proofs.checked.CheckLemmas.{DenotesOne, number-one}

@@ -8,7 +8,7 @@ use Rattle.crs_value.specs.declared.judging.quick_checks.AxisFacts.{AxisFacts}
 use Rattle.crs_value.specs.Checks.{orders_in, units_in}
 use Rattle.crs_value.specs.Reading.{item_at, is_a, is_same, those, IsFound}
 use Rattle.crs_value.specs.Reads.{ReadsDirection}
-use Rattle.crs_value.specs.QuickChecks.{the_one, HasFacts, IsBehindName, IsShaped}
+use Rattle.crs_value.specs.inner.QuickChecks.{the_one, HasFacts, IsBehindName, IsShaped}
 use Rattle.crs_value.proofs.found.ArgumentLemmas.{SlotsBound, arguments-few, nothing, first-shaped, class-is, those-first, those-later}
 
 -- the only argument of a class, which was looked for

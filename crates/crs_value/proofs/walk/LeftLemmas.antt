@@ -7,7 +7,7 @@ use Rattle.crs_text.specs.Prelude.{Item, rest_of, here, HasId, IsAt, RefusedAt}
 use Rattle.crs_shape.specs.contracts.class.Class.{the_type}
 use Rattle.crs_shape.specs.declared.class.Class.{Class}
 use Rattle.crs_shape.specs.Prelude.{SlotParts, is_class, takes, again}
-use Rattle.crs_value.specs.Judged.{AllLeave, AllPassed, Answers, Leaves, Passed}
+use Rattle.crs_value.specs.inner.Judged.{AllLeave, AllPassed, Answers, Leaves, Passed}
 use Rattle.crs_value.specs.Reading.{item_at, is_a, those}
 use Rattle.crs_value.proofs.found.ArgumentLemmas.{ahead_at, those-later}
 

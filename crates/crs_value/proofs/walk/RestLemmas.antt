@@ -11,11 +11,11 @@ use Rattle.crs_shape.specs.declared.unit_kind.UnitKind.TheVariants as kinds
 use Rattle.crs_shape.specs.Prelude.{IsOneOf, class_in}
 use Rattle.crs_value.specs.declared.judging.quick_checks.AxesFacts.{AxesFacts}
 use Rattle.crs_value.specs.Checks.{BadDynamic, orders_in, SomeHasOrder, IsBadOrder, BadOrders, BadOrder, Asks, AllAsk, IsSuperfluous, HasOwnUnit, BadOwnUnit, BadUnit, AnyOf, IsLeast, BreaksAmong, HasSystem, OfHead, BadSystems, Own, IsRepeated, RepeatsAny}
-use Rattle.crs_value.specs.Least.{lesser}
+use Rattle.crs_value.specs.inner.Least.{lesser}
 use Rattle.crs_value.specs.Reading.{Each, OneIs, item_at, is_a, ahead, those}
 use Rattle.crs_value.specs.Reads.{HasType}
-use Rattle.crs_value.specs.QuickChecks.{the_one, AreOrdered, HaveFacts, UnitsFit, PassesButDynamic, rank, Climbs}
-use Rattle.crs_value.specs.WholeNumbers.{IsWholeOf}
+use Rattle.crs_value.specs.inner.QuickChecks.{the_one, AreOrdered, HaveFacts, UnitsFit, PassesButDynamic, rank, Climbs}
+use Rattle.crs_value.specs.inner.WholeNumbers.{IsWholeOf}
 use Rattle.crs_value.proofs.checked.OwnLemmas.{crs-of-own, own-of-crs}
 use Rattle.crs_value.proofs.found.FirstArgumentsLemmas.{one-more}
 use Rattle.crs_value.proofs.found.ArgumentLemmas.{class-is, each-as}

@@ -5,7 +5,7 @@ use Rattle.crs_text.specs.Prelude.{Item, RefusedAt}
 use Rattle.crs_shape.specs.declared.class.Class.{Class}
 use Rattle.crs_shape.specs.Prelude.{first_inside, Shaped, class_of_root, misplaced, AtRoot, Inside, IsFree, IsOnly}
 use Rattle.crs_value.specs.Checks.{IsLeast, Breaks}
-use Rattle.crs_value.specs.Judged.{Gives, Judged}
+use Rattle.crs_value.specs.inner.Judged.{Gives, Judged}
 use Rattle.crs_value.specs.Spells.{RefusesCrs}
 use Rattle.crs_value.proofs.walk.JudgedLemmas.{fresh-least}
 use Rattle.crs_value.proofs.one.RootLemmas.{NoFaultIsShape}

@@ -7,7 +7,7 @@ use Rattle.crs_shape.specs.declared.class.Class.{Class}
 use Rattle.crs_shape.specs.declared.class.Class.TheVariants as class
 use Rattle.crs_value.specs.Reading.{item_at, those, IsFound, ReadsFirst}
 use Rattle.crs_value.specs.Reads.{ReadsNumber}
-use Rattle.crs_value.specs.WholeNumbers.{IsWhole, IsWholeOf}
+use Rattle.crs_value.specs.inner.WholeNumbers.{IsWhole, IsWholeOf}
 use Rattle.crs_value.proofs.checked.PlacedLemmas.{Symmetric}
 
 abbrev pub DigitsAlone : Type 0

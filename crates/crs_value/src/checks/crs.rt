@@ -5,8 +5,8 @@ ghost use Rattle.crs_shape.specs.Dimensions.{dimensions_of};
 ghost use Rattle.crs_shape.specs.Shaped.{Shaped};
 ghost use Rattle.crs_value.specs.Checks.{AxisCount, BadDynamic, BadSystem, HasEnsemble, AnyOf, IsLeast, BreaksAmong, anchors, once, IsRepeated, OfHead, OfAxes, OfCrs, Repeats, RepeatsAny};
 ghost use Rattle.crs_value.specs.Cursor.{args, item};
-ghost use Rattle.crs_value.specs.FirstArguments.{AreFirsts};
-ghost use Rattle.crs_value.specs.FoundArguments.{AllShaped};
+ghost use Rattle.crs_value.specs.inner.FirstArguments.{AreFirsts};
+ghost use Rattle.crs_value.specs.inner.FoundArguments.{AllShaped};
 ghost use Rattle.crs_value.specs.Reading.{item_at, those, IsFound, IsReading, TakesOne};
 ghost use Rattle.crs_value.specs.Reads.{HasType, HasDimension};
 

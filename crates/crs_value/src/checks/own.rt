@@ -6,7 +6,7 @@ ghost use Rattle.crs_shape.specs.declared.class.Class.TheVariants as classes;
 ghost use Rattle.crs_shape.specs.Shaped.{Shaped};
 ghost use Rattle.crs_value.specs.Checks.{IsAboveZero, NotAbove, IsNegative, IsNotEllipsoidal, IsNotPlane, IsNotHorizontal, BadComponent, AnyOf, IsLeast, HasSystem, OfCompound, OfEllipsoid, once, Own, RepeatsAny};
 ghost use Rattle.crs_value.specs.Cursor.{args, item};
-ghost use Rattle.crs_value.specs.FirstByte.{is_telling};
+ghost use Rattle.crs_value.specs.inner.FirstByte.{is_telling};
 ghost use Rattle.crs_value.specs.Reading.{item_at, those, Requires, TakesOne};
 
 use crate::checks::crs::{bad_dynamic, repeated_anchors, repeats_once, type_of};

@@ -6,10 +6,10 @@ ghost use Rattle.crs_shape.specs.declared.class.Class.{Class};
 ghost use Rattle.crs_shape.specs.Dimensions.{dimensions_of};
 ghost use Rattle.crs_shape.specs.Shaped.{Shaped};
 ghost use Rattle.crs_value.specs.Checks.{orders_in, units_in, once, Asks, BadOwnUnit, Fits, IsLeast, OfHead, RepeatsAny};
-ghost use Rattle.crs_value.specs.FoundArguments.{AllShaped, HasPlace};
+ghost use Rattle.crs_value.specs.inner.FoundArguments.{AllShaped, HasPlace};
 ghost use Rattle.crs_value.specs.Reading.{item_at, is_a, ahead, those, Holds};
 ghost use Rattle.crs_value.specs.Reads.{HasType};
-ghost use Rattle.crs_value.specs.QuickChecks.{rank, the_one, AreOrdered, Climbs, HasFacts, IsBehindName, IsHeld, IsLaid, IsNoted, PassesButDynamic, HaveFacts, IsShaped, UnitsFit};
+ghost use Rattle.crs_value.specs.inner.QuickChecks.{rank, the_one, AreOrdered, Climbs, HasFacts, IsBehindName, IsHeld, IsLaid, IsNoted, PassesButDynamic, HaveFacts, IsShaped, UnitsFit};
 
 use crate::checks::axes::{bad_order, fits, same_kind};
 use crate::checks::crs::type_of;

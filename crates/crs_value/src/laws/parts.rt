@@ -13,7 +13,7 @@ ghost use Rattle.crs_value.specs.SoundFrames.{IsEllipsoid, IsMember, IsMeridian}
 ghost use Rattle.crs_value.specs.SoundSingle.{IsBase, IsGeodetic, IsGeodeticFrame, IsProjected, IsVertical};
 ghost use Rattle.crs_value.specs.SoundSingle.{IsVerticalFrame};
 ghost use Rattle.crs_value.specs.declared.values.frame.Frame.TheVariants as frame;
-ghost use Rattle.crs_value.specs.ReadOnce.{IsReadAs, IsReadOnce};
+ghost use Rattle.crs_value.specs.inner.ReadOnce.{IsReadAs, IsReadOnce};
 
 /// An item is read as one axis at most, of whatever class it is; likewise the other nodes that aren't members of sets.
 /// Profile.

@@ -1,7 +1,7 @@
 //! The first arguments of a CRS of those classes that its checks and its reading ask for, found in one walk.
 ghost use Rattle.std.specs.Prelude.{◌+◌, ◌^◌, ◌<◌, IsTrue};
 ghost use Rattle.crs_text.specs.Items.{HasId, arguments};
-ghost use Rattle.crs_value.specs.FirstArguments.{AreFirsts, AreNoted};
+ghost use Rattle.crs_value.specs.inner.FirstArguments.{AreFirsts, AreNoted};
 ghost use Rattle.crs_value.specs.Reading.{is_same, item_at};
 
 use crs_shape::{Class, class_in};

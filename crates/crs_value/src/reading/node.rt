@@ -8,7 +8,7 @@ ghost use Rattle.crs_value.specs.Checks.{IsSound};
 ghost use Rattle.crs_value.specs.Cursor.{item};
 ghost use Rattle.crs_value.specs.Reading.{item_at, Requires, those, IsFound};
 ghost use Rattle.crs_value.specs.Reads.{ReadsNumber, ReadsNumberOf};
-ghost use Rattle.crs_value.specs.WholeNumbers.{IsWhole, IsWholeOf};
+ghost use Rattle.crs_value.specs.inner.WholeNumbers.{IsWhole, IsWholeOf};
 
 use crate::Made;
 use crate::reading::arguments::first;

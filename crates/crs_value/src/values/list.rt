@@ -1,9 +1,9 @@
 //! Lists.
-#![tactic(auto, unfolding(crate::specs::Fronts::front))]
+#![tactic(auto, unfolding(crate::specs::inner::Fronts::front))]
 
 ghost use Rattle.std.specs.Prelude.{◌≡◌, ◌<◌, [], IfOk, None, length, map};
 ghost use Rattle.std.specs.List.{swap};
-ghost use Rattle.crs_value.specs.Fronts.{front};
+ghost use Rattle.crs_value.specs.inner.Fronts.{front};
 ghost use Rattle.crs_value.specs.Members.{HaveSameMembers};
 
 use crate::values::key::{CounterpartHints, Keyed, Places};
@@ -34,7 +34,7 @@ struct Lookup {
 impl<T> Model for List<T> {
     ghost use Rattle.std.specs.Prelude as std;
     ghost use Rattle.std.specs.Prelude.{IfSome};
-    ghost use Rattle.crs_value.specs.Fronts.{AreFollowedByOnce, front};
+    ghost use Rattle.crs_value.specs.inner.Fronts.{AreFollowedByOnce, front};
 
     ghost Value = { std.List T };
 

@@ -8,7 +8,7 @@ ghost use Rattle.crs_value.specs.Reading.{Requires, those, ReadsFirst, item_at};
 ghost use Rattle.std.specs.Prelude.{◌≡◌, IfOk};
 ghost use Rattle.crs_text.specs.Items.{arguments, HasId};
 ghost use Rattle.std.specs.Option.{option_copied};
-ghost use Rattle.crs_value.specs.FirstArguments.{AreFirsts};
+ghost use Rattle.crs_value.specs.inner.FirstArguments.{AreFirsts};
 ghost use Rattle.crs_shape.specs.declared.class.Class.TheVariants as classes;
 
 use crate::reading::cursor::Cursor;

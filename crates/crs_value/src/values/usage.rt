@@ -6,7 +6,7 @@ ghost use Rattle.crs_shape.specs.declared.class.Class.TheVariants as classes;
 ghost use Rattle.crs_value.specs.Reading.{Requires};
 ghost use Rattle.crs_value.specs.Cursor.{item};
 ghost use Rattle.crs_value.specs.Checks.{IsSound};
-ghost use Rattle.crs_value.specs.FirstArguments.{AreFirsts};
+ghost use Rattle.crs_value.specs.inner.FirstArguments.{AreFirsts};
 ghost use Rattle.crs_value.specs.Reads.{ReadsBare, ReadsTail, ReadsBox, ReadsExtent, ReadsUsage};
 ghost use Rattle.crs_value.specs.Values.{UsageParts, BoxParts, ExtentParts, TailParts};
 ghost use Rattle.crs_value.specs.Sound.{IsUsage, IsBox, IsExtent, IsTail};

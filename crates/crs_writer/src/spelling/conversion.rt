@@ -2,7 +2,7 @@
 ghost use Rattle.std.specs.Prelude.{◌≡◌, ◌++◌, OnOk};
 ghost use Rattle.crs_value.specs.Values.{ConversionParts};
 ghost use Rattle.crs_value.specs.Reads.{ReadsConversion, ReadsGeoidModel, ReadsMethod, ReadsParameter};
-ghost use Rattle.crs_normal.specs.PartTexts.{conversion_text, geoid_model_text, method_text, parameter_text};
+ghost use Rattle.crs_normal.specs.inner.PartTexts.{conversion_text, geoid_model_text, method_text, parameter_text};
 
 use crate::members::{MembersPart, ReadAs};
 use crate::parts::{Appended, IdentsPart, Part, Spell};

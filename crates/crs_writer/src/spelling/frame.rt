@@ -8,12 +8,12 @@ ghost use Rattle.crs_value.specs.ReadsCrs.{ReadsGeodeticFrame, ReadsVerticalFram
 ghost use Rattle.crs_value.specs.ReadsNamed.{ReadsNamed};
 ghost use Rattle.crs_value.specs.Values.{DatumParts, EnsembleParts};
 ghost use Rattle.crs_value.specs.declared.values.frame.Frame.{Frame};
-ghost use Rattle.crs_normal.specs.PartTexts.{datum_text, ensemble_text, frame_text, member_text};
-ghost use Rattle.crs_normal.specs.SpelledFrames.{item_datum, item_frame, norm_datum, norm_frame};
-ghost use Rattle.crs_writer.specs.Node.{item};
-ghost use Rattle.crs_writer.specs.Found.{SaysIfAny};
-ghost use Rattle.crs_writer.specs.FromItems.{Writes};
-ghost use Rattle.crs_writer.specs.Parts.{datum_node};
+ghost use Rattle.crs_normal.specs.inner.PartTexts.{datum_text, ensemble_text, frame_text, member_text};
+ghost use Rattle.crs_normal.specs.inner.SpelledFrames.{item_datum, item_frame, norm_datum, norm_frame};
+ghost use Rattle.crs_writer.specs.inner.Node.{item};
+ghost use Rattle.crs_writer.specs.inner.Found.{SaysIfAny};
+ghost use Rattle.crs_writer.specs.inner.FromItems.{Writes};
+ghost use Rattle.crs_writer.specs.inner.Parts.{datum_node};
 
 use crate::members::{MembersPart, ReadAs};
 use crate::parts::{

@@ -13,14 +13,14 @@ ghost use Rattle.crs_value.specs.Reading.{ReadsFirst, ReadsIfAny};
 ghost use Rattle.crs_value.specs.Reads.{ReadsAxis, ReadsAxisMeridian, ReadsSystem, ReadsType, ReadsUnit};
 ghost use Rattle.crs_value.specs.Values.{AxisMeridianParts, AxisParts, IdentParts, SystemParts, UnitParts};
 ghost use Rattle.crs_same.specs.SameParts.{own_or};
-ghost use Rattle.crs_normal.specs.PartTexts.{axis_meridian_text, axis_text};
-ghost use Rattle.crs_normal.specs.SpelledItems.{each, number_node, opt, word_item, item_ident, item_unit, norm_units, set_idents};
-ghost use Rattle.crs_normal.specs.SpelledSystems.{axes_from, axis_at, item_axis, item_axis_meridian, item_head, norm_axis};
-ghost use Rattle.crs_normal.specs.SpelledSystems.{norm_axis_meridians, norm_system, system_items, with_axis};
-ghost use Rattle.crs_writer.specs.Node.{args, item};
-ghost use Rattle.crs_writer.specs.Found.{SaysIfAny};
-ghost use Rattle.crs_writer.specs.FromItems.{Writes};
-ghost use Rattle.crs_writer.specs.Openings.{named_node, numbered_node};
+ghost use Rattle.crs_normal.specs.inner.PartTexts.{axis_meridian_text, axis_text};
+ghost use Rattle.crs_normal.specs.inner.SpelledItems.{each, number_node, opt, word_item, item_ident, item_unit, norm_units, set_idents};
+ghost use Rattle.crs_normal.specs.inner.SpelledSystems.{axes_from, axis_at, item_axis, item_axis_meridian, item_head, norm_axis};
+ghost use Rattle.crs_normal.specs.inner.SpelledSystems.{norm_axis_meridians, norm_system, system_items, with_axis};
+ghost use Rattle.crs_writer.specs.inner.Node.{args, item};
+ghost use Rattle.crs_writer.specs.inner.Found.{SaysIfAny};
+ghost use Rattle.crs_writer.specs.inner.FromItems.{Writes};
+ghost use Rattle.crs_writer.specs.inner.Openings.{named_node, numbered_node};
 
 use crate::members::ReadAs;
 use crate::parts::{

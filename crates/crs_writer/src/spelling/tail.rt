@@ -10,14 +10,14 @@ ghost use Rattle.crs_value.specs.Reads.{ReadsBox, ReadsExtent, ReadsUsage, Reads
 ghost use Rattle.crs_value.specs.Values.{BoxParts, ExtentParts, UnitParts, IdentParts, TailParts};
 ghost use Rattle.crs_value.specs.declared.values.level.Level.TheVariants as levels;
 ghost use Rattle.crs_same.specs.SameParts.{usages_of};
-ghost use Rattle.crs_normal.specs.PartTexts.{box_text, extent_text, usage_text};
-ghost use Rattle.crs_normal.specs.SpelledItems.{node_from, number_item, opt, text_node, each, item_unit, norm_length, item_ident, set_idents};
-ghost use Rattle.crs_normal.specs.SpelledUsages.{item_box, item_extent, norm_extent, item_usage, norm_tail};
-ghost use Rattle.crs_normal.specs.SpelledUsages.{set_usages, tail_items};
-ghost use Rattle.crs_writer.specs.Node.{item};
-ghost use Rattle.crs_writer.specs.Found.{SaysIfAny};
-ghost use Rattle.crs_writer.specs.FromItems.{Writes};
-ghost use Rattle.crs_writer.specs.Openings.{enclosed, numbered_node};
+ghost use Rattle.crs_normal.specs.inner.PartTexts.{box_text, extent_text, usage_text};
+ghost use Rattle.crs_normal.specs.inner.SpelledItems.{node_from, number_item, opt, text_node, each, item_unit, norm_length, item_ident, set_idents};
+ghost use Rattle.crs_normal.specs.inner.SpelledUsages.{item_box, item_extent, norm_extent, item_usage, norm_tail};
+ghost use Rattle.crs_normal.specs.inner.SpelledUsages.{set_usages, tail_items};
+ghost use Rattle.crs_writer.specs.inner.Node.{item};
+ghost use Rattle.crs_writer.specs.inner.Found.{SaysIfAny};
+ghost use Rattle.crs_writer.specs.inner.FromItems.{Writes};
+ghost use Rattle.crs_writer.specs.inner.Openings.{enclosed, numbered_node};
 
 use crate::members::ReadAs;
 use crate::parts::{Appended, IdentsPart, NumberPart, Part, Spell, UnitPart, write_optional};

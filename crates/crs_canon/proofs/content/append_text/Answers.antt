@@ -2,7 +2,7 @@ use Rattle.std.proofs.Common.{◌∷◌, [], refl}
 use Rattle.crs_value.specs.declared.values.level.Level.TheVariants as levels
 use Rattle.crs_same.specs.declared.content.Content.TheVariants as content
 use Rattle.crs_canon.specs.ContentText.{IsContentText}
-use Rattle.crs_writer.specs.Openings.{opened}
+use Rattle.crs_writer.specs.inner.Openings.{opened}
 use Rattle.crs_canon.proofs.SpellingLemmas.{extended, whole}
 use Rattle.crs_canon.proofs.content.append_text.Goals as goal
 

@@ -1,6 +1,6 @@
 use Rattle.std.proofs.Common.{◌≡◌, ◌+◌, ◌≤◌, ◌<◌, ℕ, take, get_or, true}
 use Rattle.crs_decimal.specs.Spelling.{is_digit}
-use Rattle.crs_decimal.specs.Mantissa.{with_digits}
+use Rattle.crs_decimal.specs.inner.Mantissa.{with_digits}
 use Rattle.crs_decimal.proofs.cutting.split_digits.Given as goal
 
 abbrev pub invariant-loop-byte : goal.invariant-loop-byte

@@ -1,8 +1,8 @@
 use Rattle.std.proofs.Common.{◌≡◌, ◌∷◌, ◌<◌, length, drop, get_or, true, rules, sym, ap, subst, ◌∙◌}
 use Rattle.std.proofs.lemmas.List.{take_rest}
-use Rattle.crs_decimal.specs.Cut.{IsExponentWhole}
+use Rattle.crs_decimal.specs.inner.Cut.{IsExponentWhole}
 use Rattle.crs_decimal.specs.Spelling.{is_minus, AreDigits}
-use Rattle.crs_decimal.specs.Split.{is_exponent_letter, sign_of, behind_sign}
+use Rattle.crs_decimal.specs.inner.Split.{is_exponent_letter, sign_of, behind_sign}
 use Rattle.crs_decimal.proofs.SplitLemmas.{exponent_whole, whole_exponent}
 use Rattle.crs_decimal.proofs.cutting.split_exponent.Goals as goal
 use Rattle.crs_decimal.proofs.cutting.split_exponent.Goals.{then-is_empty-via-then-is_empty, then-is_empty-via-else-is_empty+then-not-are_digits}

@@ -1,5 +1,5 @@
 use Rattle.std.proofs.Common.{rules, subst}
-use Rattle.crs_decimal.specs.PlainBytes.{IsUnsigned}
+use Rattle.crs_decimal.specs.inner.PlainBytes.{IsUnsigned}
 use Rattle.crs_decimal.proofs.plain.is_unsigned.Goals as goal
 
 pub returns-in-Some : goal.returns-in-Some

@@ -2,7 +2,7 @@ use Rattle.std.proofs.Common.{◌≡◌, ◌^◌, ◌<◌, ◌≤◌, [], ◌∷
 use Rattle.std.proofs.lemmas.List.{nil_from_length}
 use Rattle.std.proofs.lemmas.Option.{IfSome_then}
 use Rattle.crs_decimal.specs.Spelling.{digits_value}
-use Rattle.crs_decimal.specs.Split.{leading_digits, behind_digits, behind_sign}
+use Rattle.crs_decimal.specs.inner.Split.{leading_digits, behind_digits, behind_sign}
 use Rattle.crs_decimal.proofs.ShortLemmas.{short_fraction, value_joined, small_at}
 use Rattle.crs_decimal.proofs.short.read_short.Goals as goal
 

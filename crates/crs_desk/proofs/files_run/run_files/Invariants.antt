@@ -1,7 +1,7 @@
 use Rattle.std.proofs.Common.{◌++◌, ℕ, List, drop, max}
 use Rattle.std.specs.Io.KnownBytes.{Appends}
 use Rattle.crs_desk.specs.FilesRun.{AreFileOutputs, name_prefix}
-use Rattle.crs_desk.specs.LineCutting.{IsHealthy}
+use Rattle.crs_desk.specs.inner.LineCutting.{IsHealthy}
 use Rattle.crs_desk.proofs.files_run.run_files.Given as goal
 
 abbrev pub invariant-loop-name : goal.invariant-loop-name

@@ -1,6 +1,6 @@
 use Rattle.std.proofs.Common.{◌≡◌, [], ℕ, List, length, false}
 use Rattle.crs_streams.specs.Prelude.{HasGiven}
-use Rattle.crs_desk.specs.LineCutting.{IsLinesCut}
+use Rattle.crs_desk.specs.inner.LineCutting.{IsLinesCut}
 use Rattle.crs_desk.proofs.lines_run.read_through.Given as goal
 
 abbrev pub invariant-loop-turn : goal.invariant-loop-turn

@@ -1,6 +1,6 @@
 use Rattle.std.proofs.Common.{◌≡◌, ◌≤◌, ℕ, List, length, false}
 use Rattle.crs_streams.specs.Prelude.{HasGiven}
-use Rattle.crs_desk.specs.Pieces.{IsHeld}
+use Rattle.crs_desk.specs.inner.Pieces.{IsHeld}
 use Rattle.crs_desk.proofs.text.read_pieces.Given as goal
 
 abbrev pub invariant-loop-turn : goal.invariant-loop-turn

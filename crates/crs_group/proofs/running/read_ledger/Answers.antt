@@ -1,5 +1,5 @@
 use Rattle.std.proofs.Common.{◌≡◌, rules, ℕ, List, IfOk}
-use Rattle.crs_group.specs.GroupReading.{IsCutTo, IsLedgerFor}
+use Rattle.crs_group.specs.inner.GroupReading.{IsCutTo, IsLedgerFor}
 use Rattle.crs_group.proofs.GroupCutLemmas.{cut-fresh}
 use Rattle.crs_group.proofs.GroupRunLemmas.{kept, read-fits, whole-ledger}
 use Rattle.crs_group.proofs.running.read_ledger.Goals as goal

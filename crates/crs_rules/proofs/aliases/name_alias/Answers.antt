@@ -1,5 +1,5 @@
 use Rattle.std.proofs.Common.{ap, ◌∙◌}
-use Rattle.crs_rules.specs.Firsts.{place_of}
+use Rattle.crs_rules.specs.inner.Firsts.{place_of}
 use Rattle.crs_rules.specs.Rules.{is_name_alias}
 use Rattle.crs_rules.proofs.FirstsLemmas.{from-first, none-there}
 use Rattle.crs_rules.proofs.LookUpLemmas.{digest_of_name, names-have}

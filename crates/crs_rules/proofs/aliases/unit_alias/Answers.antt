@@ -1,7 +1,7 @@
 use Rattle.std.proofs.Common.{ap, subst, ◌∙◌}
 use Rattle.crs_decimal.specs.Prelude.{IsNormal}
 use Rattle.crs_value.specs.Prelude.{UnitParts}
-use Rattle.crs_rules.specs.Firsts.{place_of, unit_digest}
+use Rattle.crs_rules.specs.inner.Firsts.{place_of, unit_digest}
 use Rattle.crs_rules.specs.Rules.{is_unit_alias}
 use Rattle.crs_rules.proofs.FirstsLemmas.{from-first, none-there}
 use Rattle.crs_rules.proofs.LookUpLemmas.{digest_of_unit, units-have}

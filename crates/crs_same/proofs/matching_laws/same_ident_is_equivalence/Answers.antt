@@ -1,4 +1,4 @@
-use Rattle.crs_same.specs.SamenessLaws.{equal-by, ◌⊗◌, in-words}
+use Rattle.crs_same.specs.inner.SamenessLaws.{equal-by, ◌⊗◌, in-words}
 use Rattle.crs_same.proofs.matching_laws.same_ident_is_equivalence.Goals as goal
 
 pub returns : goal.returns

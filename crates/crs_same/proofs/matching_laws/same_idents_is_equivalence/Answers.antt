@@ -1,5 +1,5 @@
 use Rattle.crs_value.specs.Prelude.{kept}
-use Rattle.crs_same.specs.SamenessLaws.{by, set}
+use Rattle.crs_same.specs.inner.SamenessLaws.{by, set}
 use Rattle.crs_same.proofs.matching_laws.same_idents_is_equivalence.Goals as goal
 
 pub returns : goal.returns

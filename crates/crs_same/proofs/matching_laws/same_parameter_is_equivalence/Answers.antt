@@ -1,5 +1,5 @@
 use Rattle.crs_shape.specs.declared.unit_kind.UnitKind.TheVariants as kinds
-use Rattle.crs_same.specs.SamenessLaws.{equal-by, by, ◌⊗◌, in-words, optional}
+use Rattle.crs_same.specs.inner.SamenessLaws.{equal-by, by, ◌⊗◌, in-words, optional}
 use Rattle.crs_same.proofs.matching_laws.same_parameter_is_equivalence.Goals as goal
 
 pub returns : goal.returns

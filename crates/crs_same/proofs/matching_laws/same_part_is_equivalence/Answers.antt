@@ -1,6 +1,6 @@
 use Rattle.crs_shape.specs.declared.unit_kind.UnitKind.TheVariants as kinds
 use Rattle.crs_value.specs.declared.values.level.Level.TheVariants as levels
-use Rattle.crs_same.specs.SamenessLaws.{equal-by, by, ◌⊗◌, in-words, optional}
+use Rattle.crs_same.specs.inner.SamenessLaws.{equal-by, by, ◌⊗◌, in-words, optional}
 use Rattle.crs_same.proofs.matching_laws.same_part_is_equivalence.Goals as goal
 
 pub returns-clause-geoid_model : goal.returns-clause-geoid_model

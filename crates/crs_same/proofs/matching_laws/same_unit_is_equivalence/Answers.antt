@@ -1,5 +1,5 @@
 use Rattle.crs_same.specs.SameParts.{kind_as}
-use Rattle.crs_same.specs.SamenessLaws.{equal-by, by, ◌⊗◌, in-words}
+use Rattle.crs_same.specs.inner.SamenessLaws.{equal-by, by, ◌⊗◌, in-words}
 use Rattle.crs_same.proofs.matching_laws.same_unit_is_equivalence.Goals as goal
 
 pub returns : goal.returns

@@ -1,6 +1,6 @@
 use Rattle.crs_decimal.specs.Prelude.{SameNumber, exact}
 use Rattle.crs_same.specs.SameParts.{SameValue}
-use Rattle.crs_same.specs.SamenessLaws.{by}
+use Rattle.crs_same.specs.inner.SamenessLaws.{by}
 use Rattle.crs_same.proofs.matching_laws.same_value_is_equivalence.Goals as goal
 
 pub returns : goal.returns

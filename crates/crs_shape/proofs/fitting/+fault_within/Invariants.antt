@@ -1,5 +1,5 @@
 use Rattle.crs_text.specs.Prelude.{first_of, here, size_of, sizes}
-use Rattle.crs_shape.specs.Walk.{left_of}
+use Rattle.crs_shape.specs.inner.Walk.{left_of}
 use Rattle.crs_shape.proofs.faults.FitLemmas as fit
 use Rattle.crs_shape.proofs.faults.FitLemmas.{from}
 use Rattle.crs_shape.proofs.faults.ExpectedLemmas as expected

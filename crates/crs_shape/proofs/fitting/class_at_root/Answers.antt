@@ -1,6 +1,6 @@
 use Rattle.std.proofs.Common.{◌∙◌, ap}
 use Rattle.std.specs.List.{find}
-use Rattle.crs_shape.specs.KeywordTable.{classes_by, is_root}
+use Rattle.crs_shape.specs.inner.KeywordTable.{classes_by, is_root}
 use Rattle.crs_shape.proofs.naming.ItemLemmas.{class_of_root-node}
 use Rattle.crs_shape.proofs.fitting.class_at_root.Goals as goal
 

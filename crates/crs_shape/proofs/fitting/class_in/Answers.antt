@@ -1,6 +1,6 @@
 use Rattle.std.proofs.Common.{◌∙◌, ap}
 use Rattle.std.specs.List.{find}
-use Rattle.crs_shape.specs.KeywordTable.{classes_by, is_part}
+use Rattle.crs_shape.specs.inner.KeywordTable.{classes_by, is_part}
 use Rattle.crs_shape.proofs.naming.ItemLemmas.{class_in-node}
 use Rattle.crs_shape.proofs.fitting.class_in.Goals as goal
 

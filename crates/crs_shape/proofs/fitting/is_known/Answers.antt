@@ -1,5 +1,5 @@
 use Rattle.std.proofs.Common.{◌∙◌, ap, sym}
-use Rattle.crs_shape.specs.KeywordTable.{classes_by}
+use Rattle.crs_shape.specs.inner.KeywordTable.{classes_by}
 use Rattle.crs_shape.specs.Shape.{has_class}
 use Rattle.crs_shape.proofs.naming.ItemLemmas.{is_known-node}
 use Rattle.crs_shape.proofs.fitting.is_known.Goals as goal

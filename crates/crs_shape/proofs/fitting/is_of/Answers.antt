@@ -1,5 +1,5 @@
 use Rattle.std.proofs.Common.{◌∙◌, ap}
-use Rattle.crs_shape.specs.KeywordTable.{classes_by, is_among}
+use Rattle.crs_shape.specs.inner.KeywordTable.{classes_by, is_among}
 use Rattle.crs_shape.proofs.naming.ItemLemmas.{is_of-node}
 use Rattle.crs_shape.proofs.fitting.is_of.Goals as goal
 

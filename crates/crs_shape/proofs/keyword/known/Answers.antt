@@ -1,5 +1,5 @@
 use Rattle.std.proofs.Common.{◌∙◌, ap}
-use Rattle.crs_shape.specs.KeywordTable.{classes_by}
+use Rattle.crs_shape.specs.inner.KeywordTable.{classes_by}
 use Rattle.crs_shape.specs.Shape.{has_class}
 use Rattle.crs_shape.proofs.naming.KeywordLemmas.{is_known-table}
 use Rattle.crs_shape.proofs.keyword.known.Goals as goal

@@ -1,6 +1,6 @@
 use Rattle.std.proofs.Common.{◌∙◌, ap}
 use Rattle.std.specs.List.{find}
-use Rattle.crs_shape.specs.KeywordTable.{classes_by, is_root}
+use Rattle.crs_shape.specs.inner.KeywordTable.{classes_by, is_root}
 use Rattle.crs_shape.proofs.naming.KeywordLemmas.{root_named-table}
 use Rattle.crs_shape.proofs.keyword.root_class.Goals as goal
 

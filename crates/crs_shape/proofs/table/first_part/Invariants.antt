@@ -1,6 +1,6 @@
 use Rattle.std.proofs.Common.{◌≡◌, drop}
 use Rattle.std.specs.List.{find}
-use Rattle.crs_shape.specs.KeywordTable.{is_part}
+use Rattle.crs_shape.specs.inner.KeywordTable.{is_part}
 use Rattle.crs_shape.proofs.table.first_part.Given as goal
 
 abbrev pub invariant-loop-class : goal.invariant-loop-class

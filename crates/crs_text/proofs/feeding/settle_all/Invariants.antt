@@ -1,5 +1,5 @@
 use Rattle.std.proofs.Common.{◌-◌, length}
-use Rattle.crs_text.specs.Feeding.{IsSettledTo}
+use Rattle.crs_text.specs.inner.Feeding.{IsSettledTo}
 use Rattle.crs_text.proofs.feeding.settle_all.Given as goal
 
 abbrev pub invariant-loop-at : goal.invariant-loop-at

@@ -1,5 +1,5 @@
 use Rattle.std.proofs.Common.{◌≡◌, map, drop}
-use Rattle.crs_text.specs.KeywordTable.{as_spelled, first_among}
+use Rattle.crs_text.specs.inner.KeywordTable.{as_spelled, first_among}
 use Rattle.crs_text.proofs.keyword.first_among.Given as goal
 
 abbrev pub invariant-loop-spelling : goal.invariant-loop-spelling

@@ -1,5 +1,5 @@
 use Rattle.std.proofs.Common.{◌≡◌, ◌<◌, ℕ, List, [], None, length, get_or, arith, rules}
-use Rattle.crs_text.specs.KeywordTable.{AreSuspects, IsSuspect}
+use Rattle.crs_text.specs.inner.KeywordTable.{AreSuspects, IsSuspect}
 use Rattle.crs_text.specs.declared.keyword.Suspect.{Suspect}
 use Rattle.crs_text.proofs.words.WordLemmas.{suspect_at, suspect_is}
 use Rattle.crs_text.proofs.keyword.suspected.Goals as goal

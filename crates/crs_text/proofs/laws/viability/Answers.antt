@@ -1,5 +1,5 @@
 use Rattle.std.proofs.Common.{[], refl}
-use Rattle.crs_text.specs.State.{start}
+use Rattle.crs_text.specs.inner.State.{start}
 use Rattle.crs_text.proofs.tokens.ViableLemmas.{viable_from_run, viable_front}
 use Rattle.crs_text.proofs.tokens.AllowedLemmas.{allows_from_viable, viable_from_allows, full_from_deep, deep_from_full}
 use Rattle.crs_text.proofs.laws.viability.Goals as goal

@@ -1,5 +1,5 @@
 use Rattle.std.proofs.Common.{◌-◌, length}
-use Rattle.crs_text.specs.Scan.{IsReached}
+use Rattle.crs_text.specs.inner.Scan.{IsReached}
 use Rattle.crs_text.proofs.scanning.scan_from.Given as goal
 
 abbrev pub invariant-loop-at : goal.invariant-loop-at

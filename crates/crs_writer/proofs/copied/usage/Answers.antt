@@ -1,6 +1,6 @@
 use Rattle.std.proofs.Common.{rules}
 use Rattle.crs_writer.proofs.CopiedUsageLemmas.{IsPlainUsage, usage-copied}
-use Rattle.crs_writer.specs.Node.{item}
+use Rattle.crs_writer.specs.inner.Node.{item}
 use Rattle.crs_writer.proofs.copied.usage.Goals as goal
 
 pub returns : goal.returns

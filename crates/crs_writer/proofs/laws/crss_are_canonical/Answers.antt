@@ -4,7 +4,7 @@ use Rattle.crs_value.specs.declared.values.crs.Crs.{Crs}
 use Rattle.crs_same.specs.Prelude.{SameCrs}
 use Rattle.crs_normal.specs.Prelude.{norm_crs}
 use Rattle.crs_writer.specs.Canonical.{IsCanonicalText}
-use Rattle.crs_writer.specs.CrsText.{crs_text}
+use Rattle.crs_writer.specs.inner.CrsText.{crs_text}
 use Rattle.crs_writer.proofs.laws.crss_are_canonical.Goals as goal
 
 pub returns : goal.returns

@@ -1,4 +1,4 @@
-use Rattle.crs_writer.specs.Members.{spellings}
+use Rattle.crs_writer.specs.inner.Members.{spellings}
 use Rattle.crs_writer.proofs.GatherLemmas.{Gathering}
 use Rattle.crs_writer.proofs.set.gather_all.Given as goal
 

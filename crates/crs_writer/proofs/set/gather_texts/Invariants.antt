@@ -1,4 +1,4 @@
-use Rattle.crs_writer.specs.Spans.{AreInOrder, texts_at}
+use Rattle.crs_writer.specs.inner.Spans.{AreInOrder, texts_at}
 use Rattle.crs_writer.proofs.GatherLemmas.{Gathering}
 use Rattle.crs_writer.proofs.set.gather_texts.Given as goal
 

@@ -1,9 +1,9 @@
 use Rattle.std.proofs.Common.{[], ◌∷◌, ◌++◌, ◌∙◌, ℕ, List, ap, sym}
 use Rattle.std.proofs.lemmas.List.{append-nil}
 use Rattle.std.proofs.lemmas.Result.{on_ok_weaker}
-use Rattle.crs_writer.specs.Members.{spellings}
+use Rattle.crs_writer.specs.inner.Members.{spellings}
 use Rattle.crs_writer.specs.SetText.{commas}
-use Rattle.crs_writer.specs.Spans.{texts_at}
+use Rattle.crs_writer.specs.inner.Spans.{texts_at}
 use Rattle.crs_writer.proofs.GatherLemmas.{alone-written, many-written}
 use Rattle.crs_writer.proofs.PieceLemmas.{two}
 use Rattle.crs_writer.proofs.set.write_set_with.Goals as goal

@@ -1,5 +1,5 @@
 use Rattle.std.proofs.Common.{◌≡◌, ◌++◌}
-use Rattle.crs_writer.specs.Members.{spellings}
+use Rattle.crs_writer.specs.inner.Members.{spellings}
 use Rattle.crs_writer.specs.SetText.{commas}
 use Rattle.crs_writer.proofs.set.write_sorted.Given as goal
 

@@ -1,5 +1,5 @@
 use Rattle.std.proofs.Common.{◌≡◌, ◌++◌, ◌∷◌, ◌∙◌, drop, length, rules, take, vec_len, refl, subst, sym}
-use Rattle.crs_writer.specs.Spans.{AreInOrder, IsPutAmong}
+use Rattle.crs_writer.specs.inner.Spans.{AreInOrder, IsPutAmong}
 use Rattle.crs_writer.proofs.SpanLemmas.{OrderLaws, front-order, last-known, last-put, of-seen, puts}
 use Rattle.crs_writer.proofs.spans.put_last.Goals as goal
 

@@ -1,6 +1,6 @@
 use Rattle.std.proofs.Common.{◌≡◌, ◌++◌, drop}
 use Rattle.crs_writer.specs.SetText.{commas}
-use Rattle.crs_writer.specs.Spans.{AreWithin, texts_at}
+use Rattle.crs_writer.specs.inner.Spans.{AreWithin, texts_at}
 use Rattle.crs_writer.proofs.spans.write_spans.Given as goal
 
 abbrev pub invariant-loop-span : goal.invariant-loop-span

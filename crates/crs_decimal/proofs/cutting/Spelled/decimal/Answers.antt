@@ -1,6 +1,6 @@
 use Rattle.std.proofs.Common.{◌≡◌, length, ap, ◌∙◌, arith, rules, w32, SFits}
 use Rattle.std.proofs.lemmas.Int.{to_z-of_z}
-use Rattle.crs_decimal.specs.Cut.{IsFar, IsPowerBetween}
+use Rattle.crs_decimal.specs.inner.Cut.{IsFar, IsPowerBetween}
 use Rattle.crs_decimal.proofs.BoundLemmas.{long_unbounded, short_strips, short_zero, at_powers, far_unbounded, near_bounded, near_same, zero_same, zero_bounded}
 use Rattle.crs_decimal.proofs.cutting.Spelled.decimal.Goals as goal
 use Rattle.crs_decimal.proofs.cutting.Spelled.decimal.Goals.{then-self-gt100-via-then-self-gt100, then-self-gt100-via-else-self-gt100+then-self-gt3, then-self-gt100-via-else-self-gt100+else-self-gt3+then-self}

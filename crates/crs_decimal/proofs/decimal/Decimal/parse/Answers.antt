@@ -1,4 +1,4 @@
-use Rattle.crs_decimal.specs.Split.{parts_of}
+use Rattle.crs_decimal.specs.inner.Split.{parts_of}
 use Rattle.crs_decimal.proofs.SplitLemmas.{spells_parts}
 use Rattle.crs_decimal.proofs.decimal.Decimal.parse.Goals as goal
 

@@ -1,6 +1,6 @@
 use Rattle.std.proofs.Common.{◌≡◌, ◌++◌, ◌∷◌, ap, arith, length, rules, subst, sym}
 use Rattle.std.proofs.lemmas.Result.{IfErr-weaker, IfOk-weaker}
-use Rattle.crs_desk.specs.LineCutting.{CutterParts, IsLinesCut}
+use Rattle.crs_desk.specs.inner.LineCutting.{CutterParts, IsLinesCut}
 use Rattle.crs_desk.proofs.LineCutLemmas.{cut-unsendable, line-ended, line-starved, line-unsent, over-end}
 use Rattle.crs_desk.proofs.lines_run.LineCutter.end_line.Goals as goal
 

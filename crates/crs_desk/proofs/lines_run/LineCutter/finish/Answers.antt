@@ -1,7 +1,7 @@
 use Rattle.std.proofs.Common.{◌≡◌, ap, rules, subst, sym, true}
 use Rattle.std.proofs.lemmas.Result.{IfErr-weaker}
 use Rattle.crs_desk.specs.declared.lines_run.LineCutter.TheInside.{Inside}
-use Rattle.crs_desk.specs.LineCutting.{CutterParts, IsPutOut, IsWrittenOut, WriterParts}
+use Rattle.crs_desk.specs.inner.LineCutting.{CutterParts, IsPutOut, IsWrittenOut, WriterParts}
 use Rattle.crs_desk.proofs.LineCutLemmas.{end-sent, end-starved, put-cut}
 use Rattle.crs_desk.proofs.lines_run.LineCutter.finish.Goals as goal
 

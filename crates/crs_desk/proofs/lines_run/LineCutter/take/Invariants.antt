@@ -1,6 +1,6 @@
 use Rattle.std.proofs.Common.{◌≡◌, ◌+◌, ◌≤◌, ◌++◌, ℕ, List, length}
 use Rattle.crs_streams.specs.Prelude.{SinkState}
-use Rattle.crs_desk.specs.LineCutting.{IsLinesCut}
+use Rattle.crs_desk.specs.inner.LineCutting.{IsLinesCut}
 use Rattle.crs_desk.proofs.lines_run.LineCutter.take.Given as goal
 
 abbrev pub invariant-loop-line : goal.invariant-loop-line

@@ -5,7 +5,7 @@ use Rattle.crs_shape.specs.declared.unit_kind.UnitKind.TheVariants as kinds
 use Rattle.crs_value.specs.Prelude.{ParameterParts}
 use Rattle.crs_same.specs.Prelude.{◌⨾◌, identifiers, numbers, units}
 use Rattle.crs_same.specs.declared.step.Step.TheVariants as step
-use Rattle.crs_explain.specs.Appended.{AppendsTexts}
+use Rattle.crs_explain.specs.inner.Appended.{AppendsTexts}
 use Rattle.crs_explain.specs.Differing.{AreTextsOfParts, parts_of_parameter}
 use Rattle.crs_explain.proofs.DifferingLemmas.{both}
 use Rattle.crs_explain.proofs.difference_texts.At.append_parameter.Goals as goal

@@ -1,7 +1,7 @@
 use Rattle.std.proofs.Common.{◌∙◌, subst}
 use Rattle.indexmap.specs.IndexMap.{set_value_at}
-use Rattle.crs_group.specs.Entries.{groups_of}
-use Rattle.crs_group.specs.Putting.{IsJoined}
+use Rattle.crs_group.specs.inner.Entries.{groups_of}
+use Rattle.crs_group.specs.inner.Putting.{IsJoined}
 use Rattle.crs_group.proofs.EntryLemmas.{joined, left, on-err}
 use Rattle.crs_group.proofs.groups.Groups.join.Goals as goal
 

@@ -1,6 +1,6 @@
 use Rattle.std.proofs.Common.{◌≡◌, MatchOption, Some, slice_get, subst}
 use Rattle.crs_group.specs.Catalogue.{canons}
-use Rattle.crs_group.specs.Putting.{IsNew}
+use Rattle.crs_group.specs.inner.Putting.{IsNew}
 use Rattle.crs_group.proofs.EntryLemmas.{place-of}
 use Rattle.crs_group.proofs.groups.Groups.position.Goals as goal
 

@@ -1,5 +1,5 @@
 use Rattle.std.proofs.Common.{◌≡◌, ◌+◌, ◌≤◌, ◌++◌, ℕ, List, length}
-use Rattle.crs_group.specs.GroupReading.{IsCutTo}
+use Rattle.crs_group.specs.inner.GroupReading.{IsCutTo}
 use Rattle.crs_group.proofs.running.Cutter.take.Given as goal
 
 abbrev pub invariant-loop-line : goal.invariant-loop-line

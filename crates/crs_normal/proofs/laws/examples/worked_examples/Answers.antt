@@ -8,7 +8,7 @@ use Rattle.crs_value.specs.declared.values.crs.Crs.{Crs}
 use Rattle.crs_value.specs.declared.values.crs.Crs.TheVariants as crs
 use Rattle.crs_value.specs.declared.values.level.Level.TheVariants as levels
 use Rattle.crs_normal.specs.Examples as example
-use Rattle.crs_normal.specs.LowerLaws.{LowerLaws}
+use Rattle.crs_normal.specs.inner.LowerLaws.{LowerLaws}
 use Rattle.crs_normal.proofs.verdicts.ExampleLemmas.{IsRead, is-normal, is-otherwise, placed, read-here}
 use Rattle.crs_normal.proofs.verdicts.NormalVerdict.{normal_in}
 use Rattle.crs_normal.proofs.verdicts.Verdicts.{Fails, Holds}

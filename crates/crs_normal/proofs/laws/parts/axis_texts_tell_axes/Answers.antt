@@ -1,5 +1,5 @@
 use Rattle.std.proofs.Common.{refl}
-use Rattle.crs_normal.specs.PartTexts.{axis_text}
+use Rattle.crs_normal.specs.inner.PartTexts.{axis_text}
 use Rattle.crs_normal.proofs.same.AxisLemmas.{axis-alone-agrees}
 use Rattle.crs_normal.proofs.laws.parts.axis_texts_tell_axes.Goals as goal
 

@@ -1,7 +1,7 @@
 use Rattle.std.proofs.Common.{arith}
 use Rattle.crs_shape.specs.declared.class.Class.TheVariants as class
 use Rattle.crs_value.specs.declared.values.level.Level.TheVariants as levels
-use Rattle.crs_normal.specs.SpelledItems.{item_ident}
+use Rattle.crs_normal.specs.inner.SpelledItems.{item_ident}
 use Rattle.crs_normal.proofs.made.IdentLemmas.{ident-made}
 use Rattle.crs_normal.proofs.members.IdentLemmas.{ident-agrees, ident-read}
 use Rattle.crs_normal.proofs.normal.IdentLemmas.{ident-form}

@@ -1,7 +1,7 @@
 use Rattle.std.proofs.Common.{arith}
 use Rattle.crs_shape.specs.declared.class.Class.TheVariants as class
 use Rattle.crs_normal.specs.PartSpellings.{geodetic_class}
-use Rattle.crs_normal.specs.SpelledCrs.{item_base, item_compound, item_geodetic, item_projected, item_vertical}
+use Rattle.crs_normal.specs.inner.SpelledCrs.{item_base, item_compound, item_geodetic, item_projected, item_vertical}
 use Rattle.crs_normal.proofs.made.CompoundLemmas.{compound-made}
 use Rattle.crs_normal.proofs.made.GeodeticLemmas.{geodetic-made, names-of}
 use Rattle.crs_normal.proofs.made.ProjectedLemmas.{base-made, projected-made}

@@ -4,7 +4,7 @@ use Rattle.crs_shape.specs.declared.unit_kind.UnitKind.TheVariants as kinds
 use Rattle.crs_value.specs.Prelude.{ReadsUnit}
 use Rattle.crs_same.specs.MatchingPrelude.{kind_as}
 use Rattle.crs_normal.specs.PartSpellings.{unit_class}
-use Rattle.crs_normal.specs.SpelledItems.{item_unit, norm_unit}
+use Rattle.crs_normal.specs.inner.SpelledItems.{item_unit, norm_unit}
 use Rattle.crs_normal.proofs.made.UnitLemmas.{unit-made}
 use Rattle.crs_normal.proofs.members.MemberUnitLemmas.{unit-kept, unit-read}
 use Rattle.crs_normal.proofs.parts.PartLemmas.{canonical-by, good-of, made-stands, told-by}

@@ -1,5 +1,5 @@
 use Rattle.std.proofs.Common.{◌+◌, ◌≤◌, length}
-use Rattle.crs_rules.specs.Grown.{HasGrown}
+use Rattle.crs_rules.specs.inner.Grown.{HasGrown}
 use Rattle.crs_rules.proofs.FileLemmas.{LeadsFile}
 use Rattle.crs_rules.proofs.reader.RulesReader.read_lines.Given as goal
 

@@ -1,5 +1,5 @@
 use Rattle.crs_same.specs.PartsOfSystems.{parts_of_axes}
-use Rattle.crs_same.specs.Walked.{Walked}
+use Rattle.crs_same.specs.inner.Walked.{Walked}
 use Rattle.crs_same.proofs.found.Found.axes.Given as goal
 
 abbrev pub invariant-loop-index : goal.invariant-loop-index

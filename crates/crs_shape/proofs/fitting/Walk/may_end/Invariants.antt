@@ -1,6 +1,6 @@
 use Rattle.std.proofs.Common.{◌≡◌, map, drop}
 use Rattle.crs_shape.specs.Slots.{shown}
-use Rattle.crs_shape.specs.Walk.{may_end, left, left_of}
+use Rattle.crs_shape.specs.inner.Walk.{may_end, left, left_of}
 use Rattle.crs_shape.proofs.fitting.Walk.may_end.Given as goal
 
 abbrev pub invariant-loop-at : goal.invariant-loop-at

@@ -1,5 +1,5 @@
 use Rattle.std.proofs.Common.{arith}
-use Rattle.crs_text.specs.Table.{no_row}
+use Rattle.crs_text.specs.inner.Table.{no_row}
 use Rattle.crs_text.proofs.rows.IdLemmas.{row-end, row-beside}
 use Rattle.crs_text.proofs.items.Items.next.Goals as goal
 

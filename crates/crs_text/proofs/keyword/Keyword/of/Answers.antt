@@ -1,5 +1,5 @@
 use Rattle.std.proofs.Common.{◌∙◌, ap}
-use Rattle.crs_text.specs.KeywordTable.{first_among}
+use Rattle.crs_text.specs.inner.KeywordTable.{first_among}
 use Rattle.crs_text.proofs.words.KeywordLemmas.{keyword_of-table}
 use Rattle.crs_text.proofs.keyword.Keyword.of.Goals as goal
 

@@ -1,7 +1,7 @@
 use Rattle.std.proofs.Common.{ℕ, leb, cond, bit_or, refl, sym}
 use Rattle.std.proofs.lemmas.List.{map-id}
 use Rattle.std.proofs.lemmas.Simd.{zip2_splat, zip2_of_maps, splat_is_map}
-use Rattle.crs_text.specs.Runs.{is_plain_ascii}
+use Rattle.crs_text.specs.inner.Runs.{is_plain_ascii}
 use Rattle.crs_text.proofs.tokens.RunLemmas.{counted}
 use Rattle.crs_text.proofs.runs.PlainAsciiByteKind.lanes.Goals as goal
 

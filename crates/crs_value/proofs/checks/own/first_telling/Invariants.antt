@@ -1,6 +1,6 @@
 use Rattle.std.proofs.Common.{◌≡◌, drop}
 use Rattle.std.specs.List.{find}
-use Rattle.crs_value.specs.FirstByte.{is_telling}
+use Rattle.crs_value.specs.inner.FirstByte.{is_telling}
 use Rattle.crs_value.proofs.checks.own.first_telling.Given as goal
 
 abbrev pub invariant-loop-byte : goal.invariant-loop-byte

@@ -4,7 +4,7 @@ use Rattle.std.specs.Option.{option_map}
 use Rattle.crs_text.specs.Prelude.{End, Siblings}
 use Rattle.crs_value.specs.declared.values.level.Level.TheVariants as levels
 use Rattle.crs_normal.specs.Prelude.{opt, text_node, item_box, item_extent, norm_extent}
-use Rattle.crs_writer.specs.Openings.{enclosed, text_behind}
+use Rattle.crs_writer.specs.inner.Openings.{enclosed, text_behind}
 use Rattle.crs_writer.proofs.NodeTextLemmas.{then-text}
 use Rattle.crs_writer.proofs.EncloseLemmas.{from-enclosed}
 use Rattle.crs_writer.proofs.FlatLemmas.{last-part, then-plain, told}

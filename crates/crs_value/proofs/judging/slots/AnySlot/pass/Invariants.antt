@@ -1,6 +1,6 @@
 use Rattle.crs_text.specs.Prelude.{count}
 use Rattle.crs_shape.specs.Prelude.{any_of}
-use Rattle.crs_value.specs.Judged.{Leaves}
+use Rattle.crs_value.specs.inner.Judged.{Leaves}
 use Rattle.crs_value.specs.Reading.{ahead, Holds}
 use Rattle.crs_value.proofs.walk.JudgedLemmas.{Reaches}
 use Rattle.crs_value.proofs.judging.slots.AnySlot.pass.Given as goal

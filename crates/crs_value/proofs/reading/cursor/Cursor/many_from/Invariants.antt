@@ -2,7 +2,7 @@ use Rattle.std.proofs.Common.{length}
 use Rattle.crs_text.specs.Prelude.{arguments}
 use Rattle.crs_value.specs.Cursor.{item}
 use Rattle.crs_value.specs.Reading.{those}
-use Rattle.crs_value.specs.FoundArguments.{from_found}
+use Rattle.crs_value.specs.inner.FoundArguments.{from_found}
 use Rattle.crs_value.proofs.found.NodeLemmas.{Going}
 use Rattle.crs_value.proofs.reading.cursor.Cursor.many_from.Given as goal
 

@@ -1,5 +1,5 @@
 use Rattle.crs_value.specs.Prelude.{ReadsUnit}
-use Rattle.crs_writer.specs.Node.{item}
+use Rattle.crs_writer.specs.inner.Node.{item}
 use Rattle.crs_writer.specs.declared.node.Node.{Node}
 use Rattle.crs_writer.proofs.CopyLemmas.{copy-writes}
 use Rattle.crs_writer.proofs.FlatLemmas.{through, written}

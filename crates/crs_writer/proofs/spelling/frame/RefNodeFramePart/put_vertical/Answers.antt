@@ -1,7 +1,7 @@
 use Rattle.std.proofs.Common.{codes}
 use Rattle.std.proofs.lemmas.Result.{on_ok_weaker}
 use Rattle.crs_shape.specs.declared.class.Class.TheVariants as class
-use Rattle.crs_writer.specs.Node.{item}
+use Rattle.crs_writer.specs.inner.Node.{item}
 use Rattle.crs_writer.proofs.NothingWrittenLemmas.{ensemble-written}
 use Rattle.crs_writer.proofs.spelling.frame.RefNodeFramePart.put_vertical.Goals as goal
 

@@ -1,5 +1,5 @@
 use Rattle.std.proofs.Common.{codes, refl}
-use Rattle.crs_normal.specs.PartTexts.{meridian_text}
+use Rattle.crs_normal.specs.inner.PartTexts.{meridian_text}
 use Rattle.crs_writer.proofs.FlatLemmas.{copied, spelled, unless-zero}
 use Rattle.crs_writer.proofs.spelling.frame_parts.MeridianSpell.spell.Goals as goal
 

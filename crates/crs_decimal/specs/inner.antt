@@ -1,0 +1,6 @@
+pub mod Cut
+pub mod Mantissa
+pub mod PlainBytes
+pub mod Short
+pub mod Sign
+pub mod Split

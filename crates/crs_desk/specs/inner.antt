@@ -1,0 +1,2 @@
+pub mod LineCutting
+pub mod Pieces

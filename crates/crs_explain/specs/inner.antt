@@ -1,0 +1,4 @@
+pub mod Appended
+pub mod Cut
+pub mod Lines
+pub mod Meant

@@ -1,0 +1,4 @@
+pub mod Entries
+pub mod GroupReading
+pub mod Known
+pub mod Putting

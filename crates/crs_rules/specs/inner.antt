@@ -1,0 +1,10 @@
+pub mod AddedNodes
+pub mod Equality
+pub mod EqualityLaws
+pub mod Faults
+pub mod Firsts
+pub mod Grown
+pub mod LowerLaws
+pub mod Marks
+pub mod Named
+pub mod Sinking

@@ -1,0 +1,6 @@
+pub mod ClassSet
+pub mod Counts
+pub mod FirstFault
+pub mod KeywordTable
+pub mod Left
+pub mod Walk

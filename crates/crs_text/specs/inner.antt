@@ -1,0 +1,11 @@
+pub mod Feeding
+pub mod KeywordTable
+pub mod Laid
+pub mod Lexing
+pub mod Nesting
+pub mod Rows
+pub mod Runs
+pub mod Scan
+pub mod State
+pub mod Table
+pub mod Tree

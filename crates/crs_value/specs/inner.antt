@@ -1,0 +1,10 @@
+pub mod FirstArguments
+pub mod FirstByte
+pub mod FoundArguments
+pub mod Fronts
+pub mod Judged
+pub mod KeptLaws
+pub mod Least
+pub mod QuickChecks
+pub mod ReadOnce
+pub mod WholeNumbers

@@ -1,0 +1,10 @@
+pub mod Copied
+pub mod CrsText
+pub mod EqualityLaws
+pub mod Found
+pub mod FromItems
+pub mod Members
+pub mod Node
+pub mod Openings
+pub mod Parts
+pub mod Spans
