@@ -2,7 +2,7 @@
 use Rattle.std.proofs.Common.{◌≡◌, List, Result, Ok, Err, MatchResult, ℕ, inl, inr}
 use Rattle.crs_value.specs.declared.values.crs.Crs.{Crs}
 use Rattle.crs_value.specs.Prelude.{Spells}
-use Rattle.crs_c.specs.declared.refused.Refused.{Refused}
+use Rattle.crs_c.specs.declared.calls.refused.Refused.{Refused}
 use Rattle.crs_c.specs.inner.Comparison.{IsMadeBehind, IsMadeOfBoth, IsPairFault, IsSecondFault}
 
 -- the first text spells a CRS: what was made with the second text, or why nothing was

@@ -6,7 +6,7 @@ use Rattle.crs_text.specs.Prelude.{refusal_of}
 use Rattle.crs_text.specs.declared.fault.Fault.{Fault}
 use Rattle.crs_text.specs.declared.fault.Fault.TheVariants as faults
 use Rattle.crs_value.specs.declared.values.level.Level.{Level}
-use Rattle.crs_c.specs.declared.canon.Entry.{Entry}
+use Rattle.crs_c.specs.declared.calls.canon.Entry.{Entry}
 use Rattle.crs_value.specs.Prelude.{IsFaultOfText}
 use Rattle.crs_writer.specs.Prelude.{IsCanonicalOf}
 use Rattle.crs_c.specs.Each.{AreAnsweredBy, EndsAt, IsAnsweredBy, IsEachAt, NeedsMore, text_of}

@@ -2,7 +2,7 @@
 use Rattle.std.proofs.Common.{◌≡◌, List, Option, Some, MatchOption, ℕ, inl, inr, ap, subst}
 use Rattle.crs_value.specs.declared.values.crs.Crs.{Crs}
 use Rattle.crs_value.specs.declared.values.level.Level.{Level}
-use Rattle.crs_c.specs.declared.refused.Refused.{Refused}
+use Rattle.crs_c.specs.declared.calls.refused.Refused.{Refused}
 use Rattle.crs_c.specs.Answers.{Answer, AnswerPlaces, IsAtLevel}
 use Rattle.crs_c.specs.Codes.{level_numbered}
 use Rattle.crs_c.specs.inner.Comparison.{IsMadeOfBoth, IsPairFault}

@@ -38,12 +38,12 @@ pub use Rattle.crs_group.specs.Catalogue.{CatalogueParts}
 pub use Rattle.crs_group.specs.contracts.catalogue.Catalogue.{the_row as catalogue_row}
 pub use Rattle.crs_group.proofs.catalogue.Catalogue.TheLaws.{the_row_laws as catalogue_laws}
 pub use Rattle.crs_c.specs.Held.{HeldParts}
-pub use Rattle.crs_c.specs.contracts.calls_rules.HeldRules.{the_row as rules_row}
-pub use Rattle.crs_c.proofs.calls_rules.HeldRules.TheLaws.{the_row_laws as rules_laws}
-pub use Rattle.crs_c.specs.contracts.piece.Piece.{the_row as piece_row}
-pub use Rattle.crs_c.proofs.piece.Piece.TheLaws.{the_row_laws as piece_laws}
-pub use Rattle.crs_c.specs.contracts.calls_catalogue.Standing.{the_row as standing_row}
-pub use Rattle.crs_c.proofs.calls_catalogue.Standing.TheLaws.{the_row_laws as standing_laws}
+pub use Rattle.crs_c.specs.contracts.calls.rules.HeldRules.{the_row as rules_row}
+pub use Rattle.crs_c.proofs.calls.rules.HeldRules.TheLaws.{the_row_laws as rules_laws}
+pub use Rattle.crs_c.specs.contracts.calls.piece.Piece.{the_row as piece_row}
+pub use Rattle.crs_c.proofs.calls.piece.Piece.TheLaws.{the_row_laws as piece_laws}
+pub use Rattle.crs_c.specs.contracts.calls.catalogue.Standing.{the_row as standing_row}
+pub use Rattle.crs_c.proofs.calls.catalogue.Standing.TheLaws.{the_row_laws as standing_laws}
 unfoldable pub use Rattle.crs_c.specs.Places.{catalogue_at, has_room, rules_at, has_room_for_rules}
 pub use lib.Dec.{T}
 pub use mathlib.Core.Bool.{true, ◌&&◌}

@@ -10,9 +10,9 @@ use Rattle.crs_group.specs.UnderRules.{IsCatalogueUnder}
 use Rattle.crs_rules.specs.Rules.{RulesParts}
 use Rattle.crs_group.specs.declared.placed.Placed.{Placed}
 use Rattle.crs_group.specs.declared.placed.Placed.TheVariants as placed
-use Rattle.crs_c.specs.declared.calls_catalogue.Numbered.{Numbered}
-use Rattle.crs_c.specs.declared.piece.Piece.{Piece}
-use Rattle.crs_c.specs.declared.calls_catalogue.Standing.{Standing}
+use Rattle.crs_c.specs.declared.calls.catalogue.Numbered.{Numbered}
+use Rattle.crs_c.specs.declared.calls.piece.Piece.{Piece}
+use Rattle.crs_c.specs.declared.calls.catalogue.Standing.{Standing}
 use Rattle.crs_c.specs.Codes.{level_numbered}
 use Rattle.crs_c.specs.Pieces.{IsPiece}
 use Rattle.crs_c.specs.Refusals.{no_refusal, place_and_number}

@@ -5,7 +5,7 @@ use Rattle.crs_text.specs.Refusal.{RefusedAt}
 use Rattle.crs_value.specs.declared.values.level.Level.{Level}
 use Rattle.crs_value.specs.SpellsText.{Refuses}
 use Rattle.crs_writer.specs.Canonical.{IsCanonicalOf}
-use Rattle.crs_c.specs.declared.canon.Entry.{Entry}
+use Rattle.crs_c.specs.declared.calls.canon.Entry.{Entry}
 use Rattle.crs_c.specs.Codes.{level_numbered}
 
 -- what the caller has for many texts: an entry for each, the buffer for their canonical texts, and how

@@ -5,7 +5,7 @@ use Rattle.crs_value.specs.declared.values.crs.Crs.{Crs}
 use Rattle.crs_value.specs.SpellsText.{Spells, Refuses}
 use Rattle.crs_explain.specs.Differing.{AreDifferencePieces}
 use Rattle.crs_explain.specs.Explained.{AreExplainedPieces, ExplainedPieces}
-use Rattle.crs_c.specs.declared.explain.Explained.{Explained}
+use Rattle.crs_c.specs.declared.calls.explain.Explained.{Explained}
 use Rattle.crs_c.specs.Answers.{Answer, IsAtLevel}
 use Rattle.crs_c.specs.Pairs.{IsPairAnswer}
 use Rattle.crs_c.specs.PieceBuffers.{AreGiven, GivesPieces, PieceBuffers}

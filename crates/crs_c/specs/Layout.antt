@@ -4,16 +4,16 @@ use denote.Param.{layout}
 use Rattle.std.specs.Prelude.{replicate}
 use Rattle.crs_c.specs.declared.layout.Marks.{Marks}
 use Rattle.crs_c.specs.declared.layout.Sizes.{Sizes}
-use Rattle.crs_c.specs.declared.refused.Refused.{Refused}
-use Rattle.crs_c.specs.contracts.canon.Entry as entry
-use Rattle.crs_c.specs.contracts.explain.Explained as explained
-use Rattle.crs_c.specs.contracts.refused.Refused as refused
-use Rattle.crs_c.specs.contracts.calls_catalogue.Standing as standing
-use Rattle.crs_c.specs.contracts.calls_catalogue.Numbered as numbered
-use Rattle.crs_c.specs.contracts.piece.Piece as piece
-use Rattle.crs_c.specs.contracts.calls_rules.HeldRules as held_rules
-use Rattle.crs_c.specs.contracts.calls_rules.Form as form
-use Rattle.crs_c.specs.contracts.calls_rules.RulesStanding as rules_standing
+use Rattle.crs_c.specs.declared.calls.refused.Refused.{Refused}
+use Rattle.crs_c.specs.contracts.calls.canon.Entry as entry
+use Rattle.crs_c.specs.contracts.calls.explain.Explained as explained
+use Rattle.crs_c.specs.contracts.calls.refused.Refused as refused
+use Rattle.crs_c.specs.contracts.calls.catalogue.Standing as standing
+use Rattle.crs_c.specs.contracts.calls.catalogue.Numbered as numbered
+use Rattle.crs_c.specs.contracts.calls.piece.Piece as piece
+use Rattle.crs_c.specs.contracts.calls.rules.HeldRules as held_rules
+use Rattle.crs_c.specs.contracts.calls.rules.Form as form
+use Rattle.crs_c.specs.contracts.calls.rules.RulesStanding as rules_standing
 use Rattle.crs_group.specs.contracts.catalogue.Catalogue as catalogue
 
 -- the bytes that a catalogue, rules and each struct take, and the alignment of a catalogue and of rules

@@ -1,6 +1,6 @@
 -- A piece of a text as C has it.
 use Rattle.std.specs.Prelude.{◌≡◌, ◌++◌, ℕ, List, length, take, drop}
-use Rattle.crs_c.specs.declared.piece.Piece.{Piece}
+use Rattle.crs_c.specs.declared.calls.piece.Piece.{Piece}
 
 -- the bytes of a text from an index on, 240 at most
 abbrev pub piece_of : List ℕ → ℕ → List ℕ

@@ -5,7 +5,7 @@ use denote.RawPtr.{Ptr, lies_at, room_at}
 use Rattle.crs_group.specs.Catalogue.{CatalogueParts}
 use Rattle.crs_group.specs.contracts.catalogue.Catalogue as catalogue
 use Rattle.crs_c.specs.Held.{HeldParts}
-use Rattle.crs_c.specs.contracts.calls_rules.HeldRules as held_rules
+use Rattle.crs_c.specs.contracts.calls.rules.HeldRules as held_rules
 
 -- this catalogue is there, and belongs to the holder of this
 unfoldable pub catalogue_at : Ptr → CatalogueParts → Fml

@@ -1,7 +1,7 @@
 -- A refusal as C sees it.
 use Rattle.std.specs.Prelude.{◌≡◌, ℕ, Option, Some, None}
 use Rattle.crs_text.specs.Refusal.{RefusedAt}
-use Rattle.crs_c.specs.declared.refused.Refused.{Refused}
+use Rattle.crs_c.specs.declared.calls.refused.Refused.{Refused}
 
 -- no refusal
 abbrev pub no_refusal : Refused

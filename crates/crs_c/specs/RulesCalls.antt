@@ -5,11 +5,11 @@ use Rattle.crs_value.specs.SpellsText.{Refuses}
 use Rattle.crs_value.specs.declared.values.level.Level.{Level}
 use Rattle.crs_rules.specs.Rewritten.{IsForm}
 use Rattle.crs_rules.specs.RulesFile.{ReadsFile, RefusesFile}
-use Rattle.crs_rules.specs.declared.fault.RulesFault.{RulesFault}
-use Rattle.crs_rules.specs.declared.fault.RulesFault.TheVariants as faults
-use Rattle.crs_rules.specs.declared.fault.RulesRefusal.{RulesRefusal}
-use Rattle.crs_c.specs.declared.calls_rules.Form.{Form}
-use Rattle.crs_c.specs.declared.calls_rules.RulesStanding.{RulesStanding}
+use Rattle.crs_rules.specs.declared.file.fault.RulesFault.{RulesFault}
+use Rattle.crs_rules.specs.declared.file.fault.RulesFault.TheVariants as faults
+use Rattle.crs_rules.specs.declared.file.fault.RulesRefusal.{RulesRefusal}
+use Rattle.crs_c.specs.declared.calls.rules.Form.{Form}
+use Rattle.crs_c.specs.declared.calls.rules.RulesStanding.{RulesStanding}
 use Rattle.crs_c.specs.Codes.{level_numbered}
 use Rattle.crs_c.specs.Held.{HeldParts}
 use Rattle.crs_c.specs.Refusals.{no_refusal, place_and_number}

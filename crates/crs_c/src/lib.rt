@@ -12,33 +12,25 @@ macro_rules! at_level {
     };
 }
 
-mod buffer;
-mod calls_catalogue;
-mod calls_rules;
-mod canon;
+mod calls;
 mod catalogue;
-mod codes;
-mod comparison;
-mod explain;
 mod layout;
 mod letting_go;
 mod names;
 mod pairs;
-mod piece;
-mod refused;
 mod rules;
 mod texts;
 
-pub use buffer::{give, give_pieces};
-pub use calls_catalogue::{
+pub use calls::buffer::{give, give_pieces};
+pub use calls::canon::Entry;
+pub use calls::catalogue::{
     Numbered, Standing, add_text, add_text_under, drop_catalogue, group_count, line_number,
     new_catalogue, text_piece,
 };
-pub use calls_rules::{
+pub use calls::codes::{NO_LEVEL, NO_MEMORY, NO_NUMBER, OK, REFUSED, level_numbered};
+pub use calls::explain::Explained;
+pub use calls::piece::Piece;
+pub use calls::refused::Refused;
+pub use calls::rules::{
     Form, HeldRules, RulesStanding, add_file, drop_rules, form_piece, make_form, no_rules,
 };
-pub use canon::Entry;
-pub use codes::{NO_LEVEL, NO_MEMORY, NO_NUMBER, OK, REFUSED, level_numbered};
-pub use explain::Explained;
-pub use piece::Piece;
-pub use refused::Refused;

@@ -5,7 +5,7 @@ ghost use Rattle.crs_c.specs.FirstPart.{IsPartAnswer};
 ghost use Rattle.crs_c.specs.PieceBuffers.{buffers_of};
 ghost use Rattle.crs_c.specs.Same.{IsSameAnswer};
 
-use crate::comparison::{DifferencePieces, FirstPart, Lines, Sameness, made_of_both};
+use crate::calls::comparison::{DifferencePieces, FirstPart, Lines, Sameness, made_of_both};
 use crate::{NO_LEVEL, OK, Refused, give, give_pieces, level_numbered};
 use std::alloc::Global;
 

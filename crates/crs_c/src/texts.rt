@@ -6,10 +6,10 @@ ghost use Rattle.crs_c.specs.Explain.{IsExplainAnswer};
 ghost use Rattle.crs_c.specs.ExplainPieces.{IsRefusalPiecesAnswer};
 ghost use Rattle.crs_c.specs.PieceBuffers.{buffers_of};
 
-use crate::canon::answer_entries;
-use crate::codes::kind_number;
-use crate::explain::{explained_refusal, explanation, give_explanation, kind_of_text};
-use crate::refused::tell;
+use crate::calls::canon::answer_entries;
+use crate::calls::codes::kind_number;
+use crate::calls::explain::{explained_refusal, explanation, give_explanation, kind_of_text};
+use crate::calls::refused::tell;
 use crate::{Entry, Explained, NO_LEVEL, NO_MEMORY, OK, REFUSED, Refused, give, level_numbered};
 use crs_canon::canon;
 use std::alloc::Global;

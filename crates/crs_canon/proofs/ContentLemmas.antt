@@ -5,7 +5,7 @@ use Rattle.crs_shape.specs.declared.unit_kind.UnitKind.TheVariants as kinds
 use Rattle.crs_shape.specs.Prelude.{kind_as}
 use Rattle.crs_value.specs.Prelude.{ReadsUnit, IsUnit, UnitParts}
 use Rattle.crs_value.specs.declared.values.level.Level.{Level}
-use Rattle.crs_same.specs.MatchingPrelude.{SameUnit}
+use Rattle.crs_same.specs.Prelude.{SameUnit}
 use Rattle.crs_normal.specs.Prelude.{IsSpelledUnit, unit_class, IsSpelledAs, norm_unit}
 
 -- a unit where this kind is asked, by itself: `UNIT` is of that kind

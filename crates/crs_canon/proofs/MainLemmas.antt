@@ -5,7 +5,7 @@ use Rattle.crs_value.specs.Prelude.{IsCrs, Spells, Refuses}
 use Rattle.crs_value.specs.declared.values.crs.Crs.{Crs}
 use Rattle.crs_value.specs.declared.values.level.Level.{Level}
 use Rattle.crs_same.specs.Prelude.{SameCrs}
-use Rattle.crs_same.specs.MatchingPrelude.{IsSamenessOf}
+use Rattle.crs_same.specs.Prelude.{IsSamenessOf}
 use Rattle.crs_normal.specs.Prelude.{IsNormalText}
 use Rattle.crs_writer.specs.Prelude.{CanonicalText, IsCanonicalOf, IsCanonicalText}
 use Rattle.crs_canon.specs.MainTheorem.{IsAccepted, IsItsRefusal, MainTheorem, SpellSame}

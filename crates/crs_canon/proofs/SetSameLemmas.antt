@@ -3,7 +3,7 @@
 use Rattle.std.proofs.Common.{◌≡◌, ◌↔◌, ◌⊎◌, ⊎_elim, ℕ, List, [], ◌∷◌, ◌++◌, inl, inr, refl, sym, ◌∙◌, ap, subst}
 use Rattle.std.proofs.lemmas.List.{append-nil}
 use Rattle.crs_value.specs.Sound.{Each}
-use Rattle.crs_same.specs.MatchingPrelude.{AllHaveSame, HasSame}
+use Rattle.crs_same.specs.Prelude.{AllHaveSame, HasSame}
 use Rattle.crs_normal.specs.Prelude.{Ascends, IsIn, IsCanonicalForm, IsClosed}
 use Rattle.crs_writer.specs.Prelude.{HaveOneTextWhereSame, IsSetText, SpellsOneOf, commas, comma_separated}
 

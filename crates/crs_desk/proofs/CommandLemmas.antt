@@ -12,8 +12,8 @@ use Rattle.clap.specs.declared.parser.matches.ArgMatches.{ArgMatches}
 use Rattle.clap.specs.declared.error.Error.{Error}
 use Rattle.clap.specs.declared.error.kind.ErrorKind.TheVariants as kind
 use Rattle.clap.proofs.WalkLemmas.{both}
-use Rattle.crs_desk.specs.declared.requests.RequestFault.{RequestFault}
-use Rattle.crs_desk.specs.declared.requests.RequestFault.TheVariants.{Line, Memory}
+use Rattle.crs_desk.specs.declared.line.requests.RequestFault.{RequestFault}
+use Rattle.crs_desk.specs.declared.line.requests.RequestFault.TheVariants.{Line, Memory}
 use Rattle.crs_desk.proofs.HelpLemmas.{IsFree, answers_help, stops_at_no_help}
 use Rattle.crs_desk.proofs.OperandLemmas.{same_asks}
 use Rattle.crs_desk.specs.Requests.{request_of}

@@ -1,6 +1,6 @@
 mod CheckLemmas
 mod CommandLemmas
-mod CommandLineLineLemmas
+mod AskedLemmas
 mod FaultLemmas
 mod FileLemmas
 mod FormsLemmas
@@ -9,7 +9,7 @@ mod JudgedLemmas
 mod KnownText
 mod LineCutLemmas
 mod LineOutputLemmas
-mod LineRequestLineLemmas
+mod MatchesLemmas
 mod LinesRunLemmas
 mod MarkLemmas
 mod OperandLemmas

@@ -3,7 +3,7 @@ use Rattle.std.proofs.Common.{arith, ◌≡◌, ◌∙◌, ◌++◌, ◌∷◌, 
 use Rattle.std.specs.Str.{bytes_eq}
 use Rattle.crs_streams.specs.Prelude.{HasNoFeed, IsSplit}
 use Rattle.crs_desk.specs.RulesOutput.{has_path, lines_after, lines_in, marked, marked_line, path_in, with_mark}
-use Rattle.crs_desk.specs.declared.manner.Manner.{Manner}
+use Rattle.crs_desk.specs.declared.runs.manner.Manner.{Manner}
 
 -- a byte that is no line feed goes on with the line
 goes-on : (front bytes : List ℕ) (b : ℕ) → not (b == 10) ≡ true

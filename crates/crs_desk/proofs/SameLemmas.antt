@@ -13,7 +13,7 @@ use Rattle.clap.proofs.OnLiterals.{clap_on_literals}
 use Rattle.clap.proofs.WalkLemmas.{both}
 use Rattle.crs_desk.specs.CommandLine.{desk, files_flag, level_option, rules_option}
 use Rattle.crs_desk.proofs.OperandLemmas.{built_same, second_given}
-use Rattle.crs_desk.proofs.CommandLineLineLemmas.{none_met}
+use Rattle.crs_desk.proofs.AskedLemmas.{none_met}
 
 abbrev rules : List Rule
 rules = built_same.rules

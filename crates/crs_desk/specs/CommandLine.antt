@@ -7,9 +7,9 @@ use Rattle.clap.specs.Words.{kind_of}
 use Rattle.clap.specs.Words.{new_app, new_rule}
 use Rattle.clap.specs.Words.{subcommand_of, takes, with_subcommand}
 use Rattle.clap.specs.Simple.{new_shape, on_top}
-use Rattle.crs_desk.specs.declared.requests.Request.{Request}
-use Rattle.crs_desk.specs.declared.requests.RequestFault.{RequestFault}
-use Rattle.crs_desk.specs.declared.requests.RequestFault.TheVariants.{Line, Memory}
+use Rattle.crs_desk.specs.declared.line.requests.Request.{Request}
+use Rattle.crs_desk.specs.declared.line.requests.RequestFault.{RequestFault}
+use Rattle.crs_desk.specs.declared.line.requests.RequestFault.TheVariants.{Line, Memory}
 use Rattle.clap.specs.declared.builder.action.ArgAction.TheVariants.{Append, SetTrue}
 use Rattle.clap.specs.declared.error.Error.{Error}
 use Rattle.clap.specs.declared.error.kind.ErrorKind.TheVariants as kind

@@ -11,8 +11,8 @@ use Rattle.crs_explain.specs.InOrder.{AreOrderedObjects, IsOrderedText}
 use Rattle.crs_explain.specs.Json.{IsRefusalObject}
 use Rattle.crs_desk.specs.Output.{IsLine, kind_word}
 use Rattle.crs_desk.specs.PairOutput.{IsPairOutput}
-use Rattle.crs_desk.specs.declared.manner.Manner.{Manner}
-use Rattle.crs_desk.specs.declared.manner.Manner.TheVariants as manner
+use Rattle.crs_desk.specs.declared.runs.manner.Manner.{Manner}
+use Rattle.crs_desk.specs.declared.runs.manner.Manner.TheVariants as manner
 
 -- a kind of CRS is told as `accepted` and its word, or as `{"accepted":"geographic"}`
 abbrev pub kind_told : Manner → Kind → List ℕ

@@ -10,7 +10,7 @@ use Rattle.crs_desk.specs.FilesRun.{IsFileAnswer, IsFileFront, IsFileOutput}
 use Rattle.crs_desk.specs.inner.LineCutting.{IsHealthy}
 use Rattle.crs_desk.specs.LinesRun.{Outputs}
 use Rattle.crs_desk.specs.Prefixed.{PrefixParts}
-use Rattle.crs_desk.specs.declared.files_run.FileTask.{FileTask}
+use Rattle.crs_desk.specs.declared.runs.files.FileTask.{FileTask}
 
 -- all that is written ends in a line feed
 unfoldable pub Ends : Outputs → Type 0

@@ -10,10 +10,10 @@ use Rattle.crs_streams.specs.Streams.{SinkState}
 use Rattle.crs_streams.specs.declared.fault.RunFault.{RunFault}
 use Rattle.crs_streams.specs.declared.fault.RunFault.TheVariants.{ReadFailed, WriteFailed, TooLong}
 use Rattle.crs_streams.specs.declared.fault.RunFault.TheVariants.{TooManyReads, Memory}
-use Rattle.crs_desk.specs.declared.files_run.FileTask.{FileTask}
-use Rattle.crs_desk.specs.declared.files_run.FileTask.TheVariants as task
-use Rattle.crs_desk.specs.declared.manner.Manner.{Manner}
-use Rattle.crs_desk.specs.declared.manner.Manner.TheVariants as manner
+use Rattle.crs_desk.specs.declared.runs.files.FileTask.{FileTask}
+use Rattle.crs_desk.specs.declared.runs.files.FileTask.TheVariants as task
+use Rattle.crs_desk.specs.declared.runs.manner.Manner.{Manner}
+use Rattle.crs_desk.specs.declared.runs.manner.Manner.TheVariants as manner
 use Rattle.crs_desk.specs.ExplainOutput.{IsExplainOutput}
 use Rattle.crs_desk.specs.LinesRun.{IsFrontOutput, IsLineOutput, IsLinesOutput, Outputs}
 use Rattle.crs_desk.specs.Output.{IsCanonOutput, IsCheckOutput}

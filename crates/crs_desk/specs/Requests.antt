@@ -3,16 +3,16 @@ use Rattle.std.specs.Prelude.{◌||◌, [], ◌∷◌, Bool, false, List, Option
 use Rattle.std.specs.Prelude.{Some, None, codes, unwrap_or, if◌then◌else◌}
 use Rattle.std.specs.Str.{bytes_eq}
 use Rattle.clap.specs.Words.{Row, Text, all_of, first_of}
-use Rattle.crs_desk.specs.declared.requests.Request.{Request}
-use Rattle.crs_desk.specs.declared.requests.Request.TheVariants.{Canon, Check, Same, Group, Texts, Files}
-use Rattle.crs_desk.specs.declared.requests.GroupFlags.{GroupFlags}
-use Rattle.crs_desk.specs.declared.requests.ExplainOptions.{ExplainOptions}
-use Rattle.crs_desk.specs.declared.requests.Task.{Task}
-use Rattle.crs_desk.specs.declared.requests.Task.TheVariants as task
-use Rattle.crs_desk.specs.declared.requests.Layout.{Layout}
-use Rattle.crs_desk.specs.declared.requests.Layout.TheVariants.{Lines, OneText}
-use Rattle.crs_desk.specs.declared.word.WordKind.{WordKind}
-use Rattle.crs_desk.specs.declared.word.WordKind.TheVariants as word
+use Rattle.crs_desk.specs.declared.line.requests.Request.{Request}
+use Rattle.crs_desk.specs.declared.line.requests.Request.TheVariants.{Canon, Check, Same, Group, Texts, Files}
+use Rattle.crs_desk.specs.declared.line.requests.GroupFlags.{GroupFlags}
+use Rattle.crs_desk.specs.declared.line.requests.ExplainOptions.{ExplainOptions}
+use Rattle.crs_desk.specs.declared.line.requests.Task.{Task}
+use Rattle.crs_desk.specs.declared.line.requests.Task.TheVariants as task
+use Rattle.crs_desk.specs.declared.line.requests.Layout.{Layout}
+use Rattle.crs_desk.specs.declared.line.requests.Layout.TheVariants.{Lines, OneText}
+use Rattle.crs_desk.specs.declared.line.word.WordKind.{WordKind}
+use Rattle.crs_desk.specs.declared.line.word.WordKind.TheVariants as word
 
 -- the level among a command's matches: `full` where none is named
 abbrev pub level_of : List Row → Text

@@ -9,8 +9,8 @@ use Rattle.crs_rules.specs.Rewritten.{IsForm}
 use Rattle.crs_desk.specs.ExplainOutput.{IsExplainPairOutput, TellsRefusalOf}
 use Rattle.crs_desk.specs.Output.{IsLine, WritesRefusal}
 use Rattle.crs_desk.specs.SameOutput.{IsSameOutput, WritesRefusalOf}
-use Rattle.crs_desk.specs.declared.manner.Manner.{Manner}
-use Rattle.crs_desk.specs.declared.manner.Manner.TheVariants as manner
+use Rattle.crs_desk.specs.declared.runs.manner.Manner.{Manner}
+use Rattle.crs_desk.specs.declared.runs.manner.Manner.TheVariants as manner
 
 -- the form of a text under rules at a level, with status 0
 abbrev pub WritesForm : RulesParts → Level → List ℕ → List ℕ → ℕ → Type 0

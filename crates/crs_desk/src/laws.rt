@@ -12,6 +12,8 @@ ghost use Rattle.crs_value.specs.SpellsText.{Spells};
 ghost use Rattle.crs_value.specs.declared.values.crs.Crs.{Crs};
 ghost use Rattle.crs_value.specs.declared.values.level.Level.{Level};
 
+pub mod line;
+
 /// Lines may be worked on in parts: what is written for bytes that end in a line feed, and then for others, is what is
 /// written for both together.
 pub fn lines_joined()

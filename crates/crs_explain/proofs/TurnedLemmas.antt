@@ -8,7 +8,7 @@ use Rattle.crs_shape.specs.declared.unit_kind.UnitKind.TheVariants as kinds
 use Rattle.crs_value.specs.Prelude.{ParameterParts, IsIn, UnitParts}
 use Rattle.crs_value.specs.Values.{IdentParts}
 use Rattle.crs_value.specs.declared.values.level.Level.{Level}
-use Rattle.crs_same.specs.MatchingPrelude.{SameIdents, SameUnit, SameValue, BothOrNeither}
+use Rattle.crs_same.specs.Prelude.{SameIdents, SameUnit, SameValue, BothOrNeither}
 use Rattle.crs_same.specs.Prelude.{◌⨾◌, DifferenceParts, Differences, Parts, exchanged, part}
 use Rattle.crs_same.specs.declared.content.Content.{Content}
 use Rattle.crs_same.specs.declared.step.Step.{Step}

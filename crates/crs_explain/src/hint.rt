@@ -1,4 +1,12 @@
 //! Hints, the nodes that they name, and the tables in which they are looked for.
+pub(crate) mod before;
+pub(crate) mod class;
+pub(crate) mod front;
+pub(crate) mod glance;
+pub(crate) mod meanings;
+pub(crate) mod place;
+pub(crate) mod sentence;
+pub(crate) mod writing;
 
 /// What to say of a text.
 #[derive(Clone, Copy)]

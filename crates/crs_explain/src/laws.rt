@@ -11,7 +11,7 @@ ghost use Rattle.crs_explain.specs.InOrder.{AreInOrder};
 
 use crs_canon::laws::names_tell_parameters;
 use crs_normal::laws::parts::conversions_are_canonical;
-use crs_same::matching_laws::{
+use crs_same::laws::parts::{
     same_idents_is_equivalence, same_parameter_is_equivalence, same_unit_is_equivalence,
     same_value_is_equivalence,
 };

@@ -4,35 +4,27 @@
 //! of how they are made.
 #![tactic(auto)]
 
-mod before;
-mod class;
 mod difference_texts;
 mod differences;
 mod excerpt;
 mod expected;
-mod front;
-mod glance;
 mod hint;
-mod hint_place;
 pub mod laws;
-mod meanings;
 mod names;
 mod pieces;
 mod place;
 mod refusal;
-mod sentence;
 mod system;
 mod units;
-mod writing;
 
 pub use difference_texts::{DifferenceTexts, differing_parts};
 pub use differences::{difference_lines, difference_objects, difference_pieces, ordered_parts};
-pub use hint_place::{UNEXPECTED, UNEXPECTED_END, UNKNOWN_KEYWORD};
-pub use meanings::meaning;
+pub use hint::meanings::meaning;
+pub use hint::place::{UNEXPECTED, UNEXPECTED_END, UNKNOWN_KEYWORD};
+pub use hint::writing::{hints, still_open};
 pub use names::Name as StepWord;
 pub use pieces::Pieces;
 pub use refusal::{ExplanationPieces, refusal_object, refusal_pieces, refusal_text};
-pub use writing::{hints, still_open};
 
 /// A value, or `AllocError`.
 pub(crate) type Made<T> = std::result::Result<T, std::alloc::AllocError>;

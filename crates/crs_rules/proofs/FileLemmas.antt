@@ -2,9 +2,9 @@
 use Rattle.std.proofs.Common.{◌≡◌, ◌≢◌, ◌<◌, ◌≤◌, arith, ◌+◌, ◌++◌, ◌∷◌, [], ℕ, List, inl, inr, refl, ap, ◌∙◌}
 use Rattle.crs_text.specs.Prelude.{Siblings, End, More, arguments}
 use Rattle.crs_streams.specs.Prelude.{AreLines, HasNoFeed}
-use Rattle.crs_rules.specs.declared.fault.RulesFault.{RulesFault}
-use Rattle.crs_rules.specs.declared.fault.RulesFault.TheVariants as faults
-use Rattle.crs_rules.specs.declared.fault.RulesRefusal.{RulesRefusal}
+use Rattle.crs_rules.specs.declared.file.fault.RulesFault.{RulesFault}
+use Rattle.crs_rules.specs.declared.file.fault.RulesFault.TheVariants as faults
+use Rattle.crs_rules.specs.declared.file.fault.RulesRefusal.{RulesRefusal}
 use Rattle.crs_rules.specs.RulesFile.{FaultOfLine, Reads, ReadsFile, RefusesFile, next}
 use Rattle.crs_rules.specs.Statements.{AddsSet, Drops, FaultOver, IsRefusedBy, Joins, Over, Reading, listed}
 use Rattle.crs_rules.proofs.WalkLemmas.{over-keeps}

@@ -10,7 +10,7 @@ use Rattle.crs_rules.specs.inner.Marks.{IsMarked, gone_back}
 use Rattle.crs_rules.specs.Members.{MemberParts, kind_of}
 use Rattle.crs_rules.specs.inner.AddedNodes.{IsAdded}
 use Rattle.crs_rules.specs.Statements.{Reading, joined, with_alias}
-use Rattle.crs_rules.specs.declared.reader.Mark.{Mark}
+use Rattle.crs_rules.specs.declared.file.reader.Mark.{Mark}
 
 extends-on : {A : Type 0} (xs ys zs : List A) → Extends xs ys → Extends ys zs → Extends xs zs
 extends-on xs ys zs (more, e) (others, f) =

@@ -17,8 +17,8 @@ pub mod OwnFormLemmas
 pub mod PartLemmas
 pub mod ReaderLemmas
 pub mod ReorderedLemmas
-pub mod RulesFileOrderLemmas
-pub mod RulesFileSteadyLemmas
+pub mod LineOrderLemmas
+pub mod SteadyFileLemmas
 pub mod SortLemmas
 pub mod SteadyLemmas
 pub mod StemLemmas

@@ -7,7 +7,7 @@ use Rattle.crs_text.specs.Prelude.{Item, Siblings, End, More, arguments, raw_of,
 use Rattle.crs_shape.specs.declared.unit_kind.UnitKind.{UnitKind}
 use Rattle.crs_streams.specs.Prelude.{AreLines}
 use Rattle.crs_rules.specs.declared.uncounted.Uncounted.{Uncounted}
-use Rattle.crs_rules.specs.declared.fault.RulesRefusal.{RulesRefusal}
+use Rattle.crs_rules.specs.declared.file.fault.RulesRefusal.{RulesRefusal}
 use Rattle.crs_rules.specs.Members.{MemberParts, Says, SaysFactor, SaysName, kind_of}
 use Rattle.crs_rules.specs.RulesFile.{FaultOfLine, Reads, ReadsFile, RefusesFile, is_idle, next}
 use Rattle.crs_rules.specs.Statements.{Adds, AddsSet, Drops, FaultOfNode, FaultOfSet, FaultOfStatement, FaultOfWord, FaultOver, Joins, Over, Reading, States, joined, listed, with_item}

@@ -4,8 +4,8 @@ use Rattle.crs_text.specs.Prelude.{Item, kind_of_item, raw_of, SpellsNode}
 use Rattle.crs_text.specs.declared.items.ItemKind.TheVariants as kinds
 use Rattle.crs_rules.specs.declared.uncounted.Uncounted.{Uncounted}
 use Rattle.crs_rules.specs.RulesFile.{FaultOfLine, Reads, is_idle, next}
-use Rattle.crs_rules.specs.declared.fault.RulesFault.{RulesFault}
-use Rattle.crs_rules.specs.declared.fault.RulesFault.TheVariants as faults
+use Rattle.crs_rules.specs.declared.file.fault.RulesFault.{RulesFault}
+use Rattle.crs_rules.specs.declared.file.fault.RulesFault.TheVariants as faults
 use Rattle.crs_rules.specs.Statements.{FaultOfStatement, IsRefusedBy, Reading, States, with_item, with_word}
 
 pub word-item : (item : Item) (u : Uncounted) → kind_of_item item ≡ kinds.Word → with_word (raw_of item) u ≡ with_item item u

@@ -8,7 +8,7 @@ use Rattle.crs_value.specs.declared.values.crs.Crs.{Crs}
 use Rattle.crs_value.specs.declared.values.crs.Crs.TheVariants as crs
 use Rattle.crs_value.specs.declared.values.level.Level.{Level}
 use Rattle.crs_value.specs.declared.values.level.Level.TheVariants as levels
-use Rattle.crs_same.specs.MatchingPrelude.{SameAxisAlone}
+use Rattle.crs_same.specs.Prelude.{SameAxisAlone}
 use Rattle.crs_normal.specs.Prelude.{IsSpelledAxis, axis_text, IsWrittenForm}
 use Rattle.crs_rules.specs.Rewritten.{among, arranged, arranged_across, arranged_crs, ascending, renamed, rewritten, AreTextsOfAxes}
 use Rattle.crs_rules.specs.Rules.{Meaning}

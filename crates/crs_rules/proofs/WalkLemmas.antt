@@ -3,9 +3,9 @@ use Rattle.std.proofs.Common.{◌≡◌, ◌≢◌, ℕ, Option, None, Some, sym
 use Rattle.crs_text.specs.Prelude.{IsAt, Item, Siblings, End, More, first_of, here, rest_of}
 use Rattle.crs_value.specs.Prelude.{Holds, ahead, item_at}
 use Rattle.crs_rules.specs.inner.Grown.{HasGrown}
-use Rattle.crs_rules.specs.declared.fault.RulesFault.{RulesFault}
-use Rattle.crs_rules.specs.declared.fault.RulesFault.TheVariants as faults
-use Rattle.crs_rules.specs.declared.fault.RulesRefusal.{RulesRefusal}
+use Rattle.crs_rules.specs.declared.file.fault.RulesFault.{RulesFault}
+use Rattle.crs_rules.specs.declared.file.fault.RulesFault.TheVariants as faults
+use Rattle.crs_rules.specs.declared.file.fault.RulesRefusal.{RulesRefusal}
 use Rattle.crs_rules.specs.Statements.{FaultOver, IsRefusedBy, Over, Reading, listed}
 use Rattle.crs_rules.proofs.GrownLemmas.{grown_on}
 

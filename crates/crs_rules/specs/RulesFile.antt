@@ -6,7 +6,7 @@ use Rattle.crs_text.specs.Tokens.{is_white}
 use Rattle.crs_streams.specs.Lines.{AreLines}
 use Rattle.crs_rules.specs.NoRules.{no_rules}
 use Rattle.crs_rules.specs.Rules.{RulesParts}
-use Rattle.crs_rules.specs.declared.fault.RulesRefusal.{RulesRefusal}
+use Rattle.crs_rules.specs.declared.file.fault.RulesRefusal.{RulesRefusal}
 use Rattle.crs_rules.specs.Statements.{FaultOfStatement, FaultOver, Over, Reading, States}
 
 -- whether a line says nothing: it is white space alone, or a comment, which begins with `#`

@@ -8,9 +8,9 @@ use Rattle.crs_shape.specs.declared.unit_kind.UnitKind.{UnitKind}
 use Rattle.crs_value.specs.Reading.{OneIs}
 use Rattle.crs_rules.specs.Rules.{RulesParts}
 use Rattle.crs_rules.specs.declared.uncounted.Uncounted.{Uncounted}
-use Rattle.crs_rules.specs.declared.fault.RulesFault.{RulesFault}
-use Rattle.crs_rules.specs.declared.fault.RulesFault.TheVariants as faults
-use Rattle.crs_rules.specs.declared.fault.RulesRefusal.{RulesRefusal}
+use Rattle.crs_rules.specs.declared.file.fault.RulesFault.{RulesFault}
+use Rattle.crs_rules.specs.declared.file.fault.RulesFault.TheVariants as faults
+use Rattle.crs_rules.specs.declared.file.fault.RulesRefusal.{RulesRefusal}
 use Rattle.crs_rules.specs.Members.{MemberParts, Says, kind_of}
 
 -- what is known of a file before a statement: the number of its line, the nodes of all sets so

@@ -16,6 +16,8 @@ ghost use Rattle.crs_rules.specs.Rules.{RulesParts, meaning};
 ghost use Rattle.crs_rules.specs.SoundRules.{AreRules};
 ghost use Rattle.crs_rules.specs.SteadyRules.{AreSteady};
 
+pub mod files;
+
 use crate::rules::Rules;
 use crs_canon::laws::{
     answers_are_equal_where_same, canonical_texts_are_equal_where_same, main_theorem,

@@ -5,20 +5,15 @@
 #![tactic(auto)]
 
 mod aliases;
-mod fault;
+mod file;
 mod form;
 pub mod laws;
-mod member;
-mod reader;
 mod rewriting;
 mod rules;
-pub mod rules_file_laws;
-mod seen;
 mod uncounted;
-mod words;
 
-pub use fault::{RulesFault, RulesRefusal};
+pub use file::fault::{RulesFault, RulesRefusal};
+pub use file::reader::{RulesReader, read_rules};
 pub use form::canon_under;
-pub use reader::{RulesReader, read_rules};
 pub use rules::Rules;
 pub use uncounted::Uncounted;

@@ -20,7 +20,7 @@ use Rattle.crs_same.specs.PartsOfCrs.{parts_of_method, parts_of_conversion, part
 use Rattle.crs_same.specs.PartsOfFrames.{parts_of_ellipsoid, parts_of_ellipsoids, parts_of_given, unit_of, or_greenwich, parts_of_meridian, parts_of_datum, parts_of_ensemble, parts_of_frame}
 use Rattle.crs_same.specs.PartsOfSystems.{parts_of_axis, parts_at, parts_of_axes, parts_of_system}
 use Rattle.crs_same.specs.inner.Agreement.{AgreeWhereSame, AgreeMethod, AgreeConversion, AgreeGeodetic, AgreeBase, AgreeProjected, AgreeVertical, AgreeHorizontal, AgreeCompound, AgreeCrs, AgreeDynamic, AgreeEllipsoid, AgreeGiven, AgreeMeridian, AgreeDatum, AgreeEnsemble, AgreeFrame, AgreeAxis, AgreeAt, AgreeAxes, AgreeSystem, AgreeTail}
-use Rattle.crs_same.specs.MatchingPrelude.{IsZero, BothOrNeither, HasAt, own_or, SameUnitAsked, SameUnit, SameValue}
+use Rattle.crs_same.specs.Prelude.{IsZero, BothOrNeither, HasAt, own_or, SameUnitAsked, SameUnit, SameValue}
 use Rattle.crs_same.specs.SameCrs.{SameCrs, SameDynamic, IsHorizontalPart}
 use Rattle.crs_same.proofs.AxisLemmas.{at-both, which-both}
 use Rattle.crs_same.proofs.NumberLemmas.{zero-in-both, zero-is}

@@ -3,7 +3,7 @@ use Rattle.std.proofs.Common.{◌≡◌, ◌≢◌, ℕ, suc, ◌+◌, ◌≤◌
 use Rattle.crs_decimal.specs.Prelude.{Number, SameNumber, whole_number, Value, IsNormal, exact}
 use Rattle.crs_value.specs.Prelude.{IsPosition, IsAxis, AreOrders, AreDistinct, IsSystem, AxisParts, SystemParts}
 use Rattle.crs_value.specs.Sound.{Each}
-use Rattle.crs_same.specs.MatchingPrelude.{IsPositionOf, HasAt, SameValue}
+use Rattle.crs_same.specs.Prelude.{IsPositionOf, HasAt, SameValue}
 use Rattle.crs_same.proofs.CountLemmas.{Within, Among, Lacks, Apart, among-or-lacks, each-stands}
 use Rattle.crs_same.proofs.NumberLemmas.{wholes-same}
 

@@ -11,7 +11,7 @@ use Rattle.crs_same.specs.declared.step.Step.TheVariants as step
 use Rattle.crs_same.specs.Parts.{◌▸◌, Parts, none, part, ◌⨾◌, within, First, Differences}
 use Rattle.crs_same.specs.PartsOfFrames.{parts_of_given, or_greenwich}
 use Rattle.crs_same.specs.PartsOfSystems.{parts_at, parts_of_axes}
-use Rattle.crs_same.specs.MatchingPrelude.{SameIdents, SameValue}
+use Rattle.crs_same.specs.Prelude.{SameIdents, SameValue}
 use Rattle.crs_same.specs.inner.Walked.{IsDone, IsRefused, Walks, Walked}
 
 -- over parts of which none differs

@@ -1,6 +1,5 @@
 pub mod Contents
 pub mod Definition
-pub mod MatchingPrelude
 pub mod Parts
 pub mod PartsOfCrs
 pub mod PartsOfFrames

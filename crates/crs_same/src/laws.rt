@@ -25,7 +25,9 @@ ghost use Rattle.crs_same.specs.Sameness.{IsSameness, IsSamenessOf};
 ghost use Rattle.crs_same.specs.SameCrs.{SameCrs, SameDynamic, IsHorizontalPart};
 ghost use Rattle.crs_same.specs.SameParts.{HasAt, SameValue};
 
-pub use crate::matching_laws::{
+pub mod parts;
+
+pub use crate::laws::parts::{
     same_ident_is_equivalence, same_idents_is_equivalence, same_length_is_equivalence,
     same_parameter_is_equivalence, same_part_is_equivalence, same_unit_is_equivalence,
     same_value_is_equivalence,

@@ -33,7 +33,6 @@ mod crs;
 mod found;
 mod frames;
 pub mod laws;
-pub mod matching_laws;
 mod named;
 mod nodes;
 pub mod parts;

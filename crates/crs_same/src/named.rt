@@ -6,7 +6,7 @@ ghost use Rattle.crs_same.specs.SameParts.{SameGeoidModel, SameDeformationModel,
 ghost use Rattle.crs_same.specs.SameIdents.{SameIdent, SameIdents};
 ghost use Rattle.crs_same.specs.Sets.{BothOrNeither};
 
-use crate::matching_laws;
+use crate::laws;
 use crate::sets::{SetMember, SetMembers, same_set};
 use crate::single::{same_optional_text, same_text, same_units_as, same_value};
 use crs_value::{
@@ -33,7 +33,7 @@ impl SetMember for Ident<'_> {
     }
 
     fn same_is_equivalence(&self) {
-        matching_laws::same_ident_is_equivalence();
+        laws::parts::same_ident_is_equivalence();
     }
 }
 
@@ -67,7 +67,7 @@ impl SetMember for Member<'_> {
     }
 
     fn same_is_equivalence(&self) {
-        matching_laws::same_part_is_equivalence();
+        laws::parts::same_part_is_equivalence();
     }
 }
 
@@ -86,7 +86,7 @@ impl SetMember for GeoidModel<'_> {
     }
 
     fn same_is_equivalence(&self) {
-        matching_laws::same_part_is_equivalence();
+        laws::parts::same_part_is_equivalence();
     }
 }
 
@@ -127,7 +127,7 @@ impl SetMember for Parameter<'_> {
     }
 
     fn same_is_equivalence(&self) {
-        matching_laws::same_parameter_is_equivalence();
+        laws::parts::same_parameter_is_equivalence();
     }
 }
 

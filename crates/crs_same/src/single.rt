@@ -5,7 +5,7 @@ ghost use Rattle.crs_shape.specs.declared.unit_kind.UnitKind.TheVariants as kind
 ghost use Rattle.crs_same.specs.SameParts.{SameUnitAsked, SameUnit, SameLength, SameValue, or_metre};
 ghost use Rattle.crs_same.specs.Sets.{BothOrNeither};
 
-use crate::matching_laws;
+use crate::laws;
 use crate::named::{same_idents, same_kept_idents};
 use crs_decimal::Decimal;
 use crs_value::{CounterpartHints, Level, Unit, UnitKind};
@@ -110,7 +110,7 @@ fn is_metre(unit: &Unit<'_>, level: Level) -> bool
 pub fn same_length<'a>(a: &Option<Unit<'a>>, b: &Option<Unit<'a>>, level: Level) -> bool
     ensures { IsTrue result ↔ SameLength level a.now b.now }
 {
-    matching_laws::same_length_is_equivalence();
+    laws::parts::same_length_is_equivalence();
     match (a, b) {
         (None, None) => true,
         (Some(x), None) => is_metre(x, level),

@@ -3,7 +3,7 @@ ghost use Rattle.std.specs.Prelude.{◌↔◌, IsTrue};
 ghost use Rattle.crs_same.specs.Sets.{BothOrNeither};
 ghost use Rattle.crs_same.specs.SameParts.{SameBox, SameExtent, SameUsage};
 
-use crate::matching_laws;
+use crate::laws;
 use crate::sets::SetMember;
 use crate::single::{same_length, same_optional_text, same_value};
 use crs_value::{BoundingBox, Extent, Level, Usage};
@@ -60,6 +60,6 @@ impl SetMember for Usage<'_> {
     }
 
     fn same_is_equivalence(&self) {
-        matching_laws::same_part_is_equivalence();
+        laws::parts::same_part_is_equivalence();
     }
 }

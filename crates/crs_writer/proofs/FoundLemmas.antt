@@ -7,7 +7,7 @@ use Rattle.crs_shape.specs.declared.class.Class.{Class}
 use Rattle.crs_value.specs.Prelude.{ReadsEach, ReadsFirst, ReadsOptional}
 use Rattle.crs_writer.specs.inner.Node.{IsFirst, args, item}
 use Rattle.crs_writer.specs.inner.Found.{SaysIfAny}
-use Rattle.crs_writer.specs.declared.node.Node.{Node}
+use Rattle.crs_writer.specs.declared.nodes.node.Node.{Node}
 use Rattle.crs_writer.proofs.FlatLemmas.{through}
 
 found-said : {V : Type 0} (R : Class → Item → V → Type 0) (of : Node) (c : Class) (found : Option Node) (value : Option V) → IsFirst of c (args c of) found →

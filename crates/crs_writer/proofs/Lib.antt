@@ -11,7 +11,7 @@ pub mod FlatLemmas
 pub mod FlatNodeLemmas
 pub mod FoundLemmas
 pub mod GatherLemmas
-pub mod LeavesAxisLemmas
+pub mod CountedAxisLemmas
 pub mod NodeTextLemmas
 pub mod NothingWrittenLemmas
 pub mod NumberLemmas

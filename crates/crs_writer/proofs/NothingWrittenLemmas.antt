@@ -10,7 +10,7 @@ use Rattle.crs_value.specs.declared.values.frame.Frame.{Frame}
 use Rattle.crs_value.specs.declared.values.frame.Frame.TheVariants as frame
 use Rattle.crs_value.specs.declared.values.level.Level.{Level}
 use Rattle.crs_value.specs.declared.values.level.Level.TheVariants as levels
-use Rattle.crs_same.specs.MatchingPrelude.{with_bare}
+use Rattle.crs_same.specs.Prelude.{with_bare}
 use Rattle.crs_normal.specs.Prelude.{item_ensemble, item_frame, norm_ensemble, norm_frame, each, item_ident, set_idents, item_usage, norm_usage, set_usages}
 use Rattle.crs_writer.specs.inner.FromItems.{Writes}
 use Rattle.crs_writer.specs.inner.Members.{set_text}

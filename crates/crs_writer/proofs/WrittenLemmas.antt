@@ -4,7 +4,7 @@ use Rattle.crs_text.specs.Prelude.{End, item_text, others_text}
 use Rattle.crs_value.specs.Prelude.{GeoidModelParts, ParameterParts, MemberParts, UsageParts, kept, kept_one, kept-joined}
 use Rattle.crs_value.specs.Values.{IdentParts}
 use Rattle.crs_value.specs.declared.values.level.Level.{Level}
-use Rattle.crs_same.specs.MatchingPrelude.{with_bare}
+use Rattle.crs_same.specs.Prelude.{with_bare}
 use Rattle.crs_normal.specs.Prelude.{item_geoid_model, item_parameter, norm_geoid_model, norm_parameter, set_geoid_models, set_parameters, item_member, norm_member, set_members, each, item_ident, set_idents, item_usage, norm_usage, set_usages}
 use Rattle.crs_writer.specs.inner.Members.{set_text}
 use Rattle.crs_writer.proofs.TextLemmas.{normal_set-written, set-written}

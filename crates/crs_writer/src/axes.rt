@@ -8,7 +8,7 @@ ghost use Rattle.crs_normal.specs.inner.SpelledSystems.{axis_at, is_at, is_numbe
 ghost use Rattle.crs_writer.specs.inner.FromItems.{IsReadAt};
 
 use crate::Node;
-use crate::lookup::{first, later};
+use crate::nodes::lookup::{first, later};
 use crate::numbers::decimal_of;
 use crs_decimal::Decimal;
 use crs_normal::laws::numbers::whole_numbers_are_tested;

@@ -4,11 +4,9 @@
 mod answer;
 pub mod axes;
 mod canon_text;
-pub mod copied;
 pub mod laws;
-pub mod lookup;
 mod members;
-mod node;
+pub mod nodes;
 mod numbers;
 mod parts;
 pub mod pieces;
@@ -20,8 +18,8 @@ mod texts;
 pub use answer::{canon, canon_in};
 pub use axes::is_at;
 pub use canon_text::Canon;
-pub use copied::{is_short, keeps};
-pub use node::{Chain, Node};
+pub use nodes::copied::{is_short, keeps};
+pub use nodes::node::{Chain, Node};
 pub use numbers::{decimal_of, write_raw, write_whole};
 pub use texts::{
     append, append_item, open_number, open_text, write_code, write_decimal, write_number,

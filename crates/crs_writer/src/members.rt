@@ -10,10 +10,11 @@ ghost use Rattle.crs_writer.specs.inner.FromItems.{Writes};
 ghost use Rattle.crs_writer.specs.inner.Parts.{SaysFirst};
 ghost use Rattle.crs_writer.specs.inner.Spans.{AreInOrder, texts_at};
 
+use crate::nodes::lookup;
 use crate::parts::{Appended, Part, Spell};
 use crate::set::{FEW, MEMBER_ROOM};
 use crate::spans::{Texts, put_last};
-use crate::{Chain, Node, append, lookup};
+use crate::{Chain, Node, append};
 use crs_shape::Class;
 use crs_value::Level;
 

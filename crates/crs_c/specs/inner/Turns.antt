@@ -2,7 +2,7 @@
 use Rattle.std.specs.Prelude.{◌≡◌, ◌++◌, ◌+◌, ◌-◌, ◌≤◌, ◌⊎◌, ◌<◌, ℕ, List, Option, Some, None, length, take, drop}
 use Rattle.crs_text.specs.Refusal.{RefusedAt}
 use Rattle.crs_value.specs.declared.values.level.Level.{Level}
-use Rattle.crs_c.specs.declared.canon.Entry.{Entry}
+use Rattle.crs_c.specs.declared.calls.canon.Entry.{Entry}
 use Rattle.crs_c.specs.Each.{IsAnsweredBy, NeedsMore}
 
 -- the buffer with bytes written at a place

@@ -9,7 +9,7 @@ use Rattle.crs_shape.specs.declared.unit_kind.UnitKind.TheVariants as kinds
 use Rattle.crs_shape.specs.Prelude.{is_keyword, slots_of, direction_word}
 use Rattle.crs_value.specs.Prelude.{those, IsAxis, IsAxisUnit, IsUnit, AxisParts, UnitParts, Own as BreaksOwn}
 use Rattle.crs_value.specs.declared.values.level.Level.{Level}
-use Rattle.crs_same.specs.MatchingPrelude.{kind_as}
+use Rattle.crs_same.specs.Prelude.{kind_as}
 use Rattle.crs_normal.specs.AxisAlone.{AreNormalArguments, IsNormalArgument, IsNormalAxis}
 use Rattle.crs_normal.specs.inner.LowerLaws.{LowerLaws}
 use Rattle.crs_normal.specs.Normal.{IsNormalIn}

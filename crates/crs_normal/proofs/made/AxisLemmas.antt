@@ -12,7 +12,7 @@ use Rattle.crs_shape.specs.declared.unit_kind.UnitKind.TheVariants as kinds
 use Rattle.crs_shape.specs.Prelude.{is_keyword, class_named, asked_kind, kind_by_direction, direction_word, unit_word}
 use Rattle.crs_value.specs.Prelude.{orders_in, units_in, UnknownDirection, AnyOf, those, IsAxis, IsAxisMeridian, IsUnitOf, AxisMeridianParts, AxisParts, SystemParts, UnitParts, Own as BreaksOwn}
 use Rattle.crs_value.specs.declared.values.level.Level.{Level}
-use Rattle.crs_same.specs.MatchingPrelude.{own_or}
+use Rattle.crs_same.specs.Prelude.{own_or}
 use Rattle.crs_normal.specs.inner.LowerLaws.{LowerLaws}
 use Rattle.crs_normal.specs.Prelude.{number_node, word_item, each, opt, text_item, item_unit, norm_unit, whole_value, item_ident, norm_units, set_idents}
 use Rattle.crs_normal.specs.inner.SpelledSystems.{item_axis, item_axis_meridian, norm_axis, norm_axis_meridian, norm_axis_meridians}

@@ -8,7 +8,7 @@ use Rattle.crs_shape.specs.declared.unit_kind.UnitKind.TheVariants as kinds
 use Rattle.crs_shape.specs.Prelude.{is_keyword, class_named, optional_of, takes}
 use Rattle.crs_value.specs.Prelude.{ConversionParts, ParameterParts, IsUnit, IsConversion, IsParameter, UnitParts, Own as BreaksOwn}
 use Rattle.crs_value.specs.declared.values.level.Level.{Level}
-use Rattle.crs_same.specs.MatchingPrelude.{kind_as}
+use Rattle.crs_same.specs.Prelude.{kind_as}
 use Rattle.crs_normal.specs.Prelude.{unit_class, item_conversion, item_method, item_parameter, norm_conversion, norm_method, norm_parameter, set_parameters, item_unit, norm_units}
 use Rattle.crs_normal.specs.inner.LowerLaws.{LowerLaws}
 use Rattle.crs_normal.proofs.made.AscendLemmas.{set-ascends}

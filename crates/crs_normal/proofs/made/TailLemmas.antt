@@ -8,7 +8,7 @@ use Rattle.crs_value.specs.Prelude.{once, kept, kept_one, kept-each, kept-if_som
 use Rattle.crs_value.specs.declared.values.level.Level.{Level}
 use Rattle.crs_value.specs.declared.values.level.Level.TheVariants as levels
 use Rattle.crs_value.specs.Sound.{Each}
-use Rattle.crs_same.specs.MatchingPrelude.{usages_of, with_bare}
+use Rattle.crs_same.specs.Prelude.{usages_of, with_bare}
 use Rattle.crs_normal.specs.inner.LowerLaws.{LowerLaws}
 use Rattle.crs_normal.specs.NormalOwn.{Ascend, HasTail, Rise, Lacks, bare_classes}
 use Rattle.crs_normal.specs.Prelude.{in_order, text_node, item_usage, norm_usage, set_usages}

@@ -8,7 +8,7 @@ use Rattle.crs_value.specs.Sound.{Each}
 use Rattle.crs_value.specs.Values.{IdentParts}
 use Rattle.crs_value.specs.declared.values.level.Level.{Level}
 use Rattle.crs_value.specs.declared.values.level.Level.TheVariants as levels
-use Rattle.crs_same.specs.MatchingPrelude.{SameIdent, SameIdents, SameNamed, SameParameter, SameSet, SameUsage}
+use Rattle.crs_same.specs.Prelude.{SameIdent, SameIdents, SameNamed, SameParameter, SameSet, SameUsage}
 use Rattle.crs_normal.specs.inner.LowerLaws.{LowerLaws}
 use Rattle.crs_normal.specs.Prelude.{item_geoid_model, item_ident, item_member, item_parameter, item_usage, norm_geoid_model, norm_member, norm_parameter, norm_usage, set_geoid_models, set_idents, set_members, set_parameters, set_usages}
 use Rattle.crs_normal.proofs.made.ConversionLemmas.{parameter-made}

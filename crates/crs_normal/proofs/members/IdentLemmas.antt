@@ -6,7 +6,7 @@ use Rattle.crs_shape.specs.Prelude.{class_of_kind}
 use Rattle.crs_value.specs.Prelude.{kept, ReadsIfAny, ReadsOptional, ReadsText, ReadsTextOf, single_of, ReadsIdent, IsIdent}
 use Rattle.crs_value.specs.declared.values.level.Level.{Level}
 use Rattle.crs_value.specs.Values.{IdentParts}
-use Rattle.crs_same.specs.MatchingPrelude.{SameIdent}
+use Rattle.crs_same.specs.Prelude.{SameIdent}
 use Rattle.crs_normal.specs.Prelude.{in_order, code_item, is_short, node_of, opt, text_item, text_node, item_ident, set_idents}
 use Rattle.crs_normal.proofs.texts.SegmentLemmas.{IsIn, Segment, a-text, either-item, may-be, seen, text-field}
 use Rattle.crs_normal.proofs.read.NameLemmas.{keyword-names}

@@ -8,7 +8,7 @@ use Rattle.crs_shape.specs.declared.unit_kind.UnitKind.TheVariants as kinds
 use Rattle.crs_shape.specs.Prelude.{asked_kind, SpellsWord, direction_word, system_word}
 use Rattle.crs_value.specs.Prelude.{ReadsOptional, ReadsAxis, ReadsAxisMeridian, ReadsDirection, ReadsNumberOf, ReadsType, AxisMeridianParts, AxisParts, SystemParts}
 use Rattle.crs_value.specs.declared.values.level.Level.{Level}
-use Rattle.crs_same.specs.MatchingPrelude.{own_or}
+use Rattle.crs_same.specs.Prelude.{own_or}
 use Rattle.crs_normal.proofs.WithoutPlaces.{without_places}
 use Rattle.crs_normal.specs.NormalOwn.{Has, HasOneOrder, numbers_in}
 use Rattle.crs_value.specs.Sound.{Each}

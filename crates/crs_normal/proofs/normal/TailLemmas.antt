@@ -6,7 +6,7 @@ use Rattle.crs_shape.specs.declared.class.Class.TheVariants as class
 use Rattle.crs_shape.specs.Prelude.{SlotParts, tail}
 use Rattle.crs_value.specs.Prelude.{RepeatsAny, once, GeoidModelParts, is_a, those, ReadsEach, ReadsBare, ReadsTail, ReadsTextOf, ReadsUsage, ReadsGeoidModel, SaysSome, TailParts, UsageParts, kept, kept-where_none-one}
 use Rattle.crs_value.specs.declared.values.level.Level.{Level}
-use Rattle.crs_same.specs.MatchingPrelude.{usages_of, with_bare}
+use Rattle.crs_same.specs.Prelude.{usages_of, with_bare}
 use Rattle.crs_normal.specs.NormalOwn.{HasTail, Lacks, bare_classes}
 use Rattle.crs_value.specs.Sound.{Each}
 use Rattle.crs_normal.specs.inner.Ordered.{in_order}

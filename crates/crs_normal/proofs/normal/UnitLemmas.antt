@@ -9,7 +9,7 @@ use Rattle.crs_shape.specs.Prelude.{SlotParts, slots_of, unit_slots, SpellsWord,
 use Rattle.crs_value.specs.Prelude.{those, ReadsEach, ReadsIdent, ReadsUnit, kept}
 use Rattle.crs_value.specs.Values.{IdentParts}
 use Rattle.crs_value.specs.declared.values.level.Level.{Level}
-use Rattle.crs_same.specs.MatchingPrelude.{kind_as}
+use Rattle.crs_same.specs.Prelude.{kind_as}
 use Rattle.crs_normal.specs.Normal.{IsFirstKeyword}
 use Rattle.crs_normal.specs.NormalOwn.{Ascend}
 use Rattle.crs_value.specs.Sound.{Each}

@@ -11,7 +11,7 @@ use Rattle.crs_shape.specs.declared.unit_kind.UnitKind.TheVariants as kinds
 use Rattle.crs_value.specs.declared.values.level.Level.{Level}
 use Rattle.crs_value.specs.Prelude.{ReadsAxis, ReadsAxisMeridian, ReadsHead, IsAxis, IsAxisMeridian, IsAxisUnit, IsIdent, IsSystem, AxisMeridianParts, AxisParts, SystemParts, UnitParts}
 use Rattle.crs_value.specs.Sound.{Each}
-use Rattle.crs_same.specs.MatchingPrelude.{own_or, kind_as}
+use Rattle.crs_same.specs.Prelude.{own_or, kind_as}
 use Rattle.crs_normal.specs.Prelude.{norm_axis_alone, number_node, item_unit, norm_unit, norm_units, whole_value}
 use Rattle.crs_normal.specs.inner.SpelledSystems.{axes_from, axis_at, item_axis, item_axis_meridian, item_head, norm_axis, norm_axis_meridian, norm_axis_meridians, norm_system, with_axis}
 use Rattle.crs_normal.specs.inner.LowerLaws.{LowerLaws}

@@ -10,7 +10,7 @@ use Rattle.crs_value.specs.Prelude.{IsAxis, IsAxisMeridian, IsAxisUnit, AxisPart
 use Rattle.crs_value.specs.Sound.{Each}
 use Rattle.crs_value.specs.declared.values.level.Level.{Level}
 use Rattle.crs_same.specs.Prelude.{AgreeAxis}
-use Rattle.crs_same.specs.MatchingPrelude.{HasAt, IsPositionOf, SameAxisAlone, SameAxisMeridian, BothOrNeither}
+use Rattle.crs_same.specs.Prelude.{HasAt, IsPositionOf, SameAxisAlone, SameAxisMeridian, BothOrNeither}
 use Rattle.crs_normal.specs.inner.Decides.{FormDecides, SetsDecide}
 use Rattle.crs_normal.specs.inner.LowerLaws.{LowerLaws}
 use Rattle.crs_normal.specs.inner.PartTexts.{norm_axis_alone}

@@ -2,8 +2,8 @@
 use Rattle.std.specs.Prelude.{◌≡◌, ℕ}
 use Rattle.crs_text.specs.declared.fault.Fault.{Fault}
 use Rattle.crs_text.specs.declared.fault.Fault.TheVariants as text_faults
-use Rattle.crs_rules.specs.declared.fault.RulesFault.{RulesFault}
-use Rattle.crs_rules.specs.declared.fault.RulesFault.TheVariants as faults
+use Rattle.crs_rules.specs.declared.file.fault.RulesFault.{RulesFault}
+use Rattle.crs_rules.specs.declared.file.fault.RulesFault.TheVariants as faults
 
 -- a fault is out of memory
 abbrev pub IsMemory : RulesFault → Type 0

@@ -1,7 +1,7 @@
 -- A bridge: where a reader of rules files is, and how it goes back there.
 use Rattle.std.specs.Prelude.{◌≡◌, length, take}
 use Rattle.crs_rules.specs.Statements.{Reading}
-use Rattle.crs_rules.specs.declared.reader.Mark.{Mark}
+use Rattle.crs_rules.specs.declared.file.reader.Mark.{Mark}
 
 -- a reader is there
 pub record IsMarked (r : Reading) (mark : Mark) : Type 0 where

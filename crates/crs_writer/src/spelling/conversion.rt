@@ -5,10 +5,11 @@ ghost use Rattle.crs_value.specs.Reads.{ReadsConversion, ReadsGeoidModel, ReadsM
 ghost use Rattle.crs_normal.specs.inner.PartTexts.{conversion_text, geoid_model_text, method_text, parameter_text};
 
 use crate::members::{MembersPart, ReadAs};
+use crate::nodes::copied;
 use crate::parts::{Appended, IdentsPart, Part, Spell};
 use crate::set::write_set;
 use crate::spelling::idents_and_units::{write_measured, write_named};
-use crate::{Node, append, copied, open_text};
+use crate::{Node, append, open_text};
 use crs_shape::Class;
 use crs_value::{Conversion, GeoidModel, Level, Method, Parameter, UnitKind};
 

@@ -16,13 +16,14 @@ ghost use Rattle.crs_writer.specs.inner.FromItems.{Writes};
 ghost use Rattle.crs_writer.specs.inner.Parts.{datum_node};
 
 use crate::members::{MembersPart, ReadAs};
+use crate::nodes::copied;
 use crate::parts::{
     Appended, IdentsPart, NumberPart, Part, Spell, write_number_node, write_optional,
     write_optional_number, write_part,
 };
 use crate::set::write_set;
 use crate::spelling::idents_and_units::write_named;
-use crate::{Node, append, append_item, copied, open_text, write_optional_text};
+use crate::{Node, append, append_item, open_text, write_optional_text};
 use crs_shape::Class;
 use crs_value::{Datum, Ellipsoid, Ensemble, Frame, Level, Member};
 

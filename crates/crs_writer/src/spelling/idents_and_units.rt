@@ -17,11 +17,10 @@ ghost use Rattle.crs_writer.specs.inner.Members.{set_text};
 ghost use Rattle.crs_writer.specs.inner.Parts.{opt_text};
 
 use crate::members::ReadAs;
+use crate::nodes::copied;
 use crate::parts::{Appended, IdentsPart, NumberPart, Spell, UnitPart};
 use crate::set::write_set;
-use crate::{
-    Chain, Node, append, copied, keeps, open_text, write_code, write_number, write_optional_text,
-};
+use crate::{Chain, Node, append, keeps, open_text, write_code, write_number, write_optional_text};
 use crs_shape::Class;
 use crs_value::{Ident, Level, List, Unit, UnitKind};
 use std::alloc::AllocError;

@@ -23,11 +23,12 @@ ghost use Rattle.crs_writer.specs.inner.FromItems.{Writes};
 ghost use Rattle.crs_writer.specs.inner.Openings.{named_node, numbered_node};
 
 use crate::members::ReadAs;
+use crate::nodes::copied;
 use crate::parts::{
     Appended, IdentsPart, NumberPart, Part, Spell, UnitPart, write_optional, write_optional_number,
 };
 use crate::spelling::idents_and_units::write_optional_unit;
-use crate::{Node, append, append_item, axes, copied, is_at, open_text};
+use crate::{Node, append, append_item, axes, is_at, open_text};
 use crs_shape::Class;
 use crs_value::{Axis, AxisMeridian, Direction, Level, System, SystemType, UnitKind};
 use std::alloc::AllocError;

@@ -20,10 +20,11 @@ ghost use Rattle.crs_writer.specs.inner.FromItems.{Writes};
 ghost use Rattle.crs_writer.specs.inner.Openings.{enclosed, numbered_node};
 
 use crate::members::ReadAs;
+use crate::nodes::copied;
 use crate::parts::{Appended, IdentsPart, NumberPart, Part, Spell, UnitPart, write_optional};
 use crate::set::{write_set, write_set_with};
 use crate::spelling::idents_and_units::write_length;
-use crate::{Node, append, copied, keeps, write_optional_text};
+use crate::{Node, append, keeps, write_optional_text};
 use crs_shape::Class;
 use crs_value::{BoundingBox, Extent, Level, Tail, Usage};
 

@@ -29,7 +29,7 @@ crsdesk_catalogue_add_spec 𝓤 𝓛 𝓜 𝓡 wired =
     sets ! (of_opd ! (get ! refl)) refl good $
     nothing ! $ move ! (3 ∷ 0 ∷ []) $ join ! $ owned ! u64 _ (uint_Makes 𝓛 w64) i _ (refl, are.1.0.1) $ join ! $ move ! (1 ∷ 0 ∷ []) $ join ! $
     move ! (2 ∷ 0 ∷ []) $ join ! $
-    hands_over ! (framed 𝓤 𝓛.H 𝓜 𝓣) g.ended (g.clauses 𝓛 𝓜.mem 𝓡.returns) (met 𝓤 𝓛 𝓜 𝓡 (code.calls-crs_c::calls_catalogue::add_text 𝓡.env wired))
+    hands_over ! (framed 𝓤 𝓛.H 𝓜 𝓣) g.ended (g.clauses 𝓛 𝓜.mem 𝓡.returns) (met 𝓤 𝓛 𝓜 𝓡 (code.calls-crs_c::calls::catalogue::add_text 𝓡.env wired))
     ((κs, qs, tt, (n, (i, (s, tt))), (v ∷ [], (vint w64 i ∷ [], (shr_slice_vals s, tt)))), tt) (id⊢ 𝓤 _) (and_then ! (get ! refl) (and_then ! (get ! refl) (and_then ! (get ! refl) (no_more !)))) (λ u r ws.
     heard ! (IsAdded i s.now n r.0 r.1) (λ told.
     writes_back R P refl refl is_R is_P r u refl refl refl refl refl (λ v' w good_w.

@@ -34,7 +34,7 @@ crsdesk_catalogue_add_under_spec 𝓤 𝓛 𝓜 𝓡 wired =
     sets ! (of_opd ! (get ! refl)) refl good' $
     nothing ! $ move ! (5 ∷ 0 ∷ []) $ join ! $ owned ! u64 _ (uint_Makes 𝓛 w64) i _ (refl, are.1.1.0.1) $ join ! $ move ! (1 ∷ 0 ∷ []) $ join ! $
     move ! (2 ∷ 0 ∷ []) $ join ! $ move ! (3 ∷ 0 ∷ []) $ join ! $
-    hands_over ! (framed 𝓤 𝓛.H 𝓜 𝓣) g.ended (g.clauses 𝓛 𝓜.mem 𝓡.returns) (met 𝓤 𝓛 𝓜 𝓡 (code.calls-crs_c::calls_catalogue::add_text_under 𝓡.env wired))
+    hands_over ! (framed 𝓤 𝓛.H 𝓜 𝓣) g.ended (g.clauses 𝓛 𝓜.mem 𝓡.returns) (met 𝓤 𝓛 𝓜 𝓡 (code.calls-crs_c::calls::catalogue::add_text_under 𝓡.env wired))
     ((κs, qs, tt, (n.0, (n.1, (i, (s, tt)))), (v ∷ [], (v' ∷ [], (vint w64 i ∷ [], (shr_slice_vals s, tt))))), tt) (id⊢ 𝓤 _) (and_then ! (get ! refl) (and_then ! (get ! refl) (and_then ! (get ! refl) (and_then ! (get ! refl) (no_more !))))) (λ u r ws.
     heard ! ((r.1 ≡ n.1) × IsAddedUnder n.1.reading.rules i s.now n.0 r.0 r.2) (λ told.
     fpick ! (λ vss. fsplit ! $ feq_l ! (λ eu. fsplit ! $

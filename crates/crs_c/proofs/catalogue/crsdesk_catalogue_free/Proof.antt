@@ -24,7 +24,7 @@ crsdesk_catalogue_free_spec 𝓤 𝓛 𝓜 𝓡 wired =
     sets ! (of_opd ! (get ! refl)) refl good $
     forget ! 1 refl $
     nothing ! $ move ! (1 ∷ 0 ∷ []) $ join ! $ nothing ! $ join ! $
-    hands_over ! (framed 𝓤 𝓛.H 𝓜 𝓣) g.ended (g.clauses 𝓛 𝓜.mem 𝓡.returns) (met 𝓤 𝓛 𝓜 𝓡 (code.calls-crs_c::calls_catalogue::drop_catalogue 𝓡.env wired))
+    hands_over ! (framed 𝓤 𝓛.H 𝓜 𝓣) g.ended (g.clauses 𝓛 𝓜.mem 𝓡.returns) (met 𝓤 𝓛 𝓜 𝓡 (code.calls-crs_c::calls::catalogue::drop_catalogue 𝓡.env wired))
     ((κs, qs, tt, (n, tt), (v ∷ [], tt)), tt) (id⊢ 𝓤 _) (and_then ! (get ! refl) (no_more !)) (λ u r ws. drop ! $ feq_l ! (λ is_unit.
     lands_as ! (ap only is_unit) refl (tt, tt) $
     sets ! (of_opd ! (unit_lit !)) refl (tt, tt) $

@@ -24,7 +24,7 @@ crsdesk_catalogue_groups_spec 𝓤 𝓛 𝓜 𝓡 wired =
     sets ! (of_opd ! (load ! (through ! refl (stop !)) (look ! 1 refl))) refl good $
     sets ! (of_opd ! (get ! refl)) refl good $
     nothing ! $ move ! (1 ∷ 0 ∷ []) $ join ! $ nothing ! $ join ! $
-    hands_over ! (framed 𝓤 𝓛.H 𝓜 𝓣) g.ended (g.clauses 𝓛 𝓜.mem 𝓡.returns) (met 𝓤 𝓛 𝓜 𝓡 (code.calls-crs_c::calls_catalogue::group_count 𝓡.env wired))
+    hands_over ! (framed 𝓤 𝓛.H 𝓜 𝓣) g.ended (g.clauses 𝓛 𝓜.mem 𝓡.returns) (met 𝓤 𝓛 𝓜 𝓡 (code.calls-crs_c::calls::catalogue::group_count 𝓡.env wired))
     ((κs, qs, tt, (n, tt), (v ∷ [], tt)), tt) (id⊢ 𝓤 _) (and_then ! (get ! refl) (no_more !)) (λ u r ws.
     both_heard ! (r.0 ≡ n) (r.1 ≡ length n.groups) (λ same count.
     writes_back R P refl refl is_R is_P r u refl refl refl refl refl (λ v' w good_w.

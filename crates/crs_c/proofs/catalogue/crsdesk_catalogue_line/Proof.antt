@@ -6,8 +6,8 @@ use Rattle.crs_c.proofs.catalogue.crsdesk_catalogue_line.Code as code
 use Rattle.crs_c.specs.contracts.line_number as g
 use Rattle.crs_c.proofs.line_number.Met.{met}
 use Rattle.crs_c.specs.Catalogues.{line_at}
-use Rattle.crs_c.specs.contracts.calls_catalogue.Numbered as numbered
-use Rattle.crs_c.proofs.calls_catalogue.Numbered.TheLaws as numbered_laws
+use Rattle.crs_c.specs.contracts.calls.catalogue.Numbered as numbered
+use Rattle.crs_c.proofs.calls.catalogue.Numbered.TheLaws as numbered_laws
 
 pub crsdesk_catalogue_line_spec : {M : Type 1} → statement M
 unfolding catalogue_at
@@ -29,7 +29,7 @@ crsdesk_catalogue_line_spec 𝓤 𝓛 𝓜 𝓡 wired =
     sets ! (of_opd ! (get ! refl)) refl good $
     nothing ! $ owned ! usize _ (uint_Makes 𝓛 w64) j _ (refl, are.1.1.0.1) $ join ! $ owned ! usize _ (uint_Makes 𝓛 w64) i _ (refl, are.1.0.1) $ join ! $
     move ! (1 ∷ 0 ∷ []) $ join ! $ nothing ! $ join ! $
-    hands_over ! (framed 𝓤 𝓛.H 𝓜 𝓣) g.ended (g.clauses 𝓛 𝓜.mem 𝓡.returns) (met 𝓤 𝓛 𝓜 𝓡 (code.calls-crs_c::calls_catalogue::line_number 𝓡.env wired))
+    hands_over ! (framed 𝓤 𝓛.H 𝓜 𝓣) g.ended (g.clauses 𝓛 𝓜.mem 𝓡.returns) (met 𝓤 𝓛 𝓜 𝓡 (code.calls-crs_c::calls::catalogue::line_number 𝓡.env wired))
     ((κs, qs, tt, (n, (i, (j, tt))), (v ∷ [], (vint w64 i ∷ [], (vint w64 j ∷ [], tt)))), tt) (id⊢ 𝓤 _) (and_then ! (get ! refl) (and_then ! (get ! refl) (and_then ! (get ! refl) (no_more !)))) (λ u r ws.
     both_heard ! (r.0 ≡ n) (r.1 ≡ line_at n i j) (λ same found.
     writes_back R P refl refl is_R is_P r u refl refl refl refl refl (λ v' w good_w.

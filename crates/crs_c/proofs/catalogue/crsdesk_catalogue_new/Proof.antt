@@ -29,7 +29,7 @@ crsdesk_catalogue_new_spec 𝓤 𝓛 𝓜 𝓡 wired =
     enter ! _ _ _ _ _ $ alloc_all ! (λ l. pass_all ! refl (h.2, ((tt, tt), ((tt, record { fits = are.1.1.0.1 }), tt))) $
     sets ! (of_opd ! (get ! refl)) refl (tt, tt) $
     move ! (1 ∷ []) $ nothing ! $ owned ! u32 _ (uint_Makes 𝓛 w32) k _ (refl, are.1.1.0.1) $ join ! $ move ! (1 ∷ 0 ∷ []) $ join ! $ nothing ! $ join ! $
-    hands_over ! (framed 𝓤 𝓛.H 𝓜 𝓣) g.ended (g.clauses 𝓛 𝓜.mem 𝓡.returns) (met 𝓤 𝓛 𝓜 𝓡 (code.calls-crs_c::calls_catalogue::new_catalogue 𝓡.env wired))
+    hands_over ! (framed 𝓤 𝓛.H 𝓜 𝓣) g.ended (g.clauses 𝓛 𝓜.mem 𝓡.returns) (met 𝓤 𝓛 𝓜 𝓡 (code.calls-crs_c::calls::catalogue::new_catalogue 𝓡.env wired))
     ((κs, qs, tt, (a, (k, tt)), (h.0 ∷ [], (vint w32 k ∷ [], tt))), tt) (id⊢ 𝓤 _) (and_then ! (get ! refl) (and_then ! (get ! refl) (no_more !))) (λ u r ws.
     heard ! (IsMadeEmpty k r.0 r.1) (λ told.
     pair_out ! R u32 refl refl (catalogue_laws.lawful 𝓛) (uint_Lawful 𝓛 w32) r u (λ v w good good_w eu fits.

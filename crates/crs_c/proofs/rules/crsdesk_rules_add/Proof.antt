@@ -1,8 +1,8 @@
 use Rattle.crs_c.proofs.Held.{held_at, hands_over, writes_back, dropped, goes_dropped, ends}
 use Rattle.crs_c.proofs.Steps.{[], ◌∷◌, ◌++◌, refl, proved, full_share, id⊢, sep, sem, ftrue, flft, named, fact, tables, ‵, ◌⊛◌, prop, ◌$◌, ◌∵◌, !, qed, done, move, drop, show, split, join, fsplit, suffices, frame, enter, of_opd, load, look, stop, no_more, and_then, returns, alloc_all, pass_all, free_all, look_at, get, through, sets, u8, Ptr, block_ptr, lies_at, rawptr_vals, rawptr_Tells, shr_slice_vals, shr_slice_Tells, types_at, owns, nothing, heard, walk_of, says, framed, WpFn, rules_row, rules_laws, rules_at, HeldParts}
 use Rattle.crs_c.specs.RulesCalls.{IsFileRead}
-use Rattle.crs_c.specs.contracts.calls_rules.RulesStanding as told_type
-use Rattle.crs_c.proofs.calls_rules.RulesStanding.TheLaws as told_laws
+use Rattle.crs_c.specs.contracts.calls.rules.RulesStanding as told_type
+use Rattle.crs_c.proofs.calls.rules.RulesStanding.TheLaws as told_laws
 use Rattle.crs_c.specs.contracts.rules.crsdesk_rules_add as f
 use Rattle.crs_c.proofs.rules.crsdesk_rules_add.Statement.{statement}
 use Rattle.crs_c.proofs.rules.crsdesk_rules_add.Code as code
@@ -31,7 +31,7 @@ crsdesk_rules_add_spec 𝓤 𝓛 𝓜 𝓡 wired =
     sets ! (of_opd ! (get ! refl)) refl good $
     nothing ! $ move ! (3 ∷ 0 ∷ []) $ join ! $ move ! (1 ∷ 0 ∷ []) $ join ! $
     move ! (2 ∷ 0 ∷ []) $ join ! $
-    hands_over ! (framed 𝓤 𝓛.H 𝓜 𝓣) g.ended (g.clauses 𝓛 𝓜.mem 𝓡.returns) (met 𝓤 𝓛 𝓜 𝓡 (code.calls-crs_c::calls_rules::add_file 𝓡.env wired))
+    hands_over ! (framed 𝓤 𝓛.H 𝓜 𝓣) g.ended (g.clauses 𝓛 𝓜.mem 𝓡.returns) (met 𝓤 𝓛 𝓜 𝓡 (code.calls-crs_c::calls::rules::add_file 𝓡.env wired))
     ((κs, qs, tt, (n, (s, tt)), (v ∷ [], (shr_slice_vals s, tt))), tt) (id⊢ 𝓤 _) (and_then ! (get ! refl) (and_then ! (get ! refl) (no_more !))) (λ u r ws.
     heard ! (IsFileRead s.now n r.0 r.1) (λ told.
     writes_back R P refl refl is_R is_P r u refl refl refl refl refl (λ v' w good_w.

@@ -1,8 +1,8 @@
 use Rattle.crs_c.proofs.Held.{held_at, hands_over, writes_back, dropped, goes_dropped, ends}
 use Rattle.crs_c.proofs.Steps.{[], ◌∷◌, ◌++◌, refl, w32, proved, full_share, id⊢, sep, sem, ftrue, flft, named, vint, fact, tables, ‵, ◌⊛◌, prop, ◌$◌, ◌∵◌, !, qed, done, move, drop, show, split, join, fsplit, suffices, frame, enter, of_opd, load, look, stop, no_more, and_then, returns, alloc_all, pass_all, free_all, look_at, get, through, sets, u8, u32, uint_Makes, uint_vals, uint_Tells, Ptr, block_ptr, lies_at, rawptr_vals, rawptr_Tells, shr_slice_vals, shr_slice_Tells, types_at, owns, nothing, owned, heard, walk_of, says, framed, WpFn, rules_row, rules_laws, rules_at, HeldParts}
 use Rattle.crs_c.specs.RulesCalls.{IsFormed}
-use Rattle.crs_c.specs.contracts.calls_rules.Form as told_type
-use Rattle.crs_c.proofs.calls_rules.Form.TheLaws as told_laws
+use Rattle.crs_c.specs.contracts.calls.rules.Form as told_type
+use Rattle.crs_c.proofs.calls.rules.Form.TheLaws as told_laws
 use Rattle.crs_c.specs.contracts.rules.crsdesk_rules_form as f
 use Rattle.crs_c.proofs.rules.crsdesk_rules_form.Statement.{statement}
 use Rattle.crs_c.proofs.rules.crsdesk_rules_form.Code as code
@@ -31,7 +31,7 @@ crsdesk_rules_form_spec 𝓤 𝓛 𝓜 𝓡 wired =
     sets ! (of_opd ! (get ! refl)) refl good $
     nothing ! $ move ! (3 ∷ 0 ∷ []) $ join ! $ owned ! u32 _ (uint_Makes 𝓛 w32) i _ (refl, are.1.0.1) $ join ! $ move ! (1 ∷ 0 ∷ []) $ join ! $
     move ! (2 ∷ 0 ∷ []) $ join ! $
-    hands_over ! (framed 𝓤 𝓛.H 𝓜 𝓣) g.ended (g.clauses 𝓛 𝓜.mem 𝓡.returns) (met 𝓤 𝓛 𝓜 𝓡 (code.calls-crs_c::calls_rules::make_form 𝓡.env wired))
+    hands_over ! (framed 𝓤 𝓛.H 𝓜 𝓣) g.ended (g.clauses 𝓛 𝓜.mem 𝓡.returns) (met 𝓤 𝓛 𝓜 𝓡 (code.calls-crs_c::calls::rules::make_form 𝓡.env wired))
     ((κs, qs, tt, (n, (i, (s, tt))), (v ∷ [], (vint w32 i ∷ [], (shr_slice_vals s, tt)))), tt) (id⊢ 𝓤 _) (and_then ! (get ! refl) (and_then ! (get ! refl) (and_then ! (get ! refl) (no_more !)))) (λ u r ws.
     heard ! (IsFormed i s.now n r.0 r.1) (λ told.
     writes_back R P refl refl is_R is_P r u refl refl refl refl refl (λ v' w good_w.

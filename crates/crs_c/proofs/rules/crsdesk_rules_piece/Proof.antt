@@ -27,7 +27,7 @@ crsdesk_rules_piece_spec 𝓤 𝓛 𝓜 𝓡 wired =
     sets ! (of_opd ! (get ! refl)) refl good $
     nothing ! $ owned ! usize _ (uint_Makes 𝓛 w64) i _ (refl, are.1.0.1) $ join ! $
     move ! (1 ∷ 0 ∷ []) $ join ! $ nothing ! $ join ! $
-    hands_over ! (framed 𝓤 𝓛.H 𝓜 𝓣) g.ended (g.clauses 𝓛 𝓜.mem 𝓡.returns) (met 𝓤 𝓛 𝓜 𝓡 (code.calls-crs_c::calls_rules::form_piece 𝓡.env wired))
+    hands_over ! (framed 𝓤 𝓛.H 𝓜 𝓣) g.ended (g.clauses 𝓛 𝓜.mem 𝓡.returns) (met 𝓤 𝓛 𝓜 𝓡 (code.calls-crs_c::calls::rules::form_piece 𝓡.env wired))
     ((κs, qs, tt, (n, (i, tt)), (v ∷ [], (vint w64 i ∷ [], tt))), tt) (id⊢ 𝓤 _) (and_then ! (get ! refl) (and_then ! (get ! refl) (no_more !))) (λ u r ws.
     both_heard ! (r.0 ≡ n) (IsPiece i r.1 n.form) (λ same found.
     writes_back R P refl refl is_R is_P r u refl refl refl refl refl (λ v' w good_w.

@@ -2,7 +2,7 @@ use Rattle.std.proofs.Common.{rules, sym, arith, ◌∙◌}
 use Rattle.crs_text.specs.Prelude.{arguments}
 use Rattle.crs_shape.specs.declared.class.Class.TheVariants as class
 use Rattle.crs_value.specs.Prelude.{item_at, those, ReadsAxis}
-use Rattle.crs_writer.proofs.LeavesAxisLemmas.{counting-less, seeking-first, seeking-on}
+use Rattle.crs_writer.proofs.CountedAxisLemmas.{counting-less, seeking-first, seeking-on}
 use Rattle.crs_writer.proofs.axes.axis_at.Goals as goal
 
 pub loop-at-init : goal.loop-at-init

@@ -5,7 +5,7 @@ use Rattle.std.specs.List.{list_all}
 use Rattle.crs_text.specs.Prelude.{item_text}
 use Rattle.crs_value.specs.Prelude.{IsParameter, ParameterParts}
 use Rattle.crs_value.specs.Sound.{Each}
-use Rattle.crs_same.specs.MatchingPrelude.{SameParameter}
+use Rattle.crs_same.specs.Prelude.{SameParameter}
 use Rattle.crs_normal.specs.Prelude.{in_order, item_parameter, norm_parameter, set_parameters}
 use Rattle.crs_normal.proofs.members.AgreeLemmas.{parameter-told}
 use Rattle.crs_normal.proofs.members.SetLemmas.{each-has, each-in_order, each-of, set-has}

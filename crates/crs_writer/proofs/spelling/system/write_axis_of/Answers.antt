@@ -5,7 +5,7 @@ use Rattle.crs_shape.specs.declared.class.Class.TheVariants as class
 use Rattle.crs_value.specs.Prelude.{ReadsAxisMeridian, ReadsUnit}
 use Rattle.crs_normal.specs.Prelude.{whole_value}
 use Rattle.crs_writer.specs.inner.Node.{item}
-use Rattle.crs_writer.specs.declared.node.Node.{Node}
+use Rattle.crs_writer.specs.declared.nodes.node.Node.{Node}
 use Rattle.crs_writer.proofs.FoundLemmas.{first-said}
 use Rattle.crs_writer.proofs.FlatLemmas.{through}
 use Rattle.crs_writer.proofs.SystemLemmas.{placed}

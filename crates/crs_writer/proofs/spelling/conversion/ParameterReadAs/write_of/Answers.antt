@@ -1,6 +1,6 @@
 use Rattle.crs_value.specs.Prelude.{ReadsUnit}
 use Rattle.crs_writer.specs.inner.Node.{item}
-use Rattle.crs_writer.specs.declared.node.Node.{Node}
+use Rattle.crs_writer.specs.declared.nodes.node.Node.{Node}
 use Rattle.crs_writer.proofs.CopyLemmas.{copy-writes}
 use Rattle.crs_writer.proofs.FlatLemmas.{through, written}
 use Rattle.crs_writer.proofs.spelling.conversion.ParameterReadAs.write_of.Goals as goal

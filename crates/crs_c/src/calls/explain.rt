@@ -1,0 +1,112 @@
+//! The kind of the CRS that a text spells, or why it is refused, explained to a person, and as data.
+ghost use Rattle.std.specs.Prelude.{IfOk, MatchOption, MatchResult};
+ghost use Rattle.crs_value.specs.SpellsText.{IsFaultOfText, Refuses, SpellsKind};
+ghost use Rattle.crs_canon.specs.MainTheorem.{IsAccepted};
+ghost use Rattle.crs_explain.specs.Explained.{AreExplainedPieces};
+ghost use Rattle.crs_c.specs.Explain.{IsExplanation};
+ghost use Rattle.crs_c.specs.ExplainPieces.{IsExplanationGiven};
+ghost use Rattle.crs_c.specs.PieceBuffers.{buffers_of};
+
+use crate::calls::buffer::give_pieces;
+use crate::calls::codes::{OK, REFUSED};
+use crate::calls::refused::{Refused, place_and_number};
+use crs_explain::{ExplanationPieces, refusal_pieces, refusal_text};
+use crs_text::{Fault, Refusal, read_items};
+use crs_value::{Kind, kind_of, laws};
+use std::alloc::{AllocError, Global};
+
+/// The kind of the CRS that a text spells; no value is built.
+pub fn kind_of_text(alloc: Global, text: &[u8]) -> Result<Kind, Fault>
+    ensures { MatchResult result (SpellsKind text.now) (IsFaultOfText text.now) }
+{
+    match read_items(alloc, text) {
+        Ok(items) => match kind_of(&items) {
+            Ok(kind) => Ok(kind),
+            Err(refusal) => Err(Fault::Refused(refusal)),
+        },
+        Err(fault) => Err(fault),
+    }
+}
+
+// The refusal of a text; none where it spells a CRS.
+#[tactic(auto, using(crate::proofs::ExplainLemmas::refused_text))]
+fn refusal_of(alloc: Global, text: &[u8]) -> Result<Option<Refusal>, AllocError>
+    ensures { IfOk result (λ found. MatchOption found (IsAccepted text.now) (Refuses text.now)) }
+{
+    match kind_of_text(alloc, text) {
+        Ok(_) => Ok(None),
+        Err(fault) => match fault.refusal() {
+            Some(refusal) => Ok(Some(refusal)),
+            None => Err(AllocError),
+        },
+    }
+}
+
+/// The explanation of a text's refusal; nothing of a text that spells a CRS.
+pub fn explanation(alloc: Global, text: &[u8]) -> Result<Vec<u8>, AllocError>
+    ensures { IfOk result (λ told. IsExplanation text.now told.items) }
+{
+    laws::one_answer();
+    match refusal_of(alloc, text)? {
+        Some(refusal) => refusal_text(alloc, text, refusal),
+        None => Ok(Vec::new(alloc)),
+    }
+}
+
+/// A text's refusal, and its explanation in pieces; none of a text that spells a CRS.
+pub fn explained_refusal(
+    alloc: Global,
+    text: &[u8],
+) -> Result<Option<(Refusal, ExplanationPieces)>, AllocError>
+    ensures { IfOk result (λ found. MatchOption found (IsAccepted text.now)
+        (λ e. Refuses text.now e.0 × AreExplainedPieces text.now e.0 e.1)) }
+{
+    laws::one_answer();
+    match refusal_of(alloc, text)? {
+        Some(refusal) => {
+            let told = refusal_pieces(alloc, text, refusal)?;
+            Ok(Some((refusal, told)))
+        }
+        None => Ok(None),
+    }
+}
+
+/// A refusal, and where its place is as a person counts: `struct crsdesk_explained` of C. Profile.
+#[repr(C)]
+#[derive(Drop)]
+pub struct Explained {
+    /// The refusal.
+    pub refused: Refused,
+    /// The line of its place, counted from 1.
+    pub line: usize,
+    /// The character of that line at its place, counted from 1.
+    pub column: usize,
+    /// Where the node begins in which something else is expected; 0 where that isn't known.
+    pub node: usize,
+}
+
+/// Gives the explanation of a refusal in pieces.
+#[tactic(auto, unfolding(crate::specs::ExplainPieces::IsExplanationGiven))]
+pub fn give_explanation(
+    refusal: Refusal,
+    told: &ExplanationPieces,
+    out: &mut [u8],
+    length: &mut usize,
+    ends: &mut [usize],
+    count: &mut usize,
+    explained: &mut Explained,
+) -> u32
+    ensures { IsExplanationGiven refusal told.now
+        (record { buffers = buffers_of out.old length.old ends.old count.old; explained = explained.old })
+        (record { buffers = buffers_of out.new length.new ends.new count.new; explained = explained.new })
+        result }
+{
+    *explained = Explained {
+        refused: place_and_number(refusal),
+        line: told.line,
+        column: told.column,
+        node: told.node,
+    };
+    let given = give_pieces(&told.pieces, out, length, ends, count);
+    if given == OK { REFUSED } else { given }
+}

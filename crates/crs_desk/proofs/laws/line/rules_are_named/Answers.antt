@@ -1,0 +1,14 @@
+use Rattle.std.proofs.Common.{[], ◌∷◌, codes, refl}
+use Rattle.clap.proofs.OnLiterals.{clap_on_literals}
+use Rattle.crs_desk.proofs.AskedLemmas.{canon, literal, plainly_given, same, words_asked}
+use Rattle.crs_desk.proofs.laws.line.rules_are_named.Goals as goal
+
+pub returns : goal.returns
+unfolding clap_on_literals
+returns c = record {
+  canon = λ program file usual. words_asked canon program (literal (codes "--rules") ∷ plainly_given file usual ∷ []) refl;
+  twice = λ program one other. refl;
+  same = λ program file first second usual one other.
+      words_asked same program (literal (codes "--rules") ∷ plainly_given file usual ∷ plainly_given first one ∷ plainly_given second other ∷ []) refl;
+  check = λ program file. refl;
+}

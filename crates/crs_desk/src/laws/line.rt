@@ -1,0 +1,171 @@
+//! Laws of the definitions, as contracts of functions that do nothing.
+ghost use Rattle.std.specs.Prelude.{◌≡◌, ◌≢◌, ◌<◌, ℕ, [], ◌∷◌, ◌++◌, List, Some, IsSome, true, false, codes};
+ghost use Rattle.std.specs.List.{list_all};
+ghost use Rattle.clap.specs.Words.{Text, takes};
+ghost use Rattle.crs_desk.specs.Requests.{level_alone, standard};
+ghost use Rattle.crs_desk.specs.CommandLine.{asked, desk, is_plain_word};
+ghost use Rattle.crs_desk.specs.declared.line.requests.Layout.TheVariants.{Lines, OneText};
+ghost use Rattle.crs_desk.specs.declared.line.requests.Request.TheVariants.{Canon, Check, Same, Group, Texts, Files};
+ghost use Rattle.crs_desk.specs.declared.line.requests.Task.TheVariants as task;
+
+/// A line that the command takes asks for something: no text of `same` is missing there.
+#[tactic(auto, using(crate::proofs::CommandLemmas::taken_asks))]
+pub fn taken_line_asks()
+    ensures { (words : List Text) → takes desk words ≡ true → IsSome (asked words) }
+{}
+
+/// The two words after `same` are the texts where neither is a flag, and any two after `same --`. The level is `full`
+/// there. The word after `--level` is the level of `same`, before the two texts and after them, where no word is a
+/// flag. `same` is taken neither alone nor with one word. A first word that begins as a flag, a hyphen (45) and an
+/// ASCII character, but for `--`, is no text of `same`.
+pub fn same_takes_two_texts()
+    ensures plain { (program first second : Text) → is_plain_word first ≡ true → is_plain_word second ≡ true →
+        asked (program ∷ codes "same" ∷ first ∷ second ∷ []) ≡ Some (Same first second (codes "full")) }
+    ensures dashes { (program first second : Text) →
+        asked (program ∷ codes "same" ∷ codes "--" ∷ first ∷ second ∷ []) ≡ Some (Same first second (codes "full")) }
+    ensures before { (program level first second : Text) → is_plain_word level ≡ true →
+        is_plain_word first ≡ true → is_plain_word second ≡ true →
+        asked (program ∷ codes "same" ∷ codes "--level" ∷ level ∷ first ∷ second ∷ [])
+        ≡ Some (Same first second level) }
+    ensures after { (program level first second : Text) → is_plain_word level ≡ true →
+        is_plain_word first ≡ true → is_plain_word second ≡ true →
+        asked (program ∷ codes "same" ∷ first ∷ second ∷ codes "--level" ∷ level ∷ [])
+        ≡ Some (Same first second level) }
+    ensures none { (program : Text) → takes desk (program ∷ codes "same" ∷ []) ≡ false }
+    ensures one { (program word : Text) → takes desk (program ∷ codes "same" ∷ word ∷ []) ≡ false }
+    ensures flag { (program rest second : Text) (byte : ℕ) → byte < 128 → 45 ∷ byte ∷ rest ≢ codes "--" →
+        takes desk (program ∷ codes "same" ∷ (45 ∷ byte ∷ rest) ∷ second ∷ []) ≡ false }
+{}
+
+/// The word after `--level` is the level of `canon` and of `group`, where it is no flag. `canon` and `group` alone are
+/// at the level `full`. `check` has no level. `--level` is neither given twice nor without a level.
+pub fn the_level_is_a_word()
+    ensures canon { (program level : Text) → is_plain_word level ≡ true →
+        asked (program ∷ codes "canon" ∷ codes "--level" ∷ level ∷ []) ≡ Some (Canon level) }
+    ensures group { (program level : Text) → is_plain_word level ≡ true →
+        asked (program ∷ codes "group" ∷ codes "--level" ∷ level ∷ []) ≡ Some (Group level) }
+    ensures usual_canon { (program : Text) → asked (program ∷ codes "canon" ∷ []) ≡ Some (Canon (codes "full")) }
+    ensures usual_group { (program : Text) → asked (program ∷ codes "group" ∷ []) ≡ Some (Group (codes "full")) }
+    ensures check { (program level : Text) →
+        takes desk (program ∷ codes "check" ∷ codes "--level" ∷ level ∷ []) ≡ false }
+    ensures once { (program one other : Text) →
+        takes desk (program ∷ codes "canon" ∷ (codes "--level=" ++ one) ∷ (codes "--level=" ++ other) ∷ []) ≡ false }
+    ensures whole { (program : Text) → takes desk (program ∷ codes "canon" ∷ codes "--level" ∷ []) ≡ false }
+{}
+
+/// With `--repeated`, before the level or after it, `group` writes the groups of two lines or more; with `--names` it
+/// writes names for numbers, with `--json` objects.
+pub fn group_has_flags()
+    ensures repeated { (program : Text) → asked (program ∷ codes "group" ∷ codes "--repeated" ∷ [])
+        ≡ Some (Texts (task.Group (codes "full") (record { repeated = true; names = false; json = false })) [] []) }
+    ensures names { (program : Text) → asked (program ∷ codes "group" ∷ codes "--names" ∷ [])
+        ≡ Some (Texts (task.Group (codes "full") (record { repeated = false; names = true; json = false })) [] []) }
+    ensures json { (program : Text) → asked (program ∷ codes "group" ∷ codes "--json" ∷ [])
+        ≡ Some (Texts (task.Group (codes "full") (record { repeated = false; names = false; json = true })) [] []) }
+    ensures both { (program : Text) → asked (program ∷ codes "group" ∷ codes "--names" ∷ codes "--repeated" ∷ [])
+        ≡ Some (Texts (task.Group (codes "full") (record { repeated = true; names = true; json = false })) [] []) }
+    ensures before { (program level : Text) → is_plain_word level ≡ true →
+        asked (program ∷ codes "group" ∷ codes "--repeated" ∷ codes "--level" ∷ level ∷ [])
+        ≡ Some (Texts (task.Group level (record { repeated = true; names = false; json = false })) [] []) }
+    ensures after { (program level : Text) → is_plain_word level ≡ true →
+        asked (program ∷ codes "group" ∷ codes "--level" ∷ level ∷ codes "--repeated" ∷ [])
+        ≡ Some (Texts (task.Group level (record { repeated = true; names = false; json = false })) [] []) }
+{}
+
+/// With `--lines`, before the level or after it, `canon` takes each line as a text. `check` takes each line as a text
+/// where `--lines` is there, and one text else. `--lines` is neither given twice nor with a value, and `group`, which
+/// reads lines anyway, has no such flag.
+pub fn canon_and_check_have_lines()
+    ensures canon { (program : Text) →
+        asked (program ∷ codes "canon" ∷ codes "--lines" ∷ []) ≡ Some (Texts (task.Canon (codes "full") Lines) [] []) }
+    ensures before { (program level : Text) → is_plain_word level ≡ true →
+        asked (program ∷ codes "canon" ∷ codes "--lines" ∷ codes "--level" ∷ level ∷ [])
+        ≡ Some (Texts (task.Canon level Lines) [] []) }
+    ensures after { (program level : Text) → is_plain_word level ≡ true →
+        asked (program ∷ codes "canon" ∷ codes "--level" ∷ level ∷ codes "--lines" ∷ [])
+        ≡ Some (Texts (task.Canon level Lines) [] []) }
+    ensures check { (program : Text) →
+        asked (program ∷ codes "check" ∷ codes "--lines" ∷ []) ≡ Some (Texts (task.Check Lines) [] []) }
+    ensures check_alone { (program : Text) → asked (program ∷ codes "check" ∷ []) ≡ Some Check }
+    ensures canon_twice { (program : Text) →
+        takes desk (program ∷ codes "canon" ∷ codes "--lines" ∷ codes "--lines" ∷ []) ≡ false }
+    ensures check_twice { (program : Text) →
+        takes desk (program ∷ codes "check" ∷ codes "--lines" ∷ codes "--lines" ∷ []) ≡ false }
+    ensures bare { (program value : Text) →
+        takes desk (program ∷ codes "canon" ∷ (codes "--lines=" ++ value) ∷ []) ≡ false }
+    ensures group { (program : Text) → takes desk (program ∷ codes "group" ∷ codes "--lines" ∷ []) ≡ false }
+{}
+
+/// A line asks for `explain` of standard input, of one text or of two, where no word is a flag, and of any two after
+/// `--`. The level is `full` there. The word after `--level` is the level of `explain`, alone, before two texts and
+/// after them, where no word is a flag. With `--json` `explain` is asked for JSON. The words after each `--first=` say
+/// which parts `explain` is to tell first.
+pub fn explain_takes_texts_and_options()
+    ensures alone { (program : Text) →
+        asked (program ∷ codes "explain" ∷ []) ≡ Some (Texts (task.Explain (level_alone (codes "full"))) [] []) }
+    ensures one { (program first : Text) → is_plain_word first ≡ true →
+        asked (program ∷ codes "explain" ∷ first ∷ [])
+        ≡ Some (Texts (task.Explain (level_alone (codes "full"))) (first ∷ []) []) }
+    ensures two { (program first second : Text) → is_plain_word first ≡ true → is_plain_word second ≡ true →
+        asked (program ∷ codes "explain" ∷ first ∷ second ∷ [])
+        ≡ Some (Texts (task.Explain (level_alone (codes "full"))) (first ∷ second ∷ []) []) }
+    ensures dashes { (program first second : Text) →
+        asked (program ∷ codes "explain" ∷ codes "--" ∷ first ∷ second ∷ [])
+        ≡ Some (Texts (task.Explain (level_alone (codes "full"))) (first ∷ second ∷ []) []) }
+    ensures level { (program level : Text) → is_plain_word level ≡ true →
+        asked (program ∷ codes "explain" ∷ codes "--level" ∷ level ∷ [])
+        ≡ Some (Texts (task.Explain (level_alone level)) [] []) }
+    ensures before { (program level first second : Text) → is_plain_word level ≡ true →
+        is_plain_word first ≡ true → is_plain_word second ≡ true →
+        asked (program ∷ codes "explain" ∷ codes "--level" ∷ level ∷ first ∷ second ∷ [])
+        ≡ Some (Texts (task.Explain (level_alone level)) (first ∷ second ∷ []) []) }
+    ensures after { (program level first second : Text) → is_plain_word level ≡ true →
+        is_plain_word first ≡ true → is_plain_word second ≡ true →
+        asked (program ∷ codes "explain" ∷ first ∷ second ∷ codes "--level" ∷ level ∷ [])
+        ≡ Some (Texts (task.Explain (level_alone level)) (first ∷ second ∷ []) []) }
+    ensures json { (program : Text) → asked (program ∷ codes "explain" ∷ codes "--json" ∷ [])
+        ≡ Some (Texts (task.Explain (record { level = codes "full"; json = true; order = [] })) [] []) }
+    ensures once { (program word : Text) → asked (program ∷ codes "explain" ∷ (codes "--first=" ++ word) ∷ [])
+        ≡ Some (Texts (task.Explain (record { level = codes "full"; json = false; order = word ∷ [] })) [] []) }
+    ensures twice { (program one other : Text) →
+        asked (program ∷ codes "explain" ∷ (codes "--first=" ++ one) ∷ (codes "--first=" ++ other) ∷ [])
+        ≡ Some (Texts (task.Explain (record { level = codes "full"; json = false; order = one ∷ other ∷ [] })) [] []) }
+{}
+
+/// The words after `canon`, `check` and `group` are files, however many they are, where no word is a flag. The level is
+/// `full` there. The two words after `same --files` are files, and so are one or two after `explain --files`, where no
+/// word is a flag.
+pub fn words_are_files()
+    ensures canon { (program name : Text) (names : List Text) → list_all is_plain_word (name ∷ names) ≡ true →
+        asked (program ∷ codes "canon" ∷ name ∷ names) ≡ Some (Files (task.Canon (codes "full") OneText) (name ∷ names) []) }
+    ensures check { (program name : Text) (names : List Text) → list_all is_plain_word (name ∷ names) ≡ true →
+        asked (program ∷ codes "check" ∷ name ∷ names) ≡ Some (Files (task.Check OneText) (name ∷ names) []) }
+    ensures group { (program name : Text) (names : List Text) → list_all is_plain_word (name ∷ names) ≡ true →
+        asked (program ∷ codes "group" ∷ name ∷ names)
+        ≡ Some (Files (task.Group (codes "full") (record { repeated = false; names = false; json = false })) (name ∷ names) []) }
+    ensures same { (program first second : Text) → is_plain_word first ≡ true → is_plain_word second ≡ true →
+        asked (program ∷ codes "same" ∷ codes "--files" ∷ first ∷ second ∷ [])
+        ≡ Some (Files (task.Same (codes "full")) (first ∷ second ∷ []) []) }
+    ensures one { (program first : Text) → is_plain_word first ≡ true →
+        asked (program ∷ codes "explain" ∷ codes "--files" ∷ first ∷ [])
+        ≡ Some (Files (task.Explain (level_alone (codes "full"))) (first ∷ []) []) }
+    ensures two { (program first second : Text) → is_plain_word first ≡ true → is_plain_word second ≡ true →
+        asked (program ∷ codes "explain" ∷ codes "--files" ∷ first ∷ second ∷ [])
+        ≡ Some (Files (task.Explain (level_alone (codes "full"))) (first ∷ second ∷ []) []) }
+{}
+
+/// The words after each `--rules` are rules files, where no word is a flag: a task over standard input, where the line
+/// names no file, or over two texts is under their rules. `check` has none.
+pub fn rules_are_named()
+    ensures canon { (program file : Text) → is_plain_word file ≡ true →
+        asked (program ∷ codes "canon" ∷ codes "--rules" ∷ file ∷ [])
+        ≡ Some (Files (task.Canon (codes "full") OneText) standard (file ∷ [])) }
+    ensures twice { (program one other : Text) →
+        asked (program ∷ codes "canon" ∷ (codes "--rules=" ++ one) ∷ (codes "--rules=" ++ other) ∷ [])
+        ≡ Some (Files (task.Canon (codes "full") OneText) standard (one ∷ other ∷ [])) }
+    ensures same { (program file first second : Text) → is_plain_word file ≡ true →
+        is_plain_word first ≡ true → is_plain_word second ≡ true →
+        asked (program ∷ codes "same" ∷ codes "--rules" ∷ file ∷ first ∷ second ∷ [])
+        ≡ Some (Texts (task.Same (codes "full")) (first ∷ second ∷ []) (file ∷ [])) }
+    ensures check { (program file : Text) → takes desk (program ∷ codes "check" ∷ codes "--rules" ∷ file ∷ []) ≡ false }
+{}

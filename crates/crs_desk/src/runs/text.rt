@@ -1,0 +1,213 @@
+//! What a text spells, and the runs over one text that write a line for it: its canonical text, its kind, or its refusal.
+ghost use Rattle.std.specs.Prelude.{◌≡◌, ◌<◌, ◌≤◌, ◌↔◌, IfOk, IfErr, IsErrOf, true, false, ◌++◌, ◌∷◌, [], codes, ℕ};
+ghost use Rattle.std.specs.Prelude.{List, MatchResult, Some};
+ghost use Rattle.crs_desk.specs.Ending.{IsAnswered, IsRunFault};
+ghost use Rattle.crs_desk.specs.Output.{IsCanonOutput, IsCheckOutput, kind_word};
+ghost use Rattle.crs_streams.specs.Streams.{fresh_sink, fresh_source};
+ghost use Rattle.crs_text.specs.Refusal.{refused_text};
+ghost use Rattle.crs_text.specs.Fault.{refusal_of};
+ghost use Rattle.crs_value.specs.SpellsText.{IsFaultOfText, SpellsKind, Refuses};
+ghost use Rattle.crs_desk.specs.inner.Pieces.{IsWholeHeld};
+
+use crate::runs::answer::{Answer, ForText, TextCommand, write_answer};
+use crate::runs::reading::{read_pieces, read_text};
+use crate::{Level, RunFault, Sink, Source};
+use crs_streams::append_refusal;
+use crs_text::{Fault, Feeder, Refusal, laws, read_items};
+use crs_value::{Kind, kind_of};
+use crs_writer::canon;
+use std::alloc::{AllocError, Global};
+use std::io::{Read, Write};
+
+/// Reads a text to its end, and writes a line: the canonical text at a level of a text that spells a CRS, with status
+/// 0, else the refusal, with status 1. Faults are those of `run_text`. Profile.
+pub fn run_canon<R: Read, W: Write>(
+    alloc: Global,
+    level: Level,
+    r: &mut Source<R>,
+    w: &mut Sink<W>,
+) -> Result<u8, RunFault>
+    requires source { r.old ≡ fresh_source r.old.remaining }
+    requires sink { w.old ≡ fresh_sink w.old.contents }
+    ensures answered { IfOk result (IsAnswered (IsCanonOutput level) r.old r.new w.old w.new) }
+    ensures reads { r.new.reads ≤ 1048576 }
+    ensures past_end { r.new.past_end ≡ false }
+    ensures fault { IfErr result (IsRunFault r.new w.old w.new) }
+    ensures read_failed { IsErrOf result RunFault.ReadFailed ↔ (r.new.failed ≡ true) }
+    ensures write_failed { IsErrOf result RunFault.WriteFailed ↔ (w.new.failed ≡ true) }
+    ensures past_failure { w.new.past_failure ≡ false }
+    ensures too_long { IsErrOf result (RunFault.TooLong 0) ↔ (1048576 < r.new.taken) × (r.new.failed ≡ false) }
+{
+    run_text(alloc, CanonText { level }, r, w)
+}
+
+/// Reads a text to its end, and writes what a command answers for it. `ReadFailed` and `WriteFailed` where the source or
+/// the sink has failed, `TooLong(0)` for more than 1,048,576 bytes, `TooManyReads` where 1,048,576 reads have not shown
+/// the end, `Memory` where memory ran out. Every fault but `WriteFailed` leaves the sink untouched. Profile.
+pub fn run_text<C: TextCommand + Drop, R: Read, W: Write>(
+    alloc: Global,
+    command: C,
+    r: &mut Source<R>,
+    w: &mut Sink<W>,
+) -> Result<u8, RunFault>
+    requires source { r.old ≡ fresh_source r.old.remaining }
+    requires sink { w.old ≡ fresh_sink w.old.contents }
+    ensures answered { IfOk result (IsAnswered (C.Output command) r.old r.new w.old w.new) }
+    ensures reads { r.new.reads ≤ 1048576 }
+    ensures past_end { r.new.past_end ≡ false }
+    ensures fault { IfErr result (IsRunFault r.new w.old w.new) }
+    ensures read_failed { IsErrOf result RunFault.ReadFailed ↔ (r.new.failed ≡ true) }
+    ensures write_failed { IsErrOf result RunFault.WriteFailed ↔ (w.new.failed ≡ true) }
+    ensures past_failure { w.new.past_failure ≡ false }
+    ensures too_long { IsErrOf result (RunFault.TooLong 0) ↔ (1048576 < r.new.taken) × (r.new.failed ≡ false) }
+{
+    let bytes = read_text(alloc, r)?;
+    let text = bytes.as_slice();
+    write_answer(alloc, &ForText { command, text }, w)
+}
+
+/// `canon`, at this level. Profile.
+#[derive(Clone, Copy)]
+pub struct CanonText {
+    /// The level.
+    pub level: Level,
+}
+
+impl TextCommand for CanonText {
+    ghost use Rattle.crs_desk.specs.Output.{IsCanonOutput};
+
+    ghost Output = { λ s text written status. IsCanonOutput s.level text written status };
+
+    fn output(&self, alloc: Global, text: &[u8]) -> Result<(Vec<u8>, u8), AllocError> {
+        match canon(alloc, text, self.level) {
+            Ok(canon) => Ok((line_of(alloc, canon.bytes())?, 0)),
+            Err(fault) => Ok((refused_line(alloc, b"", refusal_in(fault)?)?, 1)),
+        }
+    }
+}
+
+/// Reads a text to its end, and writes a line: `accepted KIND` for a text that spells a CRS, with status 0, else the
+/// refusal, with status 1. Faults are those of `run_text`. Profile.
+pub fn run_check<R: Read, W: Write>(
+    alloc: Global,
+    r: &mut Source<R>,
+    w: &mut Sink<W>,
+) -> Result<u8, RunFault>
+    requires source { r.old ≡ fresh_source r.old.remaining }
+    requires sink { w.old ≡ fresh_sink w.old.contents }
+    ensures answered { IfOk result (IsAnswered IsCheckOutput r.old r.new w.old w.new) }
+    ensures reads { r.new.reads ≤ 1048576 }
+    ensures past_end { r.new.past_end ≡ false }
+    ensures fault { IfErr result (IsRunFault r.new w.old w.new) }
+    ensures read_failed { IsErrOf result RunFault.ReadFailed ↔ (r.new.failed ≡ true) }
+    ensures write_failed { IsErrOf result RunFault.WriteFailed ↔ (w.new.failed ≡ true) }
+    ensures past_failure { w.new.past_failure ≡ false }
+    ensures too_long { IsErrOf result (RunFault.TooLong 0) ↔ (1048576 < r.new.taken) × (r.new.failed ≡ false) }
+{
+    let feeder = read_pieces(alloc, r)?;
+    let found = judged(&feeder).map_err(|_| RunFault::Memory)?;
+    write_answer(alloc, &found, w)
+}
+
+// The line of a kind or of a refusal, and the status.
+impl Answer for Result<Kind, Refusal> {
+    ghost use Rattle.crs_desk.specs.Output.{WritesFound};
+
+    ghost Output = { λ s written status. WritesFound s written status };
+
+    fn output(&self, alloc: Global) -> Result<(Vec<u8>, u8), AllocError> {
+        match *self {
+            Ok(kind) => Ok((accepted_line(alloc, kind)?, 0)),
+            Err(refusal) => Ok((refused_line(alloc, b"", refusal)?, 1)),
+        }
+    }
+}
+
+/// `check`. Profile.
+#[derive(Clone, Copy)]
+pub struct CheckText;
+
+impl TextCommand for CheckText {
+    ghost use Rattle.crs_desk.specs.Output.{IsCheckOutput};
+
+    ghost Output = { λ s text written status. IsCheckOutput text written status };
+
+    fn output(&self, alloc: Global, text: &[u8]) -> Result<(Vec<u8>, u8), AllocError> {
+        let found = kind_of_text(alloc, text)?;
+        found.output(alloc)
+    }
+}
+
+/// `accepted KIND` and a line end. `AllocError`: memory ran out. Profile.
+pub fn accepted_line(alloc: Global, kind: Kind) -> Result<Vec<u8>, AllocError>
+    ensures { IfOk result (λ line. line.items ≡ (codes "accepted " ++ kind_word kind) ++ 10 ∷ []) }
+{
+    let mut line = Vec::from_slice(alloc, b"accepted ")?;
+    line.extend_from_slice(kind_word(kind).as_bytes())?;
+    line.push(b'\n')?;
+    Ok(line)
+}
+
+/// The word for a kind of CRS. Profile.
+pub fn kind_word(kind: Kind) -> &'static str
+    ensures { result.now ≡ kind_word kind }
+{
+    match kind {
+        Kind::Geodetic => "geodetic",
+        Kind::Geographic => "geographic",
+        Kind::Projected => "projected",
+        Kind::Vertical => "vertical",
+        Kind::Compound => "compound",
+    }
+}
+
+/// `refused N NAME at P` after these bytes, and a line end. `AllocError`: memory ran out. Profile.
+pub fn refused_line(alloc: Global, front: &[u8], refusal: Refusal) -> Result<Vec<u8>, AllocError>
+    ensures { IfOk result (λ line. line.items ≡ (front.now ++ refused_text refusal.number refusal.place) ++ 10 ∷ []) }
+{
+    let mut line = Vec::from_slice(alloc, front)?;
+    append_refusal(&mut line, refusal)?;
+    line.extend_from_slice(b"\n")?;
+    Ok(line)
+}
+
+/// These bytes and a line end. `AllocError`: memory ran out. Profile.
+pub fn line_of(alloc: Global, bytes: &[u8]) -> Result<Vec<u8>, AllocError>
+    ensures { IfOk result (λ line. line.items ≡ bytes.now ++ 10 ∷ []) }
+{
+    let mut line = Vec::from_slice(alloc, bytes)?;
+    line.push(b'\n')?;
+    Ok(line)
+}
+
+// The kind of the CRS that a text spells, or the refusal, by a feeder that holds the text or enough to refuse it.
+fn judged(feeder: &Feeder) -> Result<Result<Kind, Refusal>, AllocError>
+    ensures { IfOk result (λ found. (text : List ℕ) → IsWholeHeld text feeder.now →
+        MatchResult found (SpellsKind text) (Refuses text)) }
+{
+    laws::one_answer();
+    laws::settled_refusals();
+    match feeder.finish() {
+        Ok(items) => Ok(kind_of(&items)),
+        Err(fault) => Ok(Err(refusal_in(fault)?)),
+    }
+}
+
+/// The kind of the CRS that a text spells, or the refusal. `AllocError`: memory ran out. Profile.
+pub fn kind_of_text(alloc: Global, text: &[u8]) -> Result<Result<Kind, Refusal>, AllocError>
+    ensures { IfOk result (λ found. MatchResult found (SpellsKind text.now) (Refuses text.now)) }
+{
+    match read_items(alloc, text) {
+        Ok(items) => Ok(kind_of(&items)),
+        Err(fault) => Ok(Err(refusal_in(fault)?)),
+    }
+}
+
+/// The refusal in a fault: that of the text whose fault it is. `AllocError`: the fault is out of memory. Profile.
+#[tactic(auto, using(crate::proofs::JudgedLemmas::refuses_text))]
+pub fn refusal_in(fault: Fault) -> Result<Refusal, AllocError>
+    ensures answer { IfOk result (λ refusal. Some refusal ≡ refusal_of fault) }
+    ensures refuses { (text : List ℕ) → IsFaultOfText text fault → IfOk result (Refuses text) }
+{
+    fault.refusal().ok_or(AllocError)
+}

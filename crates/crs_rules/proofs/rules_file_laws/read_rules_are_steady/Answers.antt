@@ -1,8 +1,0 @@
-use Rattle.crs_rules.proofs.RulesFileSteadyLemmas.{steady, steady-alone}
-use Rattle.crs_rules.proofs.rules_file_laws.read_rules_are_steady.Goals as goal
-
-pub returns : goal.returns
-returns c = record {
-  files = steady c.denotes_one.ensures c.plain_is_the_one.ensures.denotes;
-  alone = steady-alone c.denotes_one.ensures c.plain_is_the_one.ensures.denotes;
-}

@@ -1,6 +1,0 @@
-use Rattle.std.proofs.Common.{rules}
-use Rattle.crs_writer.proofs.CopiedLemmas.{ident-copied}
-use Rattle.crs_writer.proofs.copied.ident.Goals as goal
-
-pub returns : goal.returns
-returns c = search (rules, ident-copied)
