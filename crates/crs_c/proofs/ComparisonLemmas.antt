@@ -1,7 +1,7 @@
 -- What is made of two texts, by what is made of the second.
 use Rattle.std.proofs.Common.{◌≡◌, List, Result, Ok, Err, MatchResult, ℕ, inl, inr}
 use Rattle.crs_value.specs.declared.values.crs.Crs.{Crs}
-use Rattle.crs_value.specs.Prelude.{Spells}
+use Rattle.crs_value.specs.inner.Prelude.{Spells}
 use Rattle.crs_c.specs.declared.calls.refused.Refused.{Refused}
 use Rattle.crs_c.specs.inner.Comparison.{IsMadeBehind, IsMadeOfBoth, IsPairFault, IsSecondFault}
 

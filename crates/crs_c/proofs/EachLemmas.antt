@@ -2,13 +2,13 @@
 use Rattle.std.proofs.Common.{◌≡◌, ◌≤◌, ◌<◌, ◌+◌, ◌-◌, ◌++◌, ◌∷◌, ◌⊎◌, [], ℕ, List, length, take, drop, get_or, slice_set, refl, sym, ap, subst, ◌∙◌, inl, inr, append_assoc, append-nil, arith}
 use Rattle.std.proofs.Math.Seq.{take-append_seam, drop-append-add}
 use Rattle.std.proofs.lemmas.List.{set_at, get_or_at, take_more, drop_more, drop-drop, length-append, length-drop, length-take-le, take-append-drop, drop_all}
-use Rattle.crs_text.specs.Prelude.{refusal_of}
+use Rattle.crs_text.specs.inner.Prelude.{refusal_of}
 use Rattle.crs_text.specs.declared.fault.Fault.{Fault}
 use Rattle.crs_text.specs.declared.fault.Fault.TheVariants as faults
 use Rattle.crs_value.specs.declared.values.level.Level.{Level}
 use Rattle.crs_c.specs.declared.calls.canon.Entry.{Entry}
-use Rattle.crs_value.specs.Prelude.{IsFaultOfText}
-use Rattle.crs_writer.specs.Prelude.{IsCanonicalOf}
+use Rattle.crs_value.specs.inner.Prelude.{IsFaultOfText}
+use Rattle.crs_writer.specs.inner.Prelude.{IsCanonicalOf}
 use Rattle.crs_c.specs.Each.{AreAnsweredBy, EndsAt, IsAnsweredBy, IsEachAt, NeedsMore, text_of}
 use Rattle.crs_c.specs.inner.Turns.{IsTurn, IsWritten, refused_entry, with_bytes}
 

@@ -1,7 +1,7 @@
 -- The words of a first part that differs are none exactly where no part differs.
 use Rattle.std.proofs.Common.{◌≡◌, ◌↔◌, ◌≤◌, List, [], Option, Some, None, IfSome, length, refl, ap, arith}
 use Rattle.crs_same.specs.declared.step.Step.{Step}
-use Rattle.crs_same.specs.Prelude.{path_text}
+use Rattle.crs_same.specs.inner.Prelude.{path_text}
 use Rattle.crs_c.specs.FirstPart.{words_of}
 
 pub no-words : (found : Option (List Step)) (Same : Type 0) →

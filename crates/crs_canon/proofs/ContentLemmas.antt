@@ -2,11 +2,11 @@
 use Rattle.std.proofs.Common.{◌≡◌, ◌∙◌, ℕ, List, refl, sym, ap}
 use Rattle.crs_shape.specs.declared.unit_kind.UnitKind.{UnitKind}
 use Rattle.crs_shape.specs.declared.unit_kind.UnitKind.TheVariants as kinds
-use Rattle.crs_shape.specs.Prelude.{kind_as}
-use Rattle.crs_value.specs.Prelude.{ReadsUnit, IsUnit, UnitParts}
+use Rattle.crs_shape.specs.inner.Prelude.{kind_as}
+use Rattle.crs_value.specs.inner.Prelude.{ReadsUnit, IsUnit, UnitParts}
 use Rattle.crs_value.specs.declared.values.level.Level.{Level}
-use Rattle.crs_same.specs.Prelude.{SameUnit}
-use Rattle.crs_normal.specs.Prelude.{IsSpelledUnit, unit_class, IsSpelledAs, norm_unit}
+use Rattle.crs_same.specs.inner.Prelude.{SameUnit}
+use Rattle.crs_normal.specs.inner.Prelude.{IsSpelledUnit, unit_class, IsSpelledAs, norm_unit}
 
 -- a unit where this kind is asked, by itself: `UNIT` is of that kind
 abbrev pub as_asked : UnitKind → UnitParts → UnitParts

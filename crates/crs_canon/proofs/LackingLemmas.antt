@@ -12,9 +12,9 @@ use Rattle.std.proofs.lemmas.Bool.{false≢true}
 use Rattle.std.proofs.lemmas.Bool.Decides.{Decides-not, Decides-or}
 use Rattle.std.proofs.lemmas.Result.{MatchResult-weaker}
 use Rattle.crs_value.specs.Sound.{Each}
-use Rattle.crs_normal.specs.Prelude.{Ascends, Below, IsIn, in_order, put, put_all}
+use Rattle.crs_normal.specs.inner.Prelude.{Ascends, Below, IsIn, in_order, put, put_all}
 use Rattle.crs_canon.specs.ContentText.{IsLackingText}
-use Rattle.crs_writer.specs.Prelude.{AppendsSpelling, ArePut, lacking, spellings, SpellsOneOf, comma_separated}
+use Rattle.crs_writer.specs.inner.Prelude.{AppendsSpelling, ArePut, lacking, spellings, SpellsOneOf, comma_separated}
 use Rattle.crs_canon.proofs.NamedLemmas.{from-passed, in-passed}
 use Rattle.crs_canon.proofs.SetTextLemmas.{spellings-tell}
 

@@ -1,7 +1,7 @@
 -- The laws of a type of node, from what is known of its spellings at each level.
 use Rattle.std.proofs.Common.{◌≡◌, ℕ, List, refl, subst}
 use Rattle.crs_value.specs.declared.values.level.Level.{Level}
-use Rattle.crs_normal.specs.Prelude.{IsCanonicalForm, IsWrittenForm}
+use Rattle.crs_normal.specs.inner.Prelude.{IsCanonicalForm, IsWrittenForm}
 
 pub laws : {V : Type 0} {Is : V → Type 0} {Same : Level → V → V → Type 0} {IsSpelling : Level → V → List ℕ → Type 0}
     {text : Level → V → List ℕ} {seen self : V} →

@@ -1,13 +1,13 @@
 -- Canonical texts at the two levels.
 use Rattle.std.proofs.Common.{◌≡◌, ◌↔◌, ℕ, List, subst}
-use Rattle.crs_value.specs.Prelude.{IsCrs, Spells}
+use Rattle.crs_value.specs.inner.Prelude.{IsCrs, Spells}
 use Rattle.crs_value.specs.declared.values.crs.Crs.{Crs}
 use Rattle.crs_value.specs.declared.values.level.Level.{Level}
 use Rattle.crs_value.specs.declared.values.level.Level.TheVariants as levels
-use Rattle.crs_same.specs.Prelude.{SameCrs}
-use Rattle.crs_same.specs.Prelude.{IsSamenessOf}
-use Rattle.crs_normal.specs.Prelude.{IsNormalText}
-use Rattle.crs_writer.specs.Prelude.{IsCanonicalOf}
+use Rattle.crs_same.specs.inner.Prelude.{SameCrs}
+use Rattle.crs_same.specs.inner.Prelude.{IsSamenessOf}
+use Rattle.crs_normal.specs.inner.Prelude.{IsNormalText}
+use Rattle.crs_writer.specs.inner.Prelude.{IsCanonicalOf}
 use Rattle.crs_canon.proofs.MainLemmas.{its-own}
 
 module _ (laws : (level : Level) → IsSamenessOf IsCrs (SameCrs level)) (sound : (text : List ℕ) (crs : Crs) → Spells text crs → IsCrs crs)

@@ -1,13 +1,13 @@
 -- The main theorem from its parts.
 use Rattle.std.proofs.Common.{◌≡◌, ◌↔◌, ◌⊎◌, ℕ, List, ap, subst, sym, inl, inr}
-use Rattle.crs_text.specs.Prelude.{RefusedAt}
-use Rattle.crs_value.specs.Prelude.{IsCrs, Spells, Refuses}
+use Rattle.crs_text.specs.inner.Prelude.{RefusedAt}
+use Rattle.crs_value.specs.inner.Prelude.{IsCrs, Spells, Refuses}
 use Rattle.crs_value.specs.declared.values.crs.Crs.{Crs}
 use Rattle.crs_value.specs.declared.values.level.Level.{Level}
-use Rattle.crs_same.specs.Prelude.{SameCrs}
-use Rattle.crs_same.specs.Prelude.{IsSamenessOf}
-use Rattle.crs_normal.specs.Prelude.{IsNormalText}
-use Rattle.crs_writer.specs.Prelude.{CanonicalText, IsCanonicalOf, IsCanonicalText}
+use Rattle.crs_same.specs.inner.Prelude.{SameCrs}
+use Rattle.crs_same.specs.inner.Prelude.{IsSamenessOf}
+use Rattle.crs_normal.specs.inner.Prelude.{IsNormalText}
+use Rattle.crs_writer.specs.inner.Prelude.{CanonicalText, IsCanonicalOf, IsCanonicalText}
 use Rattle.crs_canon.specs.MainTheorem.{IsAccepted, IsItsRefusal, MainTheorem, SpellSame}
 
 abbrev EqualWhereSame : Level → Type 0

@@ -4,11 +4,12 @@ use Rattle.std.specs.Option.{is_some}
 use Rattle.std.specs.Str.{bytes_eq}
 use Rattle.std.proofs.lemmas.Slice.Eq.{bytes_eq-Decides}
 use Rattle.std.proofs.lemmas.Bool.{cases_Bool, false≢true, not_from_false}
-use Rattle.crs_value.specs.Prelude.{ParameterParts}
+use Rattle.crs_value.specs.inner.Prelude.{ParameterParts}
 use Rattle.crs_value.specs.declared.values.level.Level.{Level}
-use Rattle.crs_normal.specs.Prelude.{Ascends, IsIn, IsSpelledParameter, in_order, parameter_text, put_all}
-use Rattle.crs_canon.specs.Named.{ArePairedNames, NamesTell, is_paired, named_once, of_name, only, unpaired}
-use Rattle.crs_writer.specs.Prelude.{AreSpellingsOf, ArePut}
+use Rattle.crs_normal.specs.inner.Prelude.{Ascends, IsIn, IsSpelledParameter, in_order, parameter_text, put_all}
+use Rattle.crs_canon.specs.Named.{ArePairedNames, is_paired, named_once, of_name, only, unpaired}
+use Rattle.crs_canon.specs.inner.NamesTell.{NamesTell}
+use Rattle.crs_writer.specs.inner.Prelude.{AreSpellingsOf, ArePut}
 
 -- ---- members that pass a test
 

@@ -3,9 +3,9 @@
 use Rattle.std.proofs.Common.{◌≡◌, ◌↔◌, ◌⊎◌, ⊎_elim, ℕ, List, [], ◌∷◌, ◌++◌, inl, inr, refl, sym, ◌∙◌, ap, subst}
 use Rattle.std.proofs.lemmas.List.{append-nil}
 use Rattle.crs_value.specs.Sound.{Each}
-use Rattle.crs_same.specs.Prelude.{AllHaveSame, HasSame}
-use Rattle.crs_normal.specs.Prelude.{Ascends, IsIn, IsCanonicalForm, IsClosed}
-use Rattle.crs_writer.specs.Prelude.{HaveOneTextWhereSame, IsSetText, SpellsOneOf, commas, comma_separated}
+use Rattle.crs_same.specs.inner.Prelude.{AllHaveSame, HasSame}
+use Rattle.crs_normal.specs.inner.Prelude.{Ascends, IsIn, IsCanonicalForm, IsClosed}
+use Rattle.crs_writer.specs.inner.Prelude.{HaveOneTextWhereSame, IsSetText, SpellsOneOf, commas, comma_separated}
 
 -- ---- closed texts after one another
 

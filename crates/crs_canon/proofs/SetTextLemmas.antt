@@ -1,7 +1,7 @@
 -- Spellings of values that are put in order and appended are the text of their set.
 use Rattle.std.proofs.Common.{◌≡◌, ◌↔◌, ℕ, List, [], ◌∷◌, ◌++◌, inl, inr, ⊎_elim, refl, sym, subst}
-use Rattle.crs_normal.specs.Prelude.{Ascends, IsCanonicalForm, IsIn, in_order}
-use Rattle.crs_writer.specs.Prelude.{AppendsSpelling, AreSpellingsOf, IsOnlySpelling, IsSetText, SpellsOneOf, comma_separated}
+use Rattle.crs_normal.specs.inner.Prelude.{Ascends, IsCanonicalForm, IsIn, in_order}
+use Rattle.crs_writer.specs.inner.Prelude.{AppendsSpelling, AreSpellingsOf, IsOnlySpelling, IsSetText, SpellsOneOf, comma_separated}
 
 module _ {V : Type 0} (IsSpelling : V → List ℕ → Type 0) where
   -- the text of a value is its one spelling

@@ -1,7 +1,7 @@
 -- What is appended as a text is appended as a spelling, where the text is one.
 use Rattle.std.proofs.Common.{◌≡◌, ◌++◌, ◌∙◌, [], ℕ, List, MatchResult, Ok, Err, Result, ap, if◌then◌else◌}
 use Rattle.std.specs.Result.{is_ok}
-use Rattle.crs_writer.specs.Prelude.{AppendsSpelling}
+use Rattle.crs_writer.specs.inner.Prelude.{AppendsSpelling}
 
 -- by `extend_from_slice`, of bytes that are the text
 pub extended : {T E : Type 0} (IsSpelling : List ℕ → Type 0) (before after bytes text : List ℕ) (r : Result T E) →

@@ -1,5 +1,5 @@
 pub mod Appended
 pub mod ContentText
-pub mod Examples
 pub mod MainTheorem
 pub mod Named
+pub mod inner

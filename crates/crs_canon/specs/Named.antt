@@ -1,5 +1,5 @@
 -- The members of a set of parameters by their names.
-use Rattle.std.specs.Prelude.{◌≡◌, ◌↔◌, ◌⊎◌, ◌&&◌, ℕ, Bool, true, not, nat_le, if◌then◌else◌, Option, Some, None}
+use Rattle.std.specs.Prelude.{◌≡◌, ◌↔◌, ◌&&◌, ℕ, Bool, true, not, nat_le, if◌then◌else◌, Option, Some, None}
 use Rattle.std.specs.Prelude.{List, [], ◌∷◌, length}
 use Rattle.std.specs.List.{filter}
 use Rattle.std.specs.Option.{is_some}
@@ -33,14 +33,3 @@ unpaired xs ys = filter (λ x. not (is_paired xs ys x.name)) xs
 pub record ArePairedNames (xs ys : List ParameterParts) (names : List (List ℕ)) : Type 0 where
   pub ascend : Ascends (λ name. name) names
   pub same : (name : List ℕ) → IsIn name names ↔ (is_paired xs ys name ≡ true)
-
--- what names tell of parameters
-pub record NamesTell : Type 0 where
-  -- one that is found by its name is among these, and has the name
-  pub found : (name : List ℕ) (xs : List ParameterParts) (x : ParameterParts) → named_once name xs ≡ Some x →
-      IsIn x xs × (x.name ≡ name)
-  -- each is among those that are unpaired, or is found by its name, as is one on the other side
-  pub either : (xs ys : List ParameterParts) (x : ParameterParts) → IsIn x xs → IsIn x (unpaired xs ys)
-      ⊎ ((y : ParameterParts) × (named_once x.name xs ≡ Some x) × (named_once x.name ys ≡ Some y))
-  -- those that are unpaired are among these
-  pub left : (xs ys : List ParameterParts) (x : ParameterParts) → IsIn x (unpaired xs ys) → IsIn x xs

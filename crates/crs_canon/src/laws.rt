@@ -8,9 +8,9 @@ ghost use Rattle.crs_value.specs.declared.values.level.Level.TheVariants as leve
 ghost use Rattle.crs_same.specs.SameCrs.{SameCrs};
 ghost use Rattle.crs_writer.specs.Canonical.{CanonicalText, IsCanonicalOf, IsCanonicalText};
 ghost use Rattle.crs_writer.specs.Equality.{canon_writes, canons_equal};
-ghost use Rattle.crs_canon.specs.Examples.{DigestsArePublished, DigestsAreRusts};
+ghost use Rattle.crs_canon.specs.inner.Examples.{DigestsArePublished, DigestsAreRusts};
 ghost use Rattle.crs_canon.specs.MainTheorem.{MainTheorem, SpellSame};
-ghost use Rattle.crs_canon.specs.Named.{NamesTell};
+ghost use Rattle.crs_canon.specs.inner.NamesTell.{NamesTell};
 ghost use Rattle.crs_writer.specs.SetText.{HaveOneTextWhereSame};
 
 use crate::canonical::Canonical;

@@ -92,12 +92,6 @@ is_run_byte b =
 abbrev pub is_run_start : ℕ → Bool
 is_run_start b = is_digit b || b == 46 || b == 43 || b == 45
 
--- there is a byte, the first is one that a number starts with, and all are bytes of numbers and
--- words
-abbrev pub IsRun : List ℕ → Type 0
-IsRun [] = ⊥
-IsRun (b ∷ bytes) = IsTrue (is_run_start b) × IsTrue (list_all is_run_byte (b ∷ bytes))
-
 -- ---- the number that the parts of a spelling mean, and which spellings are within the bounds
 
 -- the number that decimal digits spell

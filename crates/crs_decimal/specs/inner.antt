@@ -1,6 +1,9 @@
 pub mod Cut
+pub mod Examples
 pub mod Mantissa
 pub mod PlainBytes
+pub mod Prelude
+pub mod Run
 pub mod Short
 pub mod Sign
 pub mod Split

@@ -1,8 +1,9 @@
 //! Laws of the definitions, as contracts of functions that do nothing.
 
 ghost use Rattle.std.specs.Prelude.{◌≡◌, ℕ, ◌<◌, ◌≤◌, ◌↔◌, ◌⊎◌, List, None, length};
-ghost use Rattle.crs_decimal.specs.Spelling.{IsInBounds, Denotes, Parts, SpellsNumber, HasForm, IsRun, AreDigits, mantissa};
-ghost use Rattle.crs_decimal.specs.Examples.{SpellingsDenote, SpellingsFail, ValuesArePlain};
+ghost use Rattle.crs_decimal.specs.Spelling.{IsInBounds, Denotes, Parts, SpellsNumber, HasForm, AreDigits, mantissa};
+ghost use Rattle.crs_decimal.specs.inner.Run.{IsRun};
+ghost use Rattle.crs_decimal.specs.inner.Examples.{SpellingsDenote, SpellingsFail, ValuesArePlain};
 ghost use Rattle.crs_decimal.specs.Value.{Number, SameNumber, Value, IsNormal, exact};
 ghost use Rattle.crs_decimal.specs.Plain.{IsPlain, plain};
 

@@ -1,11 +1,12 @@
 -- The answer of `check`, put together from what was read and what was found.
 use Rattle.std.proofs.Common.{ℕ, List, inl, inr, Result, Ok, Err, MatchResult}
-use Rattle.crs_text.specs.Prelude.{RefusedAt}
+use Rattle.crs_text.specs.inner.Prelude.{RefusedAt}
 use Rattle.crs_value.specs.declared.values.crs.Kind.{Kind}
-use Rattle.crs_value.specs.Prelude.{SpellsKind, Refuses}
-use Rattle.crs_streams.specs.Prelude.{SourceState, SinkState}
+use Rattle.crs_value.specs.inner.Prelude.{SpellsKind, Refuses}
+use Rattle.crs_streams.specs.inner.Prelude.{SourceState, SinkState}
 use Rattle.crs_desk.specs.Ending.{IsWritten, IsAnswered}
-use Rattle.crs_desk.specs.Output.{IsCheckOutput, WritesFound}
+use Rattle.crs_desk.specs.Output.{IsCheckOutput}
+use Rattle.crs_desk.specs.inner.Found.{WritesFound}
 use Rattle.crs_desk.specs.inner.Pieces.{IsHeldOf, IsWholeHeld}
 
 pub found-written : (text : List ℕ) (found : Result Kind RefusedAt) (written : List ℕ) (status : ℕ)

@@ -17,7 +17,8 @@ use Rattle.crs_desk.specs.declared.line.requests.RequestFault.TheVariants.{Line,
 use Rattle.crs_desk.proofs.HelpLemmas.{IsFree, answers_help, stops_at_no_help}
 use Rattle.crs_desk.proofs.OperandLemmas.{same_asks}
 use Rattle.crs_desk.specs.Requests.{request_of}
-use Rattle.crs_desk.specs.CommandLine.{HandsOn, IsRefusal, asked, desk}
+use Rattle.crs_desk.specs.CommandLine.{IsRefusal, asked, desk}
+use Rattle.crs_desk.specs.inner.HandedOn.{HandsOn}
 
 -- the words are a request of the shape, where it answers and takes them
 IsKnown : (Shape → Bool) → List Text → Shape → Type 0

@@ -3,12 +3,12 @@ use Rattle.std.proofs.Common.{◌≡◌, ◌≢◌, ◌∙◌, ◌++◌, ◌⊎�
 use Rattle.std.proofs.KnownBytes.{Appends-trans}
 use Rattle.std.proofs.Math.Nat.{max-zero}
 use Rattle.std.specs.Io.KnownBytes.{Appends, Consumes}
-use Rattle.crs_streams.specs.Prelude.{EndsInFeed, SinkState, SourceState, fresh_sink, fresh_source}
+use Rattle.crs_streams.specs.inner.Prelude.{EndsInFeed, SinkState, SourceState, fresh_sink, fresh_source}
 use Rattle.crs_group.specs.GroupRun.{IsGroupedBy}
 use Rattle.crs_group.specs.declared.summary.Summary.{Summary}
 use Rattle.crs_streams.specs.declared.fault.RunFault.{RunFault}
 use Rattle.crs_streams.specs.declared.fault.RunFault.TheVariants.{ReadFailed, WriteFailed, TooLong, TooManyReads, Memory}
-use Rattle.crs_desk.specs.FileAnswers.{Ends, IsAnswerSent, IsFileFault, IsFileSent, IsFrontSent, NoFront}
+use Rattle.crs_desk.specs.inner.FileAnswers.{Ends, IsAnswerSent, IsFileFault, IsFileSent, IsFrontSent, NoFront}
 use Rattle.crs_desk.specs.FilesRun.{AreFileOutputs, AreFilesAnswered, IsFileFront, IsFileOutput, IsTaskFront, name_prefix}
 use Rattle.crs_desk.specs.declared.runs.files.FileTask.{FileTask}
 use Rattle.crs_desk.specs.inner.LineCutting.{IsHealthy}

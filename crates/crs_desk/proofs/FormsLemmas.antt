@@ -1,7 +1,7 @@
 -- The forms of two texts, put together from what was found out about each.
 use Rattle.std.proofs.Common.{◌≡◌, ◌⊎◌, ℕ, List, Result, Ok, Err, inr, subst, sym, MatchResult}
 use Rattle.crs_value.specs.declared.values.level.Level.{Level}
-use Rattle.crs_writer.specs.Prelude.{CanonicalText}
+use Rattle.crs_writer.specs.inner.Prelude.{CanonicalText}
 use Rattle.crs_rules.specs.Rules.{RulesParts}
 use Rattle.crs_rules.specs.Rewritten.{IsForm}
 use Rattle.crs_desk.specs.RulesOutput.{IsPairUnder, Refusals}

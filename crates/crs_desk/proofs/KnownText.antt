@@ -2,7 +2,7 @@
 use Rattle.std.proofs.Common.{◌≡◌, ℕ, ◌+◌, ◌<◌, ◌≤◌, ◌==◌, ◌||◌, List, [], ◌++◌, length, refl, Option, Some, None, IfSome, Result, Ok, false, subst, ap, sym, ◌∙◌, append-nil, arith}
 use Rattle.std.specs.Io.KnownBytes.{Consumes, ReadConsumes}
 use Rattle.std.proofs.Math.Bool.{or-true}
-use Rattle.crs_streams.specs.Prelude.{CountsRead, SourceState}
+use Rattle.crs_streams.specs.inner.Prelude.{CountsRead, SourceState}
 use Rattle.crs_desk.specs.Whole.{IsWhole}
 
 -- all that is known was given before a read that gives nothing

@@ -1,7 +1,7 @@
 -- What is written for lines one after another.
 use Rattle.std.proofs.Common.{Bool, true, false, refl, Option, Some, None, append-nil, ◌≡◌, ◌⊎◌, ◌++◌, ◌∷◌, [], ℕ, List, inl, ap, sym, ◌∙◌, arith, append_assoc, max}
 use Rattle.std.specs.Io.KnownBytes.{Appends}
-use Rattle.crs_streams.specs.Prelude.{CutsLines, EndsInFeed}
+use Rattle.crs_streams.specs.inner.Prelude.{CutsLines, EndsInFeed}
 use Rattle.crs_desk.specs.LinesRun.{AreOutputs, IsFrontOutput, IsLinesOutput, Outputs}
 
 -- where nothing is written, nothing is sent

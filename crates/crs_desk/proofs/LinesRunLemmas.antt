@@ -2,7 +2,7 @@
 -- whole.
 use Rattle.std.proofs.Common.{◌≡◌, ◌+◌, ◌<◌, ◌≤◌, ◌++◌, ◌*◌, ◌^◌, [], ℕ, Bool, List, Option, Some, None, true, false, ap, append-nil, length, length-append, subst, sym, refl, arith, Result, Ok, Err, IfErr, IfOk, IsErr, IsErrOf, ◌↔◌}
 use Rattle.std.specs.Io.KnownBytes.{Consumes}
-use Rattle.crs_streams.specs.Prelude.{CountsRead, CutsLines, GivesMore, HasGiven, SinkState, SourceState, fresh_source}
+use Rattle.crs_streams.specs.inner.Prelude.{CountsRead, CutsLines, GivesMore, HasGiven, SinkState, SourceState, fresh_source}
 use Rattle.crs_streams.specs.declared.fault.RunFault.{RunFault}
 use Rattle.crs_streams.specs.declared.fault.RunFault.TheVariants.{ReadFailed, WriteFailed, TooLong, TooManyReads, Memory}
 use Rattle.crs_desk.specs.LinesRun.{HasBegun, HasSent, IsLinesAnswered, IsLinesFault, Outputs}

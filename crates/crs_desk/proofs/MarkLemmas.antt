@@ -1,7 +1,7 @@
 -- The lines of an explanation, one further.
 use Rattle.std.proofs.Common.{arith, ◌≡◌, ◌∙◌, ◌++◌, ◌∷◌, [], ℕ, List, Bool, true, false, not, ap, append-nil, append_assoc, refl, sym, ◌==◌, if◌then◌else◌}
 use Rattle.std.specs.Str.{bytes_eq}
-use Rattle.crs_streams.specs.Prelude.{HasNoFeed, IsSplit}
+use Rattle.crs_streams.specs.inner.Prelude.{HasNoFeed, IsSplit}
 use Rattle.crs_desk.specs.RulesOutput.{has_path, lines_after, lines_in, marked, marked_line, path_in, with_mark}
 use Rattle.crs_desk.specs.declared.runs.manner.Manner.{Manner}
 

@@ -1,11 +1,11 @@
 -- What a feeder holds of a text: from piece to piece, and what it answers at the end.
 use Rattle.std.proofs.Common.{◌≡◌, ◌++◌, ℕ, Bool, true, false, List, Some, inl, inr, subst, Result, Ok, Err, MatchResult}
-use Rattle.crs_text.specs.Prelude.{refusal_of, Item, RefusedAt, IsSettledRefusal, SpellsNode, RefusesText, IsTextFault}
+use Rattle.crs_text.specs.inner.Prelude.{refusal_of, Item, RefusedAt, IsSettledRefusal, SpellsNode, RefusesText, IsTextFault}
 use Rattle.crs_text.specs.declared.fault.Fault.{Fault}
 use Rattle.crs_text.specs.declared.fault.Fault.TheVariants as faults
 use Rattle.crs_value.specs.declared.values.crs.Crs.{Crs}
 use Rattle.crs_value.specs.declared.values.crs.Kind.{Kind}
-use Rattle.crs_value.specs.Prelude.{kind_of, SpellsCrs, RefusesCrs, SpellsKind, Refuses}
+use Rattle.crs_value.specs.inner.Prelude.{kind_of, SpellsCrs, RefusesCrs, SpellsKind, Refuses}
 use Rattle.crs_desk.specs.inner.Pieces.{IsHeld, IsWholeHeld}
 
 -- at the end what is held is the text, or its front

@@ -11,7 +11,6 @@ use Rattle.crs_desk.specs.declared.line.requests.Request.{Request}
 use Rattle.crs_desk.specs.declared.line.requests.RequestFault.{RequestFault}
 use Rattle.crs_desk.specs.declared.line.requests.RequestFault.TheVariants.{Line, Memory}
 use Rattle.clap.specs.declared.builder.action.ArgAction.TheVariants.{Append, SetTrue}
-use Rattle.clap.specs.declared.error.Error.{Error}
 use Rattle.clap.specs.declared.error.kind.ErrorKind.TheVariants as kind
 use Rattle.crs_desk.specs.Requests.{request_of}
 
@@ -135,8 +134,3 @@ IsRefusal words (Line error) =
     (kind_of error ≢ kind.OutOfMemory) × (takes desk words ≡ false)
     × IsAmong (kind_of error) (fault_of desk words)
 IsRefusal words (Memory error) = Unit {0}
-
--- `clap`'s error is handed on, unless it is out of memory
-abbrev pub HandsOn : Error → RequestFault → Type 0
-HandsOn error (Line shown) = (shown ≡ error) × (kind_of error ≢ kind.OutOfMemory)
-HandsOn error (Memory want) = kind_of error ≡ kind.OutOfMemory

@@ -1,7 +1,6 @@
 pub mod CommandLine
 pub mod Ending
 pub mod ExplainOutput
-pub mod FileAnswers
 pub mod FilesRun
 pub mod LinesRun
 pub mod Output

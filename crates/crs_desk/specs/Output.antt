@@ -1,5 +1,5 @@
 -- What `canon` and `check` write for a text, and their status.
-use Rattle.std.specs.Prelude.{◌≡◌, ◌++◌, ◌⊎◌, ℕ, List, [], ◌∷◌, Result, Ok, Err, codes}
+use Rattle.std.specs.Prelude.{◌≡◌, ◌++◌, ◌⊎◌, ℕ, List, [], ◌∷◌, codes}
 use Rattle.crs_text.specs.Refusal.{RefusedAt, refused_text}
 use Rattle.crs_value.specs.declared.values.crs.Kind.{Kind}
 use Rattle.crs_value.specs.declared.values.crs.Kind.TheVariants as kind
@@ -46,10 +46,3 @@ IsCanonOutput level text written status =
 unfoldable pub IsCheckOutput : List ℕ → List ℕ → ℕ → Type 0
 IsCheckOutput text written status =
     WritesAccepted text written status ⊎ WritesRefusal text written status
-
--- what is written for a kind or a refusal that was found
-abbrev pub WritesFound : Result Kind RefusedAt → List ℕ → ℕ → Type 0
-WritesFound (Ok found) written status =
-    IsLine (codes "accepted " ++ kind_word found) 0 written status
-WritesFound (Err refusal) written status =
-    IsLine (refused_text refusal.number refusal.place) 1 written status

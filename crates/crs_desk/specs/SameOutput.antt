@@ -1,5 +1,5 @@
 -- What `same` writes for two texts, and the status.
-use Rattle.std.specs.Prelude.{◌++◌, ◌⊎◌, ℕ, List, Option, Some, None, codes}
+use Rattle.std.specs.Prelude.{◌++◌, ◌⊎◌, ℕ, List, Some, codes}
 use Rattle.crs_text.specs.Refusal.{RefusedAt, refused_text}
 use Rattle.crs_value.specs.declared.values.crs.Crs.{Crs}
 use Rattle.crs_value.specs.declared.values.level.Level.{Level}
@@ -35,9 +35,3 @@ WritesWhetherSame level a b written status =
 -- what `same` writes for two texts, and its status
 abbrev pub IsSameOutput : Level → List ℕ → List ℕ → List ℕ → ℕ → Type 0
 IsSameOutput level = IsPairOutput WritesRefusalOf (WritesWhetherSame level)
-
--- what is written of the first part that differs
-abbrev pub WritesPart : Option (List Step) → List ℕ → ℕ → Type 0
-WritesPart None written status = IsLine (codes "same") 0 written status
-WritesPart (Some path) written status =
-    IsLine (codes "different " ++ path_text path) 1 written status

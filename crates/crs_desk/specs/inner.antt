@@ -1,2 +1,5 @@
+pub mod FileAnswers
+pub mod Found
+pub mod HandedOn
 pub mod LineCutting
 pub mod Pieces

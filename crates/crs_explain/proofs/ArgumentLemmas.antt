@@ -1,8 +1,8 @@
 -- Arguments one after another, by their numbers in the tree.
 use Rattle.std.proofs.Common.{◌≡◌, ◌≢◌, ◌≤◌, ◌<◌, ◌+◌, ℕ, Option, Some, None, refl, subst, sym, ap, ◌∙◌, arith, if◌then◌else◌, nat_le}
 use Rattle.crs_text.specs.declared.keyword.Keyword.TheVariants as keyword
-use Rattle.crs_text.specs.Prelude.{Item, Siblings, End, More, HasId, IsAt, count, first_of, here, place_of, rest_of}
-use Rattle.crs_value.specs.Prelude.{Holds, ahead, item_at}
+use Rattle.crs_text.specs.inner.Prelude.{Item, Siblings, End, More, HasId, IsAt, count, first_of, here, place_of, rest_of}
+use Rattle.crs_value.specs.inner.Prelude.{Holds, ahead, item_at}
 use Rattle.crs_explain.specs.Around.{is_called, last_at}
 use Rattle.crs_explain.specs.Expected.{axes_among}
 

@@ -1,8 +1,8 @@
 -- The texts of parts that differ, one after the other.
 use Rattle.std.proofs.Common.{◌≡◌, ◌++◌, ◌∷◌, [], ℕ, List, refl, sym, subst, ap, ◌∙◌, append_assoc, append-nil}
-use Rattle.crs_value.specs.Prelude.{ParameterParts}
+use Rattle.crs_value.specs.inner.Prelude.{ParameterParts}
 use Rattle.crs_value.specs.declared.values.level.Level.{Level}
-use Rattle.crs_same.specs.Prelude.{DifferenceParts, Parts, part, ◌⨾◌, further_text}
+use Rattle.crs_same.specs.inner.Prelude.{DifferenceParts, Parts, part, ◌⨾◌, further_text}
 use Rattle.crs_same.specs.declared.content.Content.{Content}
 use Rattle.crs_same.specs.declared.content.Content.TheVariants as content
 use Rattle.crs_same.specs.declared.step.Step.{Step}

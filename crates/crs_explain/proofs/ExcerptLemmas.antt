@@ -7,7 +7,7 @@ use Rattle.std.proofs.lemmas.Str.Ascii.{trim_ascii_end_is}
 use Rattle.std.specs.List.{suffix_len}
 use Rattle.std.specs.Char.{is_ascii_whitespace}
 use Rattle.std.specs.Str.{IsTrimAsciiEnd}
-use Rattle.crs_text.specs.Prelude.{feeds, IsPosition}
+use Rattle.crs_text.specs.inner.Prelude.{feeds, IsPosition}
 use Rattle.crs_text.specs.declared.position.Position.{Position}
 use Rattle.crs_explain.specs.Excerpt.{IsExcerpt, shown_place, printed_text, blanks_below}
 

@@ -2,7 +2,7 @@
 use Rattle.std.proofs.Common.{◌≡◌, ◌≤◌, ℕ, ◌==◌, inl, inr, List, [], ◌∷◌, length, map, refl, sym, subst, arith}
 use Rattle.std.proofs.lemmas.Bool.{cases_Bool}
 use Rattle.std.proofs.lemmas.List.{length-map}
-use Rattle.crs_text.specs.Prelude.{feeds}
+use Rattle.crs_text.specs.inner.Prelude.{feeds}
 use Rattle.crs_explain.specs.inner.Lines.{in_line}
 use Rattle.crs_explain.specs.Explained.{AreWords}
 

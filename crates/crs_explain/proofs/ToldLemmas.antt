@@ -4,16 +4,17 @@ use Rattle.std.specs.Str.{bytes_eq}
 use Rattle.std.proofs.lemmas.Bool.{cases_Bool}
 use Rattle.std.proofs.lemmas.Slice.Eq.{bytes_eq-Decides}
 use Rattle.crs_shape.specs.declared.unit_kind.UnitKind.TheVariants as kinds
-use Rattle.crs_value.specs.Prelude.{ParameterParts, IsIn, IsParameter}
+use Rattle.crs_value.specs.inner.Prelude.{ParameterParts, IsIn, IsParameter}
 use Rattle.crs_value.specs.Sound.{Each}
 use Rattle.crs_value.specs.declared.values.level.Level.{Level}
-use Rattle.crs_same.specs.Prelude.{SameParameter, AllHaveSame, HasSame, SameSet}
-use Rattle.crs_same.specs.Prelude.{Differences, Parts, identifiers, numbers, units}
+use Rattle.crs_same.specs.inner.Prelude.{SameParameter, AllHaveSame, HasSame, SameSet}
+use Rattle.crs_same.specs.inner.Prelude.{Differences, Parts, identifiers, numbers, units}
 use Rattle.crs_same.specs.declared.step.Step.TheVariants as step
-use Rattle.crs_normal.specs.Prelude.{IsCanonicalForm, IsSpelledParameter}
-use Rattle.crs_writer.specs.Prelude.{SpellsOneOf, commas, comma_separated}
+use Rattle.crs_normal.specs.inner.Prelude.{IsCanonicalForm, IsSpelledParameter}
+use Rattle.crs_writer.specs.inner.Prelude.{SpellsOneOf, commas, comma_separated}
 use Rattle.crs_canon.specs.ContentText.{IsLackingText}
-use Rattle.crs_canon.specs.Named.{ArePairedNames, NamesTell, named_once, unpaired}
+use Rattle.crs_canon.specs.Named.{ArePairedNames, named_once, unpaired}
+use Rattle.crs_canon.specs.inner.NamesTell.{NamesTell}
 use Rattle.crs_explain.specs.Differing.{AreTextsOfName, AreTextsOfNames, AreTextsOfParts, AreTextsOfSet, are_empty, parameter_path, parts_of_parameter, PartTexts}
 
 -- ---- nothing is told

@@ -1,6 +1,6 @@
 //! Which unit is found and which each axis asks for, where they don't fit. No clause says which words these are.
 ghost use Rattle.crs_text.specs.Items.{HasId};
-ghost use Rattle.crs_value.specs.Reading.{Holds};
+ghost use Rattle.crs_value.specs.inner.Arguments.{Holds};
 
 use crate::Made;
 use crate::place::name_text;

@@ -3,13 +3,13 @@ use Rattle.std.proofs.Common.{◌≡◌, ◌↔◌, ◌⊎◌, ◌<◌, ◌≤�
 use Rattle.std.proofs.lemmas.Option.{slice_get-map, slice_get_within}
 use Rattle.std.specs.Option.{option_map}
 use Rattle.std.proofs.lemmas.List.{append-nil, length-set, map-append}
-use Rattle.crs_text.specs.Prelude.{RefusedAt, IsWhite, is_white}
+use Rattle.crs_text.specs.inner.Prelude.{RefusedAt, IsWhite, is_white}
 use Rattle.crs_text.specs.declared.fault.Fault.{Fault}
 use Rattle.std.specs.List.{list_all}
 use Rattle.std.specs.declared.alloc.AllocError.{AllocError}
-use Rattle.crs_value.specs.Prelude.{Refuses, IsFaultOfText}
+use Rattle.crs_value.specs.inner.Prelude.{Refuses, IsFaultOfText}
 use Rattle.crs_value.specs.declared.values.level.Level.{Level}
-use Rattle.crs_writer.specs.Prelude.{CanonicalText, IsCanonicalOf}
+use Rattle.crs_writer.specs.inner.Prelude.{CanonicalText, IsCanonicalOf}
 use Rattle.crs_canon.specs.MainTheorem.{IsAccepted, MainTheorem}
 use Rattle.crs_rules.specs.Rules.{RulesParts}
 use Rattle.crs_rules.specs.Rewritten.{IsForm}

@@ -4,7 +4,7 @@ use Rattle.std.specs.Map.{keys_of, values_of, lookup}
 use Rattle.std.proofs.lemmas.List.Quantifiers.{position-Some}
 use Rattle.std.proofs.lemmas.Option.{slice_get-get_or}
 use Rattle.indexmap.specs.IndexMap.{set_value_at}
-use Rattle.crs_writer.specs.Prelude.{CanonicalText, canons_equal, canons-decide}
+use Rattle.crs_writer.specs.inner.Prelude.{CanonicalText, canons_equal, canons-decide}
 use Rattle.crs_group.specs.inner.Entries.{entry_group, groups_of}
 use Rattle.crs_group.specs.Catalogue.{canons}
 use Rattle.crs_group.specs.inner.Putting.{IsJoined, IsNew, group_of}

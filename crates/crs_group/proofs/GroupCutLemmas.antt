@@ -5,7 +5,7 @@ use Rattle.std.proofs.lemmas.List.{nil_from_length}
 use Rattle.std.proofs.lemmas.List.Folds.{list_all-append}
 use Rattle.crs_group.specs.inner.GroupReading.{CutterParts, IsCutFault, IsCutTo, IsKept, IsLedgerFor, IsLedgerOf, IsNextLine, IsNotKept, LedgerParts, no_lines}
 use Rattle.crs_streams.specs.declared.fault.RunFault.{RunFault}
-use Rattle.crs_streams.specs.Prelude.{CutsLines, HasNoFeed, IsSplit, IsTooLong}
+use Rattle.crs_streams.specs.inner.Prelude.{CutsLines, HasNoFeed, IsSplit, IsTooLong}
 use Rattle.crs_value.specs.declared.values.level.Level.{Level}
 use Rattle.crs_group.specs.GroupTexts.{PlacedLine}
 use Rattle.crs_group.proofs.LineAddedLemmas.{none-ledger}

@@ -3,7 +3,7 @@ use Rattle.std.proofs.Common.{◌≡◌, ◌∙◌, ◌+◌, ◌<◌, ◌≤◌,
 use Rattle.crs_group.specs.inner.GroupReading.{CutterParts, IsCutFault, IsCutTo, IsLedgerFor, LedgerParts, IsLedgerWhole, IsReadInto, WritesLedger}
 use Rattle.crs_value.specs.declared.values.level.Level.{Level}
 use Rattle.crs_group.specs.GroupOutput.{IsGroupOutputBy, catalogue_text}
-use Rattle.crs_streams.specs.Prelude.{CountsRead, CutsLines, GivesMore, GivesShortLines, HasGiven, SinkState, SourceState}
+use Rattle.crs_streams.specs.inner.Prelude.{CountsRead, CutsLines, GivesMore, GivesShortLines, HasGiven, SinkState, SourceState}
 use Rattle.crs_group.specs.GroupRun.{IsGroupedBy, IsReadingFault}
 use Rattle.crs_group.specs.declared.listing.Listing.{Listing}
 use Rattle.crs_group.specs.declared.summary.Summary.{Summary}

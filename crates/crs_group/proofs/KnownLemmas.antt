@@ -6,7 +6,7 @@ use Rattle.std.proofs.lemmas.List.{length-map, map-append}
 use Rattle.std.proofs.lemmas.List.Elements.{All-nil, All-same, All-set}
 use Rattle.std.proofs.lemmas.Option.{slice_get-map, slice_get_within}
 use Rattle.crs_value.specs.declared.values.level.Level.{Level}
-use Rattle.crs_writer.specs.Prelude.{CanonicalText, IsCanonicalOf}
+use Rattle.crs_writer.specs.inner.Prelude.{CanonicalText, IsCanonicalOf}
 use Rattle.crs_group.specs.Catalogue.{GroupParts, canons}
 use Rattle.crs_group.specs.inner.Putting.{IsJoined, IsPut, group_of, with_line}
 use Rattle.crs_group.specs.declared.placed.Placed.{Placed}

@@ -3,11 +3,11 @@ use Rattle.std.proofs.Common.{◌≡◌, ◌+◌, ◌++◌, ◌∷◌, [], ℕ, 
 use Rattle.std.specs.List.{list_all}
 use Rattle.std.proofs.lemmas.List.{length-map, map-append}
 use Rattle.std.proofs.lemmas.List.Sums.{sum_by-append}
-use Rattle.crs_text.specs.Prelude.{is_white}
+use Rattle.crs_text.specs.inner.Prelude.{is_white}
 use Rattle.crs_group.specs.Catalogue.{CatalogueParts, line_of}
 use Rattle.crs_group.specs.inner.GroupReading.{IsLedgerOf, IsNamed, LedgerParts, blank_count, no_lines, text_in}
 use Rattle.crs_group.specs.GroupTexts.{IsCatalogueBy, IsCatalogueOfBy, then_line, IsPlacedAs, PlacedLine}
-use Rattle.crs_streams.specs.Prelude.{blank_in}
+use Rattle.crs_streams.specs.inner.Prelude.{blank_in}
 use Rattle.crs_group.specs.GroupOutput.{numbered}
 use Rattle.crs_group.specs.Names.{name_of, names_from, names_in, text_behind, texts_in}
 use Rattle.crs_value.specs.Sound.{Each}

@@ -3,11 +3,11 @@
 use Rattle.std.proofs.Common.{◌≡◌, ◌⊎◌, ◌<◌, ◌≤◌, ◌∷◌, [], ℕ, suc, List, Some, length, map, slice_get, inl, inr, ap, sym, refl, ◌∙◌, arith}
 use Rattle.std.proofs.lemmas.Bool.{cases_lt}
 use Rattle.std.proofs.lemmas.Option.{slice_get_within}
-use Rattle.crs_text.specs.Prelude.{RefusedAt}
-use Rattle.crs_value.specs.Prelude.{Spells, Refuses}
+use Rattle.crs_text.specs.inner.Prelude.{RefusedAt}
+use Rattle.crs_value.specs.inner.Prelude.{Spells, Refuses}
 use Rattle.crs_value.specs.declared.values.crs.Crs.{Crs}
 use Rattle.crs_value.specs.declared.values.level.Level.{Level}
-use Rattle.crs_writer.specs.Prelude.{IsCanonicalOf}
+use Rattle.crs_writer.specs.inner.Prelude.{IsCanonicalOf}
 use Rattle.crs_canon.specs.MainTheorem.{MainTheorem}
 use Rattle.crs_group.specs.Catalogue.{CatalogueParts, GroupParts, Line, canons}
 use Rattle.crs_group.specs.GroupTexts.{IsCatalogue, IsCatalogueOf, IsUnder, AreNumbered, Counts, IsPlacedAs, PlacedLine, ShareWhereSame}

@@ -1,11 +1,11 @@
 -- What is one group at the full level is in one group by definition.
 use Rattle.std.proofs.Common.{◌≡◌, ◌∷◌, [], ℕ, zero, suc, List, Some, map, slice_get, ap, sym, refl, ◌∙◌}
-use Rattle.crs_text.specs.Prelude.{RefusedAt, IsWhite}
+use Rattle.crs_text.specs.inner.Prelude.{RefusedAt, IsWhite}
 use Rattle.crs_value.specs.Sound.{Each}
-use Rattle.crs_value.specs.Prelude.{Spells, Refuses}
+use Rattle.crs_value.specs.inner.Prelude.{Spells, Refuses}
 use Rattle.crs_value.specs.declared.values.crs.Crs.{Crs}
 use Rattle.crs_value.specs.declared.values.level.Level.TheVariants as levels
-use Rattle.crs_same.specs.Prelude.{SameCrs}
+use Rattle.crs_same.specs.inner.Prelude.{SameCrs}
 use Rattle.crs_canon.specs.MainTheorem.{IsAccepted}
 use Rattle.crs_group.specs.Catalogue.{CatalogueParts, Line}
 use Rattle.crs_group.specs.declared.placed.Placed.{Placed}

@@ -2,10 +2,8 @@ pub mod Ascending
 pub mod AxisAlone
 pub mod CanonicalForm
 pub mod Closed
-pub mod Examples
 pub mod Normal
 pub mod NormalOwn
 pub mod PartSpellings
-pub mod Prelude
 pub mod SpelledAs
 pub mod inner

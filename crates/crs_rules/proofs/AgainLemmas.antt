@@ -5,14 +5,14 @@ use Rattle.crs_shape.specs.declared.class.Class.{Class}
 use Rattle.crs_shape.specs.declared.class.Class.TheVariants as class
 use Rattle.crs_shape.specs.declared.unit_kind.UnitKind.{UnitKind}
 use Rattle.crs_shape.specs.declared.unit_kind.UnitKind.TheVariants as kinds
-use Rattle.crs_shape.specs.Prelude.{kind_as}
-use Rattle.crs_value.specs.Prelude.{ParameterParts, DynamicParts, frame_of, NamedParts, own_or, AxisMeridianParts, AxisParts, DatumParts, EllipsoidParts, EnsembleParts, MeridianParts, SystemParts, UnitParts}
+use Rattle.crs_shape.specs.inner.Prelude.{kind_as}
+use Rattle.crs_value.specs.inner.Prelude.{ParameterParts, DynamicParts, frame_of, NamedParts, own_or, AxisMeridianParts, AxisParts, DatumParts, EllipsoidParts, EnsembleParts, MeridianParts, SystemParts, UnitParts}
 use Rattle.crs_value.specs.Sound.{Each}
 use Rattle.crs_value.specs.declared.values.frame.Frame.{Frame}
 use Rattle.crs_value.specs.declared.values.frame.Frame.TheVariants as frames
 use Rattle.crs_value.specs.declared.values.level.Level.{Level}
-use Rattle.crs_normal.specs.Prelude.{StaysInOrder, in_order, item_parameter, norm_parameter, set_parameters, norm_dynamic, is_zero, item_member, norm_datum, norm_ellipsoid, norm_ensemble, norm_frame, norm_member, norm_meridian, set_members, axes_from, axis_at, is_at, norm_axis, norm_axis_meridians, norm_system, with_axis, norm_length, norm_unit, norm_units, set_idents}
-use Rattle.crs_text.specs.Prelude.{item_text}
+use Rattle.crs_normal.specs.inner.Prelude.{StaysInOrder, in_order, item_parameter, norm_parameter, set_parameters, norm_dynamic, is_zero, item_member, norm_datum, norm_ellipsoid, norm_ensemble, norm_frame, norm_member, norm_meridian, set_members, axes_from, axis_at, is_at, norm_axis, norm_axis_meridians, norm_system, with_axis, norm_length, norm_unit, norm_units, set_idents}
+use Rattle.crs_text.specs.inner.Prelude.{item_text}
 use Rattle.crs_rules.specs.inner.LowerLaws.{SetLaws}
 use Rattle.crs_rules.specs.Rewritten.{axis, axis_meridian, counted, counted_frame, counted_name, datum, dynamic, ellipsoid, ensemble, frame_or_ensemble, meridian, named, parameter, system, units}
 use Rattle.crs_rules.specs.Rules.{Meaning, without_ensemble}

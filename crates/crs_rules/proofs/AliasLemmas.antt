@@ -2,7 +2,7 @@
 use Rattle.std.proofs.Common.{◌≡◌, ℕ, Bool, true, false, Option, Some, None, List, [], ◌∷◌, IfSome, refl, if◌then◌else◌, arith}
 use Rattle.crs_shape.specs.declared.class.Class.{Class}
 use Rattle.crs_shape.specs.declared.unit_kind.UnitKind.{UnitKind}
-use Rattle.crs_value.specs.Prelude.{IsText, IsUnit, IsUnitOf, IsAxisUnit, UnitParts}
+use Rattle.crs_value.specs.inner.Prelude.{IsText, IsUnit, IsUnitOf, IsAxisUnit, UnitParts}
 use Rattle.crs_value.specs.Sound.{Each}
 use Rattle.crs_rules.specs.Rewritten.{counted_name}
 use Rattle.crs_rules.specs.Rules.{Meaning, NameAliasParts, RulesParts, UnitAliasParts, first_that, is_name_alias, is_unit_alias, meaning, name_for, unit_for}

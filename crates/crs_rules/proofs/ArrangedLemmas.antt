@@ -9,13 +9,13 @@ use Rattle.std.proofs.lemmas.List.{length-append}
 use Rattle.crs_shape.specs.declared.class.Class.TheVariants as class
 use Rattle.crs_shape.specs.declared.unit_kind.UnitKind.{UnitKind}
 use Rattle.crs_shape.specs.declared.unit_kind.UnitKind.TheVariants as kinds
-use Rattle.crs_shape.specs.Prelude.{kind_as}
+use Rattle.crs_shape.specs.inner.Prelude.{kind_as}
 use Rattle.crs_value.specs.NamedValues.{IdentParts}
 use Rattle.crs_value.specs.Sound.{Each}
-use Rattle.crs_value.specs.Prelude.{own_or, AxisMeridianParts, AxisParts, SystemParts, UnitParts}
+use Rattle.crs_value.specs.inner.Prelude.{own_or, AxisMeridianParts, AxisParts, SystemParts, UnitParts}
 use Rattle.crs_value.specs.declared.values.level.Level.{Level}
 use Rattle.crs_value.specs.declared.values.level.Level.TheVariants as levels
-use Rattle.crs_normal.specs.Prelude.{axes_from, axis_at, norm_axis, norm_axis_meridians, norm_system, norm_unit, norm_units, set_idents}
+use Rattle.crs_normal.specs.inner.Prelude.{axes_from, axis_at, norm_axis, norm_axis_meridians, norm_system, norm_unit, norm_units, set_idents}
 use Rattle.crs_rules.specs.inner.LowerLaws.{SetLaws}
 use Rattle.crs_rules.specs.Rewritten.{among, arranged, ascending, axis, axis_meridian, system, units}
 use Rattle.crs_rules.specs.Rules.{Meaning}

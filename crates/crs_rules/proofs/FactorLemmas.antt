@@ -3,7 +3,7 @@ use Rattle.std.proofs.Common.{◌≡◌, ◌↔◌, ℕ, Bool, IsTrue, List, sub
 use Rattle.std.specs.Str.{bytes_eq}
 use Rattle.std.proofs.lemmas.Bool.Decides.{same_from_decides}
 use Rattle.std.proofs.lemmas.Slice.Eq.{bytes_eq-Decides}
-use Rattle.crs_decimal.specs.Prelude.{SameNumber, plain, Denotes, IsNormal, Value, exact}
+use Rattle.crs_decimal.specs.inner.Prelude.{SameNumber, plain, Denotes, IsNormal, Value, exact}
 
 -- values that have one plain spelling are one
 pub one-plain :

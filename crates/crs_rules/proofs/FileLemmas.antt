@@ -1,7 +1,7 @@
 -- The lines of a file, as far as they were read.
 use Rattle.std.proofs.Common.{◌≡◌, ◌≢◌, ◌<◌, ◌≤◌, arith, ◌+◌, ◌++◌, ◌∷◌, [], ℕ, List, inl, inr, refl, ap, ◌∙◌}
-use Rattle.crs_text.specs.Prelude.{Siblings, End, More, arguments}
-use Rattle.crs_streams.specs.Prelude.{AreLines, HasNoFeed}
+use Rattle.crs_text.specs.inner.Prelude.{Siblings, End, More, arguments}
+use Rattle.crs_streams.specs.inner.Prelude.{AreLines, HasNoFeed}
 use Rattle.crs_rules.specs.declared.file.fault.RulesFault.{RulesFault}
 use Rattle.crs_rules.specs.declared.file.fault.RulesFault.TheVariants as faults
 use Rattle.crs_rules.specs.declared.file.fault.RulesRefusal.{RulesRefusal}

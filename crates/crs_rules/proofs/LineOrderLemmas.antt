@@ -2,9 +2,9 @@
 use Rattle.std.proofs.Common.{arith, ◌≡◌, ◌⊎◌, ◌||◌, ◌++◌, ◌∷◌, [], ℕ, List, Bool, true, false, Option, None, Some, ap, append-nil, append_assoc, inl, inr, refl, sym, subst, ◌∙◌, codes, if◌then◌else◌}
 use Rattle.std.specs.Str.{str_eq_ignore_ascii_case}
 use Rattle.std.proofs.Math.Bool.{or_assoc}
-use Rattle.crs_text.specs.Prelude.{Item, leaf, node, Siblings, End, More, arguments, number, text, word}
+use Rattle.crs_text.specs.inner.Prelude.{Item, leaf, node, Siblings, End, More, arguments, number, text, word}
 use Rattle.crs_shape.specs.declared.unit_kind.UnitKind.{UnitKind}
-use Rattle.crs_value.specs.Prelude.{OneIs, IsIn}
+use Rattle.crs_value.specs.inner.Prelude.{OneIs, IsIn}
 use Rattle.crs_value.specs.Sound.{Each}
 use Rattle.crs_rules.specs.NoRules.{no_rules, nothing}
 use Rattle.crs_rules.specs.OrderOfRules.{DifferInOrder, HaveSameMembers}

@@ -1,9 +1,9 @@
 -- Names and units that are looked for by their digests are found: those that pass have the digest.
 use Rattle.std.proofs.Common.{◌≡◌, ℕ, true, List, [], ◌∷◌, sym}
-use Rattle.crs_decimal.specs.Prelude.{Denotes, plain, IsNormal, Value, exact}
+use Rattle.crs_decimal.specs.inner.Prelude.{Denotes, plain, IsNormal, Value, exact}
 use Rattle.crs_shape.specs.declared.class.Class.{Class}
 use Rattle.crs_value.specs.Sound.{Each}
-use Rattle.crs_value.specs.Prelude.{UnitParts}
+use Rattle.crs_value.specs.inner.Prelude.{UnitParts}
 use Rattle.crs_rules.specs.inner.Firsts.{name_digest, unit_digest}
 use Rattle.crs_rules.specs.Rules.{NameAliasParts, UnitAliasParts, is_name_alias, is_unit_alias}
 use Rattle.crs_rules.specs.SoundRules.{IsUnitAlias}

@@ -4,11 +4,11 @@ use Rattle.std.specs.Str.{bytes_eq}
 use Rattle.std.proofs.lemmas.Bool.{and_parts}
 use Rattle.std.proofs.lemmas.Slice.Eq.{bytes_eq-Decides}
 use denote.Enum.Bare.{sameb, same_true}
-use Rattle.crs_decimal.specs.Prelude.{plain}
+use Rattle.crs_decimal.specs.inner.Prelude.{plain}
 use Rattle.crs_shape.specs.declared.class.Class.{Class}
 use Rattle.crs_shape.specs.contracts.class.Class as classes
 use Rattle.crs_shape.specs.contracts.unit_kind.UnitKind.{the_type}
-use Rattle.crs_value.specs.Prelude.{is_same, UnitParts}
+use Rattle.crs_value.specs.inner.Prelude.{is_same, UnitParts}
 use Rattle.crs_rules.specs.Rules.{NameAliasParts, UnitAliasParts, is_name_alias, is_unit_alias}
 
 pub record OfName (c : Class) (name : List ℕ) (a : NameAliasParts) : Type 0 where

@@ -1,12 +1,12 @@
 -- What nodes say: there is nothing else, and a name is a text.
 use Rattle.std.proofs.Common.{arith, ◌≡◌, ◌≢◌, ◌⊎◌, Option, Some, None, IsTrue, false, subst, ◌∙◌}
-use Rattle.crs_decimal.specs.Prelude.{Value}
-use Rattle.crs_text.specs.Prelude.{Item, Siblings, End, More, IsNumberOf, first_of, kind_of_item, raw_of, rest_of, AreFormed}
+use Rattle.crs_decimal.specs.inner.Prelude.{Value}
+use Rattle.crs_text.specs.inner.Prelude.{Item, Siblings, End, More, IsNumberOf, first_of, kind_of_item, raw_of, rest_of, AreFormed}
 use Rattle.crs_text.specs.declared.items.ItemKind.{ItemKind}
 use Rattle.crs_text.specs.declared.items.ItemKind.TheVariants as kinds
 use Rattle.crs_shape.specs.declared.class.Class.{Class}
 use Rattle.crs_shape.specs.declared.unit_kind.UnitKind.{UnitKind}
-use Rattle.crs_value.specs.Prelude.{IsAboveZero, IsText}
+use Rattle.crs_value.specs.inner.Prelude.{IsAboveZero, IsText}
 use Rattle.crs_rules.specs.Members.{MemberParts, SaysFactor, SaysName, kind_of}
 use Rattle.crs_rules.specs.inner.Named.{IsFactor, SaysNamed}
 use Rattle.crs_rules.proofs.OneLemmas.{DenotesOne}

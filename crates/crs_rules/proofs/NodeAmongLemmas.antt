@@ -2,7 +2,7 @@
 use Rattle.std.proofs.Common.{arith, ◌↔◌, ◌≡◌, ◌∷◌, [], Bool, List, true, subst, not}
 use Rattle.std.specs.List.{list_any}
 use Rattle.indexmap.specs.IndexSet.{insert_key}
-use Rattle.crs_value.specs.Prelude.{OneIs}
+use Rattle.crs_value.specs.inner.Prelude.{OneIs}
 use Rattle.crs_rules.specs.inner.Equality.{members_equal}
 use Rattle.crs_rules.specs.inner.EqualityLaws.{members-decide}
 use Rattle.crs_rules.specs.Members.{MemberParts}

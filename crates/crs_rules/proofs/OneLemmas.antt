@@ -2,10 +2,10 @@
 use Rattle.std.proofs.Common.{◌≡◌, ℕ, ◌++◌, ◌∷◌, [], List, Bool, IsTrue, IsFalse, Option, None, Some, inl, inr, sym, subst, ap, ◌∙◌, arith, length, codes}
 use Rattle.std.specs.Str.{str_eq_ignore_ascii_case, str_to_ascii_lowercase}
 use Rattle.std.proofs.lemmas.Slice.Eq.{bytes_eq-Decides}
-use Rattle.crs_decimal.specs.Prelude.{Denotes, IsNormal, Value, exact}
-use Rattle.crs_text.specs.Prelude.{Item, Siblings, End, More, arguments, raw_of, RefusesText, SpellsNode}
+use Rattle.crs_decimal.specs.inner.Prelude.{Denotes, IsNormal, Value, exact}
+use Rattle.crs_text.specs.inner.Prelude.{Item, Siblings, End, More, arguments, raw_of, RefusesText, SpellsNode}
 use Rattle.crs_shape.specs.declared.unit_kind.UnitKind.{UnitKind}
-use Rattle.crs_streams.specs.Prelude.{AreLines}
+use Rattle.crs_streams.specs.inner.Prelude.{AreLines}
 use Rattle.crs_rules.specs.declared.uncounted.Uncounted.{Uncounted}
 use Rattle.crs_rules.specs.declared.file.fault.RulesRefusal.{RulesRefusal}
 use Rattle.crs_rules.specs.Members.{MemberParts, Says, SaysFactor, SaysName, kind_of}

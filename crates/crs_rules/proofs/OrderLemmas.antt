@@ -1,11 +1,11 @@
 -- Rules that differ in their order alone do the same.
 use Rattle.std.proofs.Common.{◌≡◌, ◌⊎◌, ℕ, Bool, true, false, Option, Some, None, List, [], ◌∷◌, refl, subst, inl, inr}
-use Rattle.crs_normal.specs.Prelude.{IsIn}
+use Rattle.crs_normal.specs.inner.Prelude.{IsIn}
 use Rattle.crs_shape.specs.declared.class.Class.{Class}
 use Rattle.crs_value.specs.Sound.{Each}
-use Rattle.crs_value.specs.Prelude.{UnitParts}
+use Rattle.crs_value.specs.inner.Prelude.{UnitParts}
 use Rattle.crs_value.specs.declared.values.level.Level.{Level}
-use Rattle.crs_writer.specs.Prelude.{IsCanonicalText}
+use Rattle.crs_writer.specs.inner.Prelude.{IsCanonicalText}
 use Rattle.crs_rules.specs.OrderOfRules.{DifferInOrder, HaveSameMembers}
 use Rattle.crs_rules.specs.Rewritten.{rewritten, IsForm}
 use Rattle.crs_rules.specs.Rules.{NameAliasParts, RulesParts, UnitAliasParts, first_name, first_that, first_unit, is_name_alias, is_unit_alias, meaning, name_for, unit_for}

@@ -1,13 +1,13 @@
 -- A form under steady rules is its own form.
 use Rattle.std.proofs.Common.{◌≡◌, ℕ, Bool, List, true, false, sym, subst, ◌∙◌, if◌then◌else◌}
-use Rattle.crs_text.specs.Prelude.{item_text}
-use Rattle.crs_value.specs.Prelude.{IsCrs, Spells, AxisParts}
+use Rattle.crs_text.specs.inner.Prelude.{item_text}
+use Rattle.crs_value.specs.inner.Prelude.{IsCrs, Spells, AxisParts}
 use Rattle.crs_value.specs.declared.values.crs.Crs.{Crs}
 use Rattle.crs_value.specs.declared.values.level.Level.{Level}
 use Rattle.crs_value.specs.declared.values.level.Level.TheVariants as levels
-use Rattle.crs_same.specs.Prelude.{SameCrs}
-use Rattle.crs_normal.specs.Prelude.{IsNormalText, axis_text, item_crs, norm_crs}
-use Rattle.crs_writer.specs.Prelude.{IsCanonicalOf, IsCanonicalText}
+use Rattle.crs_same.specs.inner.Prelude.{SameCrs}
+use Rattle.crs_normal.specs.inner.Prelude.{IsNormalText, axis_text, item_crs, norm_crs}
+use Rattle.crs_writer.specs.inner.Prelude.{IsCanonicalOf, IsCanonicalText}
 use Rattle.crs_canon.specs.MainTheorem.{MainTheorem}
 use Rattle.crs_rules.specs.inner.LowerLaws.{FormLaws, SetLaws}
 use Rattle.crs_rules.specs.ReorderedAxes.{IsCrsReordered}

@@ -2,7 +2,7 @@
 use Rattle.std.proofs.Common.{◌≢◌, Bool, Option, Some, None, List, [], ◌∷◌, IfSome, IsSome, IsNone, refl, map, arith}
 use Rattle.std.specs.Option.{option_map}
 use Rattle.crs_shape.specs.declared.class.Class.{Class}
-use Rattle.crs_value.specs.Prelude.{ConversionParts, ParameterParts, DynamicParts, datum_of, NamedParts, IsNamed, IsConversion, IsParameter, IsDynamic, IsDatum, IsEllipsoid, IsEnsemble, IsMeridian, IsDynamicOf, IsExtent, IsTail, IsUsage, DatumParts, EllipsoidParts, EnsembleParts, ExtentParts, MeridianParts, SaysSome, TailParts, UsageParts}
+use Rattle.crs_value.specs.inner.Prelude.{ConversionParts, ParameterParts, DynamicParts, datum_of, NamedParts, IsNamed, IsConversion, IsParameter, IsDynamic, IsDatum, IsEllipsoid, IsEnsemble, IsMeridian, IsDynamicOf, IsExtent, IsTail, IsUsage, DatumParts, EllipsoidParts, EnsembleParts, ExtentParts, MeridianParts, SaysSome, TailParts, UsageParts}
 use Rattle.crs_value.specs.Sound.{Each}
 use Rattle.crs_value.specs.declared.values.frame.Frame.{Frame}
 use Rattle.crs_value.specs.declared.values.frame.Frame.TheVariants as frames

@@ -1,6 +1,6 @@
 -- Items as statements have them.
 use Rattle.std.proofs.Common.{arith, ◌≡◌, ℕ, List, MatchResult, Result, Ok, Err, false, inr, subst}
-use Rattle.crs_text.specs.Prelude.{Item, kind_of_item, raw_of, SpellsNode}
+use Rattle.crs_text.specs.inner.Prelude.{Item, kind_of_item, raw_of, SpellsNode}
 use Rattle.crs_text.specs.declared.items.ItemKind.TheVariants as kinds
 use Rattle.crs_rules.specs.declared.uncounted.Uncounted.{Uncounted}
 use Rattle.crs_rules.specs.RulesFile.{FaultOfLine, Reads, is_idle, next}

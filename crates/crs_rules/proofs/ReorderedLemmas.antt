@@ -8,8 +8,8 @@ use Rattle.std.proofs.lemmas.List.{map-append}
 use Rattle.std.proofs.lemmas.Map.Lookups.{exact_bytes}
 use Rattle.crs_shape.specs.declared.unit_kind.UnitKind.{UnitKind}
 use Rattle.crs_shape.specs.declared.unit_kind.UnitKind.TheVariants as kinds
-use Rattle.crs_shape.specs.Prelude.{kind_as}
-use Rattle.crs_value.specs.Prelude.{VerticalParts, IsAxis, IsHorizontal, IsCrs, IsSystem, IsVertical, AxisMeridianParts, AxisParts, SystemParts, UnitParts}
+use Rattle.crs_shape.specs.inner.Prelude.{kind_as}
+use Rattle.crs_value.specs.inner.Prelude.{VerticalParts, IsAxis, IsHorizontal, IsCrs, IsSystem, IsVertical, AxisMeridianParts, AxisParts, SystemParts, UnitParts}
 use Rattle.crs_value.specs.Sound.{Each}
 use Rattle.crs_value.specs.declared.values.compound.Horizontal.{Horizontal}
 use Rattle.crs_value.specs.declared.values.compound.Horizontal.TheVariants as horizontals
@@ -17,7 +17,7 @@ use Rattle.crs_value.specs.declared.values.crs.Crs.{Crs}
 use Rattle.crs_value.specs.declared.values.crs.Crs.TheVariants as crs
 use Rattle.crs_value.specs.declared.values.level.Level.{Level}
 use Rattle.crs_value.specs.declared.values.level.Level.TheVariants as levels
-use Rattle.crs_normal.specs.Prelude.{norm_axis_alone, norm_crs, norm_horizontal, norm_vertical, norm_axis, norm_axis_meridians, norm_system, norm_units}
+use Rattle.crs_normal.specs.inner.Prelude.{norm_axis_alone, norm_crs, norm_horizontal, norm_vertical, norm_axis, norm_axis_meridians, norm_system, norm_units}
 use Rattle.crs_rules.specs.inner.LowerLaws.{SetLaws}
 use Rattle.crs_rules.specs.ReorderedAxes.{AreAxesReordered, IsAcrossReordered, IsCrsReordered, IsReordered, IsVerticalReordered, unordered}
 use Rattle.crs_rules.specs.Rewritten.{across, among, arranged, arranged_across, arranged_compound, arranged_crs, arranged_geodetic, arranged_projected, arranged_vertical, ascending, axis, axis_meridian, compound, geodetic, projected, renamed, system, units, vertical}

@@ -6,7 +6,7 @@ use Rattle.std.specs.Ordering.{nat_cmp}
 use Rattle.std.proofs.Math.Seq.{drop-length, take-length}
 use Rattle.std.proofs.lemmas.List.Edits.{length-swap}
 use Rattle.std.proofs.lemmas.List.{append-nil, length-append, length-drop, length-map, length-take}
-use Rattle.crs_value.specs.Prelude.{AxisParts}
+use Rattle.crs_value.specs.inner.Prelude.{AxisParts}
 use Rattle.crs_rules.specs.Rewritten.{ascending}
 use Rattle.crs_rules.specs.inner.Sinking.{sunk_from}
 use Rattle.crs_rules.proofs.CrsLemmas.{among-cases, ascending-length}

@@ -1,14 +1,14 @@
 -- Rules that are read are steady: nothing chains, since no node stands in two sets.
 use Rattle.std.proofs.Common.{◌⊎◌, ◌≡◌, ◌≢◌, ℕ, ◌++◌, ◌∷◌, [], List, true, Option, None, Some, inl, inr, refl, sym, subst, ap, rules}
-use Rattle.crs_decimal.specs.Prelude.{Denotes, plain, IsNormal, Value, exact, zero}
-use Rattle.crs_text.specs.Prelude.{Item, Siblings, End, More, arguments}
+use Rattle.crs_decimal.specs.inner.Prelude.{Denotes, plain, IsNormal, Value, exact, zero}
+use Rattle.crs_text.specs.inner.Prelude.{Item, Siblings, End, More, arguments}
 use Rattle.crs_shape.specs.declared.class.Class.{Class}
 use Rattle.crs_shape.specs.declared.class.Class.TheVariants as class
 use Rattle.crs_shape.specs.declared.unit_kind.UnitKind.{UnitKind}
 use Rattle.crs_shape.specs.declared.unit_kind.UnitKind.TheVariants as kind
 use Rattle.crs_shape.specs.contracts.class.Class as classes
 use Rattle.crs_shape.specs.contracts.unit_kind.UnitKind.{the_type}
-use Rattle.crs_value.specs.Prelude.{is_same}
+use Rattle.crs_value.specs.inner.Prelude.{is_same}
 use Rattle.crs_rules.specs.Rules.{NameAliasParts, RulesParts, UnitAliasParts, is_name_alias, is_unit_alias}
 use Rattle.crs_rules.specs.SteadyRules.{AreSteady, NamesAgree, UnitsAgree, unit_written}
 use Rattle.crs_rules.specs.Members.{MemberParts, Says, SaysFactor, SaysName, kind_of}

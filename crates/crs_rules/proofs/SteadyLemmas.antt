@@ -1,9 +1,9 @@
 -- Steady rules leave what they write as it is, and write one thing for each name and unit.
 use Rattle.std.proofs.Common.{◌≡◌, ℕ, Bool, false, Option, Some, None, List, [], ◌∷◌, refl, inl, inr}
 use Rattle.crs_shape.specs.declared.class.Class.{Class}
-use Rattle.crs_normal.specs.Prelude.{IsIn}
+use Rattle.crs_normal.specs.inner.Prelude.{IsIn}
 use Rattle.crs_value.specs.NamedValues.{IdentParts}
-use Rattle.crs_value.specs.Prelude.{UnitParts}
+use Rattle.crs_value.specs.inner.Prelude.{UnitParts}
 use Rattle.crs_value.specs.Sound.{Each}
 use Rattle.crs_rules.specs.Rules.{Meaning, NameAliasParts, RulesParts, UnitAliasParts, first_name, first_that, first_unit, is_name_alias, is_unit_alias, meaning, unit_for}
 use Rattle.crs_rules.specs.SteadyRules.{AreSteady, NamesAgree, UnitsAgree}

@@ -5,8 +5,8 @@ use Rattle.std.proofs.lemmas.List.{take-append-drop}
 use Rattle.std.proofs.lemmas.Slice.Eq.{bytes_eq-Decides}
 use Rattle.std.proofs.lemmas.Str.{IsCharBoundary-at_seam, IsUtf8-take}
 use Rattle.std.proofs.Math.Seq.{take-append_seam}
-use Rattle.crs_text.specs.Prelude.{IsInside, doubled}
-use Rattle.crs_value.specs.Prelude.{IsText}
+use Rattle.crs_text.specs.inner.Prelude.{IsInside, doubled}
+use Rattle.crs_value.specs.inner.Prelude.{IsText}
 use Rattle.crs_rules.specs.Rules.{without_ensemble}
 
 second-unlike : (x s q : ℕ) (xs ys : List ℕ) → s ≢ q → x ∷ s ∷ xs ≡ q ∷ q ∷ ys → ⊥

@@ -1,6 +1,6 @@
 -- The texts of axes that are asked decide all: any two functions that give them agree, and put axes in one order.
 use Rattle.std.proofs.Common.{◌≡◌, ℕ, List, [], ◌∷◌, refl}
-use Rattle.crs_value.specs.Prelude.{IsAxis, IsHorizontal, IsCrs, IsSystem, AxisParts, SystemParts}
+use Rattle.crs_value.specs.inner.Prelude.{IsAxis, IsHorizontal, IsCrs, IsSystem, AxisParts, SystemParts}
 use Rattle.crs_value.specs.Sound.{Each}
 use Rattle.crs_value.specs.declared.values.compound.Horizontal.{Horizontal}
 use Rattle.crs_value.specs.declared.values.compound.Horizontal.TheVariants as horizontals
@@ -8,8 +8,8 @@ use Rattle.crs_value.specs.declared.values.crs.Crs.{Crs}
 use Rattle.crs_value.specs.declared.values.crs.Crs.TheVariants as crs
 use Rattle.crs_value.specs.declared.values.level.Level.{Level}
 use Rattle.crs_value.specs.declared.values.level.Level.TheVariants as levels
-use Rattle.crs_same.specs.Prelude.{SameAxisAlone}
-use Rattle.crs_normal.specs.Prelude.{IsSpelledAxis, axis_text, IsWrittenForm}
+use Rattle.crs_same.specs.inner.Prelude.{SameAxisAlone}
+use Rattle.crs_normal.specs.inner.Prelude.{IsSpelledAxis, axis_text, IsWrittenForm}
 use Rattle.crs_rules.specs.Rewritten.{among, arranged, arranged_across, arranged_crs, ascending, renamed, rewritten, AreTextsOfAxes}
 use Rattle.crs_rules.specs.Rules.{Meaning}
 use Rattle.crs_rules.proofs.AliasLemmas.{IsSoundMeaning}

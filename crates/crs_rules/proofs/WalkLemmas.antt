@@ -1,7 +1,7 @@
 -- Walks over some things, one after another: what leads from one reading to another, as far as it was gone.
 use Rattle.std.proofs.Common.{◌≡◌, ◌≢◌, ℕ, Option, None, Some, sym, List, [], ◌∷◌, inl, inr, refl, subst}
-use Rattle.crs_text.specs.Prelude.{IsAt, Item, Siblings, End, More, first_of, here, rest_of}
-use Rattle.crs_value.specs.Prelude.{Holds, ahead, item_at}
+use Rattle.crs_text.specs.inner.Prelude.{IsAt, Item, Siblings, End, More, first_of, here, rest_of}
+use Rattle.crs_value.specs.inner.Prelude.{Holds, ahead, item_at}
 use Rattle.crs_rules.specs.inner.Grown.{HasGrown}
 use Rattle.crs_rules.specs.declared.file.fault.RulesFault.{RulesFault}
 use Rattle.crs_rules.specs.declared.file.fault.RulesFault.TheVariants as faults

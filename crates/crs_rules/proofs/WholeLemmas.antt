@@ -5,7 +5,7 @@ use Rattle.std.specs.List.{list_all}
 use Rattle.std.specs.Option.{is_some, option_map}
 use Rattle.crs_shape.specs.declared.class.Class.TheVariants as class
 use Rattle.crs_shape.specs.declared.unit_kind.UnitKind.TheVariants as kinds
-use Rattle.crs_value.specs.Prelude.{CompoundParts, ParameterParts, GeodeticParts, ProjectedParts, VerticalParts, kept, NamedParts, IsParameter, IsHorizontal, IsCrs, IsProjected, AxisParts, ExtentParts, MeridianParts, SystemParts, UnitParts, UsageParts}
+use Rattle.crs_value.specs.inner.Prelude.{CompoundParts, ParameterParts, GeodeticParts, ProjectedParts, VerticalParts, kept, NamedParts, IsParameter, IsHorizontal, IsCrs, IsProjected, AxisParts, ExtentParts, MeridianParts, SystemParts, UnitParts, UsageParts}
 use Rattle.crs_value.specs.Sound.{Each}
 use Rattle.crs_value.specs.declared.values.compound.Horizontal.{Horizontal}
 use Rattle.crs_value.specs.declared.values.compound.Horizontal.TheVariants as horizontals
@@ -13,8 +13,8 @@ use Rattle.crs_value.specs.declared.values.crs.Crs.{Crs}
 use Rattle.crs_value.specs.declared.values.crs.Crs.TheVariants as crs
 use Rattle.crs_value.specs.declared.values.level.Level.{Level}
 use Rattle.crs_value.specs.declared.values.level.Level.TheVariants as levels
-use Rattle.crs_text.specs.Prelude.{item_text}
-use Rattle.crs_normal.specs.Prelude.{in_order, item_geoid_model, norm_geoid_model, norm_parameter, set_geoid_models, set_parameters, norm_compound, norm_crs, norm_geodetic, norm_horizontal, norm_projected, norm_vertical, is_zero, norm_meridian, norm_system, norm_length, norm_units, item_usage, norm_extent, norm_usage, set_usages}
+use Rattle.crs_text.specs.inner.Prelude.{item_text}
+use Rattle.crs_normal.specs.inner.Prelude.{in_order, item_geoid_model, norm_geoid_model, norm_parameter, set_geoid_models, set_parameters, norm_compound, norm_crs, norm_geodetic, norm_horizontal, norm_projected, norm_vertical, is_zero, norm_meridian, norm_system, norm_length, norm_units, item_usage, norm_extent, norm_usage, set_usages}
 use Rattle.crs_rules.specs.inner.LowerLaws.{SetLaws}
 use Rattle.crs_rules.specs.Rewritten.{across, arranged, arranged_across, arranged_crs, compound, counted, extent, geodetic, has_own_unit, meridian, named, parameter, projected, renamed, rewritten, system, units, usage, vertical}
 use Rattle.crs_rules.specs.Rules.{Meaning}

@@ -1,8 +1,8 @@
 -- The axes at a position.
 use Rattle.std.proofs.Common.{◌≡◌, ℕ, ◌+◌, List, [], ◌∷◌, inl, inr, refl, sym, subst}
 use Rattle.std.specs.Prelude.{⊤}
-use Rattle.crs_value.specs.Prelude.{AxisParts}
-use Rattle.crs_same.specs.Prelude.{HasAt}
+use Rattle.crs_value.specs.inner.Prelude.{AxisParts}
+use Rattle.crs_same.specs.inner.Prelude.{HasAt}
 
 has-mapped : (P Q : AxisParts → Type 0) (position place : ℕ) (axes : List AxisParts) → ((axis : AxisParts) → P axis → Q axis) →
     HasAt position P place axes → HasAt position Q place axes

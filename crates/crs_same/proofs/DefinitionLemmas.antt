@@ -7,14 +7,14 @@ use Rattle.crs_value.specs.declared.values.crs.Crs.{Crs}
 use Rattle.crs_value.specs.declared.values.crs.Crs.TheVariants as crs
 use Rattle.crs_value.specs.declared.values.frame.Frame.TheVariants as frame
 use Rattle.crs_value.specs.declared.values.level.Level.TheVariants as levels
-use Rattle.crs_value.specs.Prelude.{ParameterParts, GeoidModelParts, DeformationModelParts, AxisParts, AxisMeridianParts, MemberParts, SystemParts, UnitParts}
+use Rattle.crs_value.specs.inner.Prelude.{ParameterParts, GeoidModelParts, DeformationModelParts, AxisParts, AxisMeridianParts, MemberParts, SystemParts, UnitParts}
 use Rattle.crs_same.specs.declared.step.Step.{Step}
 use Rattle.crs_same.specs.declared.step.Step.TheVariants as step
 use Rattle.crs_same.specs.Parts.{◌▸◌, Parts, PartsOf, AllSame}
 use Rattle.crs_same.specs.PartsOfCrs.{parts_of_method, parts_of_conversion, parts_of_dynamic, parts_of_tail, parts_of_geodetic, parts_of_base, parts_of_projected, parts_of_vertical, parts_of_horizontal, parts_of_compound}
 use Rattle.crs_same.specs.PartsOfFrames.{parts_of_ellipsoid, parts_of_ellipsoids, parts_of_given, or_greenwich, parts_of_meridian, parts_of_datum, parts_of_ensemble, parts_of_frame}
 use Rattle.crs_same.specs.PartsOfSystems.{parts_of_axis, parts_at, parts_of_axes, parts_of_system}
-use Rattle.crs_same.specs.Prelude.{SameParameter, SameGeoidModel, SameDeformationModel, SameMember, SameAxisMeridian, SameUnitAsked, SameLength, or_metre, BothOrNeither, HasSame, AllHaveSame, SameSet}
+use Rattle.crs_same.specs.inner.Prelude.{SameParameter, SameGeoidModel, SameDeformationModel, SameMember, SameAxisMeridian, SameUnitAsked, SameLength, or_metre, BothOrNeither, HasSame, AllHaveSame, SameSet}
 use Rattle.crs_same.specs.SameCrs.{SameCrs}
 use Rattle.crs_same.specs.SingleParts.{nodes}
 

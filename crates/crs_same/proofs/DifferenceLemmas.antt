@@ -1,8 +1,8 @@
 -- The first of the parts that differ is the first part that differs, and there is one list of them.
 use Rattle.std.proofs.Common.{◌≡◌, ◌∙◌, ◌++◌, ◌⊎◌, inl, inr, Option, Some, None, List, [], ◌∷◌, refl, sym, subst, ap}
-use Rattle.crs_shape.specs.Prelude.{asked_kind}
+use Rattle.crs_shape.specs.inner.Prelude.{asked_kind}
 use Rattle.crs_value.specs.declared.values.level.Level.{Level}
-use Rattle.crs_value.specs.Prelude.{AxisParts, SystemParts}
+use Rattle.crs_value.specs.inner.Prelude.{AxisParts, SystemParts}
 use Rattle.crs_same.specs.declared.step.Step.{Step}
 use Rattle.crs_same.specs.declared.step.Step.TheVariants as step
 use Rattle.crs_same.specs.Parts.{◌▸◌, Parts, DifferenceParts, none, part, ◌⨾◌, within, First, Differences}

@@ -3,8 +3,8 @@ use Rattle.std.proofs.Common.{◌≡◌, ◌↔◌, ℕ, zero, suc, ◌+◌, ◌
 use Rattle.std.proofs.Math.Dec.{eqb-suc-zero}
 use Rattle.std.proofs.Math.Nat.{mul-lt-mul_of_pos_right, one-le-pow}
 use Rattle.std.proofs.lemmas.Bool.{eqb-true}
-use Rattle.crs_decimal.specs.Prelude.{SameNumber, whole_number, Value, up_of}
-use Rattle.crs_same.specs.Prelude.{IsZero, SameValue}
+use Rattle.crs_decimal.specs.inner.Prelude.{SameNumber, whole_number, Value, up_of}
+use Rattle.crs_same.specs.inner.Prelude.{IsZero, SameValue}
 
 pub wholes-same : (m n : ℕ) → SameNumber (whole_number m) (whole_number n) → m ≡ n
 wholes-same m n h = let s : m * 1 ≡ n * 1 = h.0 in omega (arith, s)

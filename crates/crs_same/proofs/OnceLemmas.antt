@@ -2,7 +2,7 @@
 use Rattle.std.proofs.Common.{◌↔◌, List, [], ◌∷◌, inl, inr, subst, sym}
 use Rattle.crs_value.specs.declared.values.level.Level.{Level}
 use Rattle.crs_value.specs.declared.values.level.Level.TheVariants as levels
-use Rattle.crs_value.specs.Prelude.{IsIn, AreIn, HaveSameMembers}
+use Rattle.crs_value.specs.inner.Prelude.{IsIn, AreIn, HaveSameMembers}
 use Rattle.crs_value.specs.NamedValues.{IdentParts}
 use Rattle.crs_same.specs.SameIdents.{SameIdent, SameIdents}
 use Rattle.crs_same.specs.Sets.{HasSame, AllHaveSame, SameSet}

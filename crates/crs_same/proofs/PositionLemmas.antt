@@ -1,9 +1,9 @@
 -- Each position of a coordinate system has one axis.
 use Rattle.std.proofs.Common.{◌≡◌, ◌≢◌, ℕ, suc, ◌+◌, ◌≤◌, ◌<◌, ◌↔◌, length, IfSome, Some, None, List, [], ◌∷◌, inl, inr, refl, sym, ap, subst, arith}
-use Rattle.crs_decimal.specs.Prelude.{Number, SameNumber, whole_number, Value, IsNormal, exact}
-use Rattle.crs_value.specs.Prelude.{IsPosition, IsAxis, AreOrders, AreDistinct, IsSystem, AxisParts, SystemParts}
+use Rattle.crs_decimal.specs.inner.Prelude.{Number, SameNumber, whole_number, Value, IsNormal, exact}
+use Rattle.crs_value.specs.inner.Prelude.{IsPosition, IsAxis, AreOrders, AreDistinct, IsSystem, AxisParts, SystemParts}
 use Rattle.crs_value.specs.Sound.{Each}
-use Rattle.crs_same.specs.Prelude.{IsPositionOf, HasAt, SameValue}
+use Rattle.crs_same.specs.inner.Prelude.{IsPositionOf, HasAt, SameValue}
 use Rattle.crs_same.proofs.CountLemmas.{Within, Among, Lacks, Apart, among-or-lacks, each-stands}
 use Rattle.crs_same.proofs.NumberLemmas.{wholes-same}
 

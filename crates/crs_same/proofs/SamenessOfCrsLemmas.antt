@@ -5,8 +5,8 @@ use Rattle.crs_value.specs.declared.values.compound.Horizontal.TheVariants as ho
 use Rattle.crs_value.specs.declared.values.crs.Crs.{Crs}
 use Rattle.crs_value.specs.declared.values.crs.Crs.TheVariants as crs
 use Rattle.crs_value.specs.declared.values.level.Level.{Level}
-use Rattle.crs_value.specs.Prelude.{kind_by, kind_of, IsCompound, IsCrs, IsGeodetic, IsProjected, IsVertical, IsSystem}
-use Rattle.crs_same.specs.Prelude.{IsSameness, IsSamenessOf, SameGeoidModel, SameIdents, SameUnit, equal-by, by, ◌⊗◌, in-words, over, of, optional, set}
+use Rattle.crs_value.specs.inner.Prelude.{kind_by, kind_of, IsCompound, IsCrs, IsGeodetic, IsProjected, IsVertical, IsSystem}
+use Rattle.crs_same.specs.inner.Prelude.{IsSameness, IsSamenessOf, SameGeoidModel, SameIdents, SameUnit, equal-by, by, ◌⊗◌, in-words, over, of, optional, set}
 use Rattle.crs_same.specs.inner.Agreement.{AgreeConversion, AgreeGeodetic, AgreeBase, AgreeProjected, AgreeVertical, AgreeHorizontal, AgreeCompound, AgreeParts, AgreeCrs, AgreeDynamic, AgreeMeridian, AgreeFrame, AgreeSystem, AgreeTail}
 use Rattle.crs_same.specs.SameCrs.{IsHorizontalPart}
 use Rattle.crs_same.proofs.AgreementLemmas.{horizontal-part}

@@ -2,7 +2,7 @@
 use Rattle.crs_value.specs.declared.values.frame.Frame.{Frame}
 use Rattle.crs_value.specs.declared.values.frame.Frame.TheVariants as frame
 use Rattle.crs_value.specs.declared.values.level.Level.{Level}
-use Rattle.crs_same.specs.Prelude.{IsSameness}
+use Rattle.crs_same.specs.inner.Prelude.{IsSameness}
 use Rattle.crs_same.specs.inner.Agreement.{AgreeDatum, AgreeEnsemble, AgreeFrame}
 
 pub frame-of : (level : Level) → IsSameness (AgreeDatum level) → IsSameness (AgreeEnsemble level) →

@@ -2,10 +2,10 @@
 use Rattle.std.proofs.Common.{◌≡◌, ◌∙◌, sym, ap, subst, ℕ, ◌≤◌, length, Option}
 use Rattle.std.specs.Prelude.{⊤}
 use Rattle.crs_shape.specs.declared.unit_kind.UnitKind.{UnitKind}
-use Rattle.crs_shape.specs.Prelude.{asked_kind}
+use Rattle.crs_shape.specs.inner.Prelude.{asked_kind}
 use Rattle.crs_value.specs.declared.values.level.Level.{Level}
-use Rattle.crs_value.specs.Prelude.{IsSystem, UnitParts, AxisParts, SystemParts}
-use Rattle.crs_same.specs.Prelude.{IsSameness, IsSamenessOf, SameIdents, SameAxisMeridian, own_or, HasAt, SameValue, SameUnit, equal-by, by, ◌⊗◌, in-words, optional}
+use Rattle.crs_value.specs.inner.Prelude.{IsSystem, UnitParts, AxisParts, SystemParts}
+use Rattle.crs_same.specs.inner.Prelude.{IsSameness, IsSamenessOf, SameIdents, SameAxisMeridian, own_or, HasAt, SameValue, SameUnit, equal-by, by, ◌⊗◌, in-words, optional}
 use Rattle.crs_same.specs.inner.Agreement.{AgreeAxisIn, AgreeAxis, AgreeAxes, AgreeSystem}
 use Rattle.crs_same.proofs.AxisLemmas.{which, at-both, which-both}
 

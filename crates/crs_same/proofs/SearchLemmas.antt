@@ -1,7 +1,7 @@
 -- The search for the axis at a position: what is left decides.
 use Rattle.std.proofs.Common.{◌≡◌, ℕ, ◌+◌, drop, List}
 use Rattle.std.specs.Prelude.{⊤}
-use Rattle.crs_value.specs.Prelude.{AxisParts}
+use Rattle.crs_value.specs.inner.Prelude.{AxisParts}
 use Rattle.crs_same.specs.SameParts.{HasAt}
 
 -- the axes from this index on, the first of which is written at this place, are searched still

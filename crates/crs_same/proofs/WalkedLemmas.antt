@@ -2,7 +2,7 @@
 use Rattle.std.proofs.Common.{◌≡◌, ℕ, suc, ◌+◌, arith, ◌++◌, ◌↔◌, inl, inr, Option, Some, None, List, [], ◌∷◌, refl, sym, subst, ap, ◌∙◌, append_assoc, append-nil}
 use Rattle.crs_value.specs.declared.values.level.Level.{Level}
 use Rattle.crs_value.specs.declared.values.level.Level.TheVariants as levels
-use Rattle.crs_value.specs.Prelude.{SystemParts}
+use Rattle.crs_value.specs.inner.Prelude.{SystemParts}
 use Rattle.crs_same.specs.declared.content.Content.{Content}
 use Rattle.crs_same.specs.declared.found.Found.{Found}
 use Rattle.crs_same.specs.declared.found.Found.TheVariants as found
@@ -11,7 +11,7 @@ use Rattle.crs_same.specs.declared.step.Step.TheVariants as step
 use Rattle.crs_same.specs.Parts.{◌▸◌, Parts, none, part, ◌⨾◌, within, First, Differences}
 use Rattle.crs_same.specs.PartsOfFrames.{parts_of_given, or_greenwich}
 use Rattle.crs_same.specs.PartsOfSystems.{parts_at, parts_of_axes}
-use Rattle.crs_same.specs.Prelude.{SameIdents, SameValue}
+use Rattle.crs_same.specs.inner.Prelude.{SameIdents, SameValue}
 use Rattle.crs_same.specs.inner.Walked.{IsDone, IsRefused, Walks, Walked}
 
 -- over parts of which none differs

@@ -5,7 +5,6 @@ pub mod PartsOfCrs
 pub mod PartsOfFrames
 pub mod PartsOfSystems
 pub mod Paths
-pub mod Prelude
 pub mod SameCrs
 pub mod SameIdents
 pub mod SameParts

@@ -1,5 +1,5 @@
 -- The words of a path to a part.
-use Rattle.std.specs.Prelude.{List, [], ◌++◌, ℕ, codes, decimal, flat_map}
+use Rattle.std.specs.Prelude.{List, ◌++◌, ℕ, codes, decimal, flat_map}
 use Rattle.std.specs.List.{join_by}
 use Rattle.crs_same.specs.declared.step.Step.{Step}
 use Rattle.crs_same.specs.declared.step.Step.TheVariants as step
@@ -43,11 +43,6 @@ abbrev pub path_text : List Step → List ℕ
 path_text = join_by step_text (codes "/")
 
 -- ---- bridges: what is written step by step
-
--- the digits after the word of a step
-abbrev pub step_digits : Step → List ℕ
-step_digits (step.Axis position) = decimal position
-step_digits other = []
 
 -- each of these steps after a slash
 abbrev pub further_text : List Step → List ℕ

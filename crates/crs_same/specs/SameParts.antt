@@ -5,8 +5,7 @@ use Rattle.crs_shape.specs.declared.unit_kind.UnitKind.{UnitKind}
 use Rattle.crs_value.specs.declared.values.level.Level.{Level}
 use Rattle.crs_value.specs.Values.{UnitParts, AxisMeridianParts, AxisParts, BoxParts, ExtentParts, UsageParts, TailParts, ParameterParts}
 use Rattle.crs_same.specs.SameIdents.{SameIdents}
-use Rattle.crs_same.specs.Sets.{BothOrNeither, SameSet}
-use Rattle.crs_value.specs.Kept.{kept, kept_one}
+use Rattle.crs_same.specs.Sets.{BothOrNeither}
 use Rattle.crs_shape.specs.declared.unit_kind.UnitKind.TheVariants as kinds
 use Rattle.crs_value.specs.declared.values.level.Level.TheVariants as levels
 pub use Rattle.crs_shape.specs.UnitKinds.{kind_as}
@@ -83,10 +82,6 @@ StandsAt position axes (Some axis) = HasAt position (λ other. other ≡ axis) 1
 
 -- ---- where a longitude is zero
 
--- the value is zero
-abbrev pub IsZero : Value → Type 0
-IsZero value = SameNumber (exact value) (whole_number 0)
-
 -- ---- parameters of conversions
 
 -- two parameters are the same: name, number, unit and identifiers; `UNIT` is a kind of its own
@@ -125,11 +120,3 @@ pub record SameUsage (a b : UsageParts) : Type 0 where
 -- the usages at a CRS's end: the bare parts are together one more
 abbrev pub usages_of : TailParts → List UsageParts
 usages_of tail = with_bare tail.bare_parts tail.usages
-
--- the usages that the level keeps of the ends of two CRSs are the same set
-abbrev pub SameUsages : Level → TailParts → TailParts → Type 0
-SameUsages level a b = SameSet SameUsage (kept level (usages_of a)) (kept level (usages_of b))
-
--- the remarks that the level keeps of two ends are equal, or both are missing
-abbrev pub SameRemark : Level → TailParts → TailParts → Type 0
-SameRemark level a b = kept_one level a.remark ≡ kept_one level b.remark

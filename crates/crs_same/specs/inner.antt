@@ -1,3 +1,5 @@
 pub mod Agreement
+pub mod Prelude
 pub mod SamenessLaws
+pub mod Steps
 pub mod Walked

@@ -2,7 +2,8 @@
 ghost use Rattle.std.specs.Prelude.{◌≡◌, ◌≤◌, ◌↔◌, IsTrue, None, length};
 ghost use Rattle.std.specs.Option.{option_and_then, option_copied, option_map};
 ghost use Rattle.crs_value.specs.Kept.{kept};
-ghost use Rattle.crs_same.specs.SameParts.{SameParameter, SameDeformationModel, SameUsage, usages_of, SameUsages};
+ghost use Rattle.crs_same.specs.SameParts.{SameParameter, SameDeformationModel, SameUsage, usages_of};
+ghost use Rattle.crs_same.specs.inner.Agreement.{SameUsages};
 ghost use Rattle.crs_same.specs.declared.content.Content.TheVariants as content;
 ghost use Rattle.crs_same.specs.declared.step.Step.TheVariants as step;
 ghost use Rattle.crs_same.specs.Parts.{◌▸◌, AreSame};

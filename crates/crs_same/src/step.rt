@@ -1,6 +1,7 @@
 //! The steps of a path.
 ghost use Rattle.std.specs.Prelude.{◌≡◌, ◌++◌, length, take, OnOk};
-ghost use Rattle.crs_same.specs.Paths.{step_digits, step_text};
+ghost use Rattle.crs_same.specs.Paths.{step_text};
+ghost use Rattle.crs_same.specs.inner.Steps.{step_digits};
 
 use itoa::Buffer;
 use std::alloc::AllocError;

@@ -4,7 +4,6 @@ pub mod Expected
 pub mod FaultPlace
 pub mod Keywords
 pub mod Near
-pub mod Prelude
 pub mod RefusedItem
 pub mod Shape
 pub mod ShapeFault

@@ -1,9 +1,5 @@
 -- What is sought among arguments: one of a class, in a parent of a class.
-use Rattle.std.specs.Prelude.{if◌then◌else◌}
-use denote.Enum.Bare.{sameb}
-use Rattle.crs_text.specs.declared.items.ItemKind.{ItemKind}
 use Rattle.crs_text.specs.declared.items.ItemKind.TheVariants as kind
-use Rattle.crs_shape.specs.contracts.class.Class.{the_type}
 use Rattle.crs_shape.specs.declared.class.Class.{Class}
 use Rattle.crs_shape.specs.declared.class.Class.TheVariants as class
 
@@ -11,10 +7,3 @@ use Rattle.crs_shape.specs.declared.class.Class.TheVariants as class
 pub record SoughtParts : Type 0 where
   pub parent : Class
   pub class : Class
-
--- what an item of a class is
-abbrev pub kind_for : Class → ItemKind
-kind_for c =
-    if sameb the_type c class.Number then kind.Number
-    else (if sameb the_type c class.Text then kind.Text
-    else (if sameb the_type c class.Word then kind.Word else kind.Node))

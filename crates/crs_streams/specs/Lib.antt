@@ -4,6 +4,5 @@ pub mod Given
 pub mod Json
 pub mod Lines
 pub mod LongLines
-pub mod Prelude
 pub mod Streams
 pub mod inner

@@ -59,14 +59,6 @@ pub record CountsRead {E : Type 0} (old new : SourceState) (answer : Result ℕ 
       × (new.failed ≡ old.failed))
       (λ _. (new.taken ≡ old.taken) × (new.ended ≡ old.ended) × (new.failed ≡ true))
 
--- one more write: the writer was used; whether a failure was answered before, and whether one is
--- answered now
-pub record CountsWrite {E : Type 0} (old new : SinkState) (answer : Result ℕ E) : Type 0 where
-  pub is_used : new.used ≡ true
-  pub past_failure : new.past_failure ≡ (old.past_failure || old.failed)
-  pub failure : MatchResult answer (λ count. new.failed ≡ (old.failed || (count == 0)))
-      (λ _. new.failed ≡ true)
-
 -- bytes that are handed over in one write after another up to a failure: nothing is asked of a
 -- writer after one
 pub record CountsWrites {E : Type 0} (old new : SinkState)

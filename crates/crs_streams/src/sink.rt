@@ -1,7 +1,8 @@
 ghost use Rattle.std.specs.Prelude.{◌≡◌, OnErr, OnOk};
 ghost use Rattle.std.specs.Io.{WritesAtMost};
 ghost use Rattle.std.specs.Io.KnownBytes.{Appends, WriteAppends};
-ghost use Rattle.crs_streams.specs.Streams.{AppendsFront, CountsWrite, CountsWrites, fresh_sink};
+ghost use Rattle.crs_streams.specs.Streams.{AppendsFront, CountsWrites, fresh_sink};
+ghost use Rattle.crs_streams.specs.inner.OneWrite.{CountsWrite};
 
 use std::io;
 use std::io::Write;

@@ -164,12 +164,6 @@ abbrev pub IsAt : Item → Siblings → Option ℕ → Type 0
 IsAt tree items None = items ≡ End
 IsAt tree items (Some id) = (here tree id ≡ items) × HasId tree id
 
--- the first items, as many as `n` says
-abbrev pub only : ℕ → Siblings → Siblings
-only zero items = End
-only (suc n) End = End
-only (suc n) (More item items) = More item (only n items)
-
 -- the value of an item that is a number; none where it isn't one
 abbrev pub IsNumberOf : Item → Option Value → Type 0
 IsNumberOf item None = kind_of_item item ≢ Number

@@ -1,10 +1,8 @@
-pub mod Examples
 pub mod Fault
 pub mod Innermost
 pub mod Items
 pub mod Keywords
 pub mod Position
-pub mod Prelude
 pub mod Quoted
 pub mod Refusal
 pub mod Settled

@@ -1,5 +1,5 @@
 -- Quoted texts: from a quote to the next one that isn't doubled.
-use Rattle.std.specs.Prelude.{◌≡◌, ℕ, ◌+◌, ◌<◌, length, take, drop, ◌==◌, not, Bool, IsTrue}
+use Rattle.std.specs.Prelude.{◌≡◌, ℕ, ◌+◌, ◌==◌, Bool, IsTrue}
 use Rattle.std.specs.Prelude.{IsFalse, List, [], ◌∷◌}
 use Rattle.std.specs.Prelude.{◌++◌, if◌then◌else◌, ◌⊎◌}
 
@@ -26,19 +26,11 @@ BeginsWith test (b ∷ bs) = IsTrue (test b)
 abbrev pub is_quote : ℕ → Bool
 is_quote b = b == 34
 
--- a byte that isn't a quote
-abbrev pub is_plain : ℕ → Bool
-is_plain b = not (is_quote b)
-
 -- the bytes after an opening quote are this inside, the closing quote, and the rest
 pub record IsShut (after raw rest : List ℕ) : Type 0 where
   pub parts : after ≡ raw ++ 34 ∷ rest
   pub inside : IsInside raw
   pub ends : StopsAt is_quote rest
-
--- the inside has this length
-abbrev pub IsShutAt : List ℕ → ℕ → Type 0
-IsShutAt after n = IsShut after (take n after) (drop (n + 1) after) × (n < length after)
 
 -- the bytes after an opening quote, through the closing quote or, where there is none, to the end
 abbrev pub Through : List ℕ → List ℕ → Type 0

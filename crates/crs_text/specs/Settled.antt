@@ -1,6 +1,6 @@
 -- What is settled at the front of a text while more of it may come:
 -- the tokens, and the first refusal, which no further byte can change.
-use Rattle.std.specs.Prelude.{◌≡◌, ◌≢◌, ℕ, ◌+◌, ◌⊎◌, IsFalse, List, [], ◌∷◌, ◌++◌, length, codes}
+use Rattle.std.specs.Prelude.{◌≡◌, ◌≢◌, ℕ, ◌+◌, ◌⊎◌, IsFalse, List, [], ◌∷◌, ◌++◌, length}
 use Rattle.std.specs.List.{list_all}
 use Rattle.crs_decimal.specs.Spelling.{is_run_byte}
 use Rattle.crs_text.specs.Tokens.{Token, single, comma, opening, closing, Forms, IsAfterWhite}
@@ -87,20 +87,3 @@ IsWantUnrefused bytes (faults.Refused refusal) = Unit {0}
 IsWantUnrefused bytes (faults.Memory e) = IsTakenSoFar bytes
 
 -- ---- what is settled of VERTCRS["H"]x and of texts that begin like it
-
--- the bytes `VERTCRS["H"`
-abbrev pub begun : List ℕ
-begun = codes "VERTCRS[" ++ 34 ∷ 72 ∷ 34 ∷ []
-
--- what is settled of some texts that begin so
-abbrev pub AreSettledRows : Type 0
-AreSettledRows =
-    -- the quote may still be doubled, the word and the number may go on
-    IsTakenSoFar begun
-    × IsTakenSoFar (begun ++ codes "]x")
-    × IsTakenSoFar (begun ++ codes ",1")
-    -- after the white space the word is settled, and it isn't allowed after the root
-    × IsSettledRefusal (begun ++ codes "]x ") 6 12
-    -- a delimiter, and a byte that begins no token, are settled at once
-    × IsSettledRefusal (begun ++ codes ",]") 6 12
-    × IsSettledRefusal (begun ++ codes "#") 1 11

@@ -5,10 +5,6 @@ use Rattle.std.specs.Prelude.{ℕ, ◌≤◌, List, ◌++◌, length, take, IsUt
 abbrev pub IsUtf8Front : List ℕ → Type 0
 IsUtf8Front bytes = (more : List ℕ) × IsUtf8 (bytes ++ more)
 
--- so many of the bytes are well-formed UTF-8
-abbrev pub IsValidTo : List ℕ → ℕ → Type 0
-IsValidTo bytes n = (n ≤ length bytes) × IsUtf8 (take n bytes)
-
 -- n is the length of the longest front of the bytes that is well-formed UTF-8
 pub record IsLongestUtf8 (bytes : List ℕ) (n : ℕ) : Type 0 where
   pub within : n ≤ length bytes

@@ -1,8 +1,10 @@
+pub mod Examples
 pub mod Feeding
 pub mod KeywordTable
 pub mod Laid
 pub mod Lexing
 pub mod Nesting
+pub mod Prelude
 pub mod Rows
 pub mod Runs
 pub mod Scan

@@ -11,9 +11,7 @@ use Rattle.crs_shape.specs.declared.system_type.SystemType.{SystemType}
 use Rattle.crs_shape.specs.declared.unit_kind.UnitKind.{UnitKind}
 use Rattle.crs_shape.specs.UnitKinds.{asked_kind}
 use Rattle.crs_shape.specs.Dimensions.{IsOneOf, dimensions_of}
-use Rattle.crs_text.specs.Written.{AreFormed}
 use Rattle.crs_shape.specs.ShapeFault.{class_in}
-use Rattle.crs_shape.specs.Shaped.{Shaped}
 use Rattle.crs_shape.specs.declared.class.Class.TheVariants as class
 use Rattle.crs_shape.specs.declared.unit_kind.UnitKind.TheVariants as kinds
 use Rattle.crs_shape.specs.declared.system_type.SystemType.TheVariants as types
@@ -287,14 +285,6 @@ abbrev pub BadSystems : (SystemType → List ℕ) → List Item → List Item �
 BadSystems dimensions systems axes units fault =
     AnyOf (OfHead dimensions axes) systems fault ⊎ OfAxes systems axes units fault
 
--- the classes of CRS that have a coordinate system of their own
-abbrev pub HasSystem : Class → Type 0
-HasSystem class.GeodeticCrs = Unit {0}
-HasSystem class.GeographicCrs = Unit {0}
-HasSystem class.ProjectedCrs = Unit {0}
-HasSystem class.VerticalCrs = Unit {0}
-HasSystem other = ⊥
-
 -- the checks of a CRS that has a coordinate system
 abbrev pub OfCrs : (SystemType → List ℕ) → Class → Item → RefusedAt → Type 0
 OfCrs dimensions c item fault =
@@ -363,9 +353,3 @@ abbrev mutual
   BreaksAmong c End fault = ⊥
   BreaksAmong c (More item items) fault =
       AtClass (class_in c item) (λ d. Breaks d item fault) ⊎ BreaksAmong c items fault
-
--- a well-formed item of the shape of its class that breaks no check
-pub record IsSound (c : Class) (item : Item) : Type 0 where
-  pub formed : AreFormed item
-  pub shaped : Shaped c item
-  pub unbroken : (fault : RefusedAt) → ¬ (Breaks c item fault)

@@ -1,12 +1,10 @@
 pub mod Checks
 pub mod CompoundValues
 pub mod CrsValues
-pub mod Cursor
 pub mod EnsembleFrames
 pub mod Kept
 pub mod Members
 pub mod NamedValues
-pub mod Prelude
 pub mod Reading
 pub mod Reads
 pub mod ReadsCrs

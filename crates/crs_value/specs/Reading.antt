@@ -1,36 +1,19 @@
 -- Readings: what is read from an item, or from the arguments of one class;
 -- and what holds of each of some values, or of one.
-use Rattle.std.specs.Prelude.{◌≡◌, ℕ, ◌<◌, ◌≤◌, Bool, IsTrue, List, [], ◌∷◌, Option, Some, None}
+use Rattle.std.specs.Prelude.{Bool, List, [], ◌∷◌, Option, Some, None}
 use Rattle.std.specs.Prelude.{if◌then◌else◌}
-use Rattle.std.specs.List.{list_any}
 use denote.Enum.Bare.{sameb}
-use Rattle.crs_text.specs.Items.{Item, Siblings, End, More, arguments, first_of, rest_of, here}
-use Rattle.crs_text.specs.Items.{HasId}
+use Rattle.crs_text.specs.Items.{Item, Siblings, End, More, arguments}
 use Rattle.crs_shape.specs.contracts.class.Class.{the_type}
 use Rattle.crs_shape.specs.declared.class.Class.{Class}
 pub use Rattle.crs_shape.specs.Choice.{OneIs, IsReading}
-use Rattle.crs_shape.specs.inner.Counts.{is_bounded, least, most}
 use Rattle.crs_shape.specs.ShapeFault.{class_in}
-use Rattle.crs_shape.specs.Slots.{slots_of, is_class}
+use Rattle.crs_shape.specs.Slots.{is_class}
 
 -- each of these values has the property
 abbrev pub Each : {V : Type 0} → (V → Type 0) → List V → Type 0
 Each P [] = Unit {0}
 Each P (value ∷ values) = P value × Each P values
-
--- the item of this number in a tree
-abbrev pub item_at : Item → ℕ → Item
-item_at tree id = first_of (here tree id)
-
--- the items of a node from this one on; none where there is no such item
-abbrev pub ahead : Item → Option ℕ → Siblings
-ahead tree None = End
-ahead tree (Some id) = here tree id
-
--- the tree has the item, where there is one
-abbrev pub Holds : Item → Option ℕ → Type 0
-Holds tree None = Unit {0}
-Holds tree (Some id) = HasId tree id
 
 -- whether two classes are the same
 abbrev pub is_same : Class → Class → Bool
@@ -45,25 +28,6 @@ abbrev pub those : Class → Class → Siblings → List Item
 those parent c End = []
 those parent c (More item items) =
     if is_a parent c item then item ∷ those parent c items else those parent c items
-
--- the slots of a class require more than `n` arguments of class `d`
-abbrev pub Requires : Class → Class → ℕ → Type 0
-Requires c d n = n < least (is_same d) (slots_of c)
-
--- the slots of a class take one argument of class `d` at most
-abbrev pub TakesOne : Class → Class → Type 0
-TakesOne c d = IsTrue (is_bounded (is_same d) (slots_of c)) × (most (is_same d) (slots_of c) ≤ 1)
-
--- the slots of a class require an argument of one of these classes
-abbrev pub RequiresOneOf : Class → List Class → Type 0
-RequiresOneOf c ds = 0 < least (λ d. list_any (λ e. is_same e d) ds) (slots_of c)
-
--- the number of the first of these arguments, which the later ones follow; none where there are
--- none
-abbrev pub IsFound : Item → Class → Class → List Item → Option ℕ → Type 0
-IsFound tree parent c items None = items ≡ []
-IsFound tree parent c items (Some id) =
-    (items ≡ item_at tree id ∷ those parent c (rest_of (here tree id))) × HasId tree id
 
 -- the value is read from the first of these items
 abbrev pub ReadsFirst : {V : Type 0} → (Item → V → Type 0) → List Item → V → Type 0

@@ -45,15 +45,6 @@ ReadsNumberAt k c item value =
 
 -- ---- nodes
 
--- the classes of units
-abbrev pub IsUnitClass : Class → Type 0
-IsUnitClass class.LengthUnit = Unit {0}
-IsUnitClass class.AngleUnit = Unit {0}
-IsUnitClass class.ScaleUnit = Unit {0}
-IsUnitClass class.PlainUnit = Unit {0}
-IsUnitClass class.AxisUnit = Unit {0}
-IsUnitClass other = ⊥
-
 -- a unit: its kind, its name, its factor and its identifiers
 pub record ReadsUnit (c : Class) (item : Item) (parts : UnitParts) : Type 0 where
   pub kind : ReadsKind item parts.kind

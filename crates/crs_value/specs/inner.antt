@@ -1,3 +1,6 @@
+pub mod Arguments
+pub mod Classes
+pub mod Cursor
 pub mod FirstArguments
 pub mod FirstByte
 pub mod FoundArguments
@@ -5,6 +8,7 @@ pub mod Fronts
 pub mod Judged
 pub mod KeptLaws
 pub mod Least
+pub mod Prelude
 pub mod QuickChecks
 pub mod ReadOnce
 pub mod WholeNumbers

@@ -1,12 +1,12 @@
 -- The canonical text that is written from the items of an accepted text.
 use Rattle.std.proofs.Common.{◌≡◌, ℕ, List, [], ◌++◌, Some, sym, ap, subst, ◌∙◌}
-use Rattle.crs_text.specs.Prelude.{Item}
-use Rattle.crs_shape.specs.Prelude.{class_of_root}
+use Rattle.crs_text.specs.inner.Prelude.{Item}
+use Rattle.crs_shape.specs.inner.Prelude.{class_of_root}
 use Rattle.crs_shape.specs.declared.class.Class.{Class}
-use Rattle.crs_value.specs.Prelude.{ReadsCrs, SpellsCrs}
+use Rattle.crs_value.specs.inner.Prelude.{ReadsCrs, SpellsCrs}
 use Rattle.crs_value.specs.declared.values.crs.Crs.{Crs}
 use Rattle.crs_value.specs.declared.values.level.Level.{Level}
-use Rattle.crs_writer.specs.Prelude.{crs_text}
+use Rattle.crs_writer.specs.inner.Prelude.{crs_text}
 use Rattle.crs_writer.specs.inner.FromItems.{IsRead, Writes}
 
 pub from-items : (level : Level) (item root : Item) (c : Class) (old bytes : List ℕ) (crs : Crs) → root ≡ item → old ≡ [] →

@@ -1,10 +1,10 @@
 -- The axes of a system, one after another.
 use Rattle.std.proofs.Common.{◌≡◌, ℕ, suc, List, [], ◌∷◌, ◌++◌, length, refl, sym, ap, subst, ◌∙◌}
 use Rattle.std.proofs.lemmas.List.{append-nil}
-use Rattle.crs_text.specs.Prelude.{Item, End, others_text}
-use Rattle.crs_value.specs.Prelude.{ReadsEach, AxisParts, SystemParts}
+use Rattle.crs_text.specs.inner.Prelude.{Item, End, others_text}
+use Rattle.crs_value.specs.inner.Prelude.{ReadsEach, AxisParts, SystemParts}
 use Rattle.crs_value.specs.declared.values.level.Level.{Level}
-use Rattle.crs_normal.specs.Prelude.{each, axes_from, item_axis}
+use Rattle.crs_normal.specs.inner.Prelude.{each, axes_from, item_axis}
 
 -- as many axes are read as there are items
 pub axes-counted : (R : Item → AxisParts → Type 0) (items : List Item) (axes : List AxisParts) → ReadsEach R items axes → length axes ≡ length items

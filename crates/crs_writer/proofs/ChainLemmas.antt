@@ -1,8 +1,8 @@
 -- Arguments of one class, of which one is taken after another.
 use Rattle.std.proofs.Common.{◌≡◌, ℕ, suc, ◌<◌, length, List, [], ◌∷◌, Option, Some, None, refl, sym, ap, subst, arith}
-use Rattle.crs_text.specs.Prelude.{Item, rest_of, here}
+use Rattle.crs_text.specs.inner.Prelude.{Item, rest_of, here}
 use Rattle.crs_shape.specs.declared.class.Class.{Class}
-use Rattle.crs_value.specs.Prelude.{from_found, item_at, those, ReadsEach}
+use Rattle.crs_value.specs.inner.Prelude.{from_found, item_at, those, ReadsEach}
 use Rattle.crs_writer.specs.inner.Parts.{SaysFirst}
 
 pub none-left : {V : Type 0} (R : Item → V → Type 0) (tree : Item) (parent c : Class) (at : Option ℕ) → at ≡ None →

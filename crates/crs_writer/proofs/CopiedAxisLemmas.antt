@@ -1,14 +1,14 @@
 -- Axes that are canonical as they stand are what is written of all that is read from them.
 use Rattle.std.proofs.Common.{◌≡◌, ◌≢◌, ℕ, List, [], ◌∷◌, Some, codes, refl, ap, sym, ◌∙◌}
-use Rattle.crs_decimal.specs.Prelude.{plain}
-use Rattle.crs_text.specs.Prelude.{Item, Siblings, More, arguments, kind_of_item, number, text, word, raw_of, item_text}
+use Rattle.crs_decimal.specs.inner.Prelude.{plain}
+use Rattle.crs_text.specs.inner.Prelude.{Item, Siblings, More, arguments, kind_of_item, number, text, word, raw_of, item_text}
 use Rattle.crs_text.specs.declared.items.ItemKind.TheVariants as items
-use Rattle.crs_shape.specs.Prelude.{class_named, asked_kind, direction_word, is_keyword, unit_word}
+use Rattle.crs_shape.specs.inner.Prelude.{class_named, asked_kind, direction_word, is_keyword, unit_word}
 use Rattle.crs_shape.specs.declared.class.Class.TheVariants as class
 use Rattle.crs_shape.specs.declared.unit_kind.UnitKind.TheVariants as kinds
-use Rattle.crs_value.specs.Prelude.{those, ReadsAxis, ReadsAxisMeridian, ReadsUnit, AxisParts, SystemParts}
+use Rattle.crs_value.specs.inner.Prelude.{those, ReadsAxis, ReadsAxisMeridian, ReadsUnit, AxisParts, SystemParts}
 use Rattle.crs_value.specs.declared.values.level.Level.{Level}
-use Rattle.crs_normal.specs.Prelude.{item_axis, norm_axis, number_node, whole_value}
+use Rattle.crs_normal.specs.inner.Prelude.{item_axis, norm_axis, number_node, whole_value}
 use Rattle.crs_writer.specs.inner.Copied.{IsDirectionWord, IsEnd, IsPlainOrder, IsSaidKind, IsSaidUnit, IsText}
 use Rattle.crs_writer.proofs.CopiedLemmas.{Identifies, end-copied, end-none, leaf-at, leaf-text, node-at, node-text, none-read, some-read, those-in, unit-copied}
 

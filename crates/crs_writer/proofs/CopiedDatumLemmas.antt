@@ -1,14 +1,14 @@
 -- Ellipsoids and geodetic reference frames that are canonical as they stand are what is written of all that is read from
 -- them.
 use Rattle.std.proofs.Common.{◌≡◌, List, [], ◌∷◌, codes, refl}
-use Rattle.crs_text.specs.Prelude.{Item, End, More, arguments, raw_of, number, text, item_text}
-use Rattle.crs_shape.specs.Prelude.{class_named, is_keyword}
+use Rattle.crs_text.specs.inner.Prelude.{Item, End, More, arguments, raw_of, number, text, item_text}
+use Rattle.crs_shape.specs.inner.Prelude.{class_named, is_keyword}
 use Rattle.crs_shape.specs.declared.class.Class.TheVariants as class
 use Rattle.crs_shape.specs.declared.unit_kind.UnitKind.TheVariants as kinds
-use Rattle.crs_value.specs.Prelude.{ReadsEach, ReadsDatum, ReadsEllipsoid, ReadsIdent, ReadsNumberOf, ReadsTextOf, ReadsUnit, DatumParts, EllipsoidParts}
+use Rattle.crs_value.specs.inner.Prelude.{ReadsEach, ReadsDatum, ReadsEllipsoid, ReadsIdent, ReadsNumberOf, ReadsTextOf, ReadsUnit, DatumParts, EllipsoidParts}
 use Rattle.crs_value.specs.Values.{IdentParts}
 use Rattle.crs_value.specs.declared.values.level.Level.{Level}
-use Rattle.crs_normal.specs.Prelude.{ellipsoid_text, item_datum, norm_datum, set_idents}
+use Rattle.crs_normal.specs.inner.Prelude.{ellipsoid_text, item_datum, norm_datum, set_idents}
 use Rattle.crs_writer.specs.inner.Copied.{IsPlainEllipsoid, IsText}
 use Rattle.crs_writer.proofs.CopiedLemmas.{leaf-at, leaf-text, node-at, node-text, none-kept, none-read, number-said, some-read, those-in, unit-copied}
 

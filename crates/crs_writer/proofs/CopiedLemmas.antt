@@ -1,19 +1,19 @@
 -- Nodes of the commonest forms, where they are canonical as they stand, are what is written of all that is read from them.
 use Rattle.std.proofs.Common.{arith, ◌≡◌, ℕ, false, if◌then◌else◌, List, [], ◌∷◌, ◌++◌, Option, Some, None, codes, refl, sym, ap, ◌∙◌}
 use denote.Enum.Bare.{sameb}
-use Rattle.crs_decimal.specs.Prelude.{plain, Value}
-use Rattle.crs_text.specs.Prelude.{Item, Siblings, leaf, End, More, arguments, kind_of_item, place_of, raw_of, Kind, number, text, item_text, others_text}
-use Rattle.crs_shape.specs.Prelude.{class_named, class_in, class_of_kind, is_keyword, kind_as, unit_word}
+use Rattle.crs_decimal.specs.inner.Prelude.{plain, Value}
+use Rattle.crs_text.specs.inner.Prelude.{Item, Siblings, leaf, End, More, arguments, kind_of_item, place_of, raw_of, Kind, number, text, item_text, others_text}
+use Rattle.crs_shape.specs.inner.Prelude.{class_named, class_in, class_of_kind, is_keyword, kind_as, unit_word}
 use Rattle.crs_shape.specs.contracts.class.Class.{the_type}
 use Rattle.crs_shape.specs.declared.class.Class.{Class}
 use Rattle.crs_shape.specs.declared.class.Class.TheVariants as class
 use Rattle.crs_shape.specs.declared.unit_kind.UnitKind.{UnitKind}
 use Rattle.crs_shape.specs.declared.unit_kind.UnitKind.TheVariants as kinds
-use Rattle.crs_value.specs.Prelude.{MethodParts, ParameterParts, those, ReadsEach, ReadsOptional, ReadsIdent, ReadsNumber, ReadsText, ReadsTextOf, ReadsUnit, ReadsAsUnit, ReadsMethod, ReadsParameter, ReadsUnitOf, parameter_units, UnitParts}
+use Rattle.crs_value.specs.inner.Prelude.{MethodParts, ParameterParts, those, ReadsEach, ReadsOptional, ReadsIdent, ReadsNumber, ReadsText, ReadsTextOf, ReadsUnit, ReadsAsUnit, ReadsMethod, ReadsParameter, ReadsUnitOf, parameter_units, UnitParts}
 use Rattle.crs_value.specs.Values.{IdentParts}
 use Rattle.crs_value.specs.declared.values.level.Level.{Level}
 use Rattle.crs_value.specs.declared.values.level.Level.TheVariants as levels
-use Rattle.crs_normal.specs.Prelude.{method_text, parameter_text, each, is_short, item_ident, item_unit, norm_unit, set_idents}
+use Rattle.crs_normal.specs.inner.Prelude.{method_text, parameter_text, each, is_short, item_ident, item_unit, norm_unit, set_idents}
 use Rattle.crs_writer.specs.inner.Copied.{IsEnd, IsPlainNumber, IsSaidUnit, IsShortIdent, IsText, SaysKind}
 
 -- ---- items that are no nodes

@@ -1,12 +1,12 @@
 -- Usages that are canonical as they stand are what is written of all that is read from them.
 use Rattle.std.proofs.Common.{◌≡◌, ℕ, List, [], ◌∷◌, codes, refl}
-use Rattle.crs_text.specs.Prelude.{Item, End, More, arguments, raw_of, number, text, item_text}
-use Rattle.crs_shape.specs.Prelude.{class_named, is_keyword}
+use Rattle.crs_text.specs.inner.Prelude.{Item, End, More, arguments, raw_of, number, text, item_text}
+use Rattle.crs_shape.specs.inner.Prelude.{class_named, is_keyword}
 use Rattle.crs_shape.specs.declared.class.Class.{Class}
 use Rattle.crs_shape.specs.declared.class.Class.TheVariants as class
-use Rattle.crs_value.specs.Prelude.{ReadsBox, ReadsExtent, ReadsTextOf, ReadsUsage, BoxParts, UsageParts}
+use Rattle.crs_value.specs.inner.Prelude.{ReadsBox, ReadsExtent, ReadsTextOf, ReadsUsage, BoxParts, UsageParts}
 use Rattle.crs_value.specs.declared.values.level.Level.{Level}
-use Rattle.crs_normal.specs.Prelude.{usage_text, text_node, item_box}
+use Rattle.crs_normal.specs.inner.Prelude.{usage_text, text_node, item_box}
 use Rattle.crs_writer.specs.inner.Copied.{IsPlainBox, IsTextNode}
 use Rattle.crs_writer.proofs.CopiedLemmas.{leaf-at, leaf-text, node-at, node-text, none-read, number-said, some-read, those-in}
 

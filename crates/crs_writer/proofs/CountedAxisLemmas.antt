@@ -1,9 +1,9 @@
 -- Axes that are looked for, and counted, among items.
 use Rattle.std.proofs.Common.{◌≡◌, ℕ, suc, ◌+◌, ◌≤◌, Bool, true, false, List, [], ◌∷◌, Option, Some, None, if◌then◌else◌, length, refl, ap, arith}
-use Rattle.crs_text.specs.Prelude.{Item, Siblings, End, More, count, rest_of, here}
+use Rattle.crs_text.specs.inner.Prelude.{Item, Siblings, End, More, count, rest_of, here}
 use Rattle.crs_shape.specs.declared.class.Class.{Class}
-use Rattle.crs_value.specs.Prelude.{from_found, is_a, item_at, those, Holds, ReadsEach, AxisParts}
-use Rattle.crs_normal.specs.Prelude.{axis_at, is_at}
+use Rattle.crs_value.specs.inner.Prelude.{from_found, is_a, item_at, those, Holds, ReadsEach, AxisParts}
+use Rattle.crs_normal.specs.inner.Prelude.{axis_at, is_at}
 
 -- so many were seen before
 pub record Counting (tree : Item) (parent c : Class) (whole : List Item) (index : ℕ) (at : Option ℕ) : Type 0 where

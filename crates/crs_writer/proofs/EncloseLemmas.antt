@@ -2,8 +2,8 @@
 use Rattle.std.proofs.Common.{◌≡◌, ℕ, ◌<◌, List, [], ◌∷◌, ◌++◌, length, slice_set, sym, ap, ◌∙◌, arith, append_assoc}
 use Rattle.std.proofs.Math.Seq.{set-append_seam}
 use Rattle.std.proofs.lemmas.List.{append-nil}
-use Rattle.crs_text.specs.Prelude.{Siblings, End, More, item_text, others_text}
-use Rattle.crs_normal.specs.Prelude.{node_from}
+use Rattle.crs_text.specs.inner.Prelude.{Siblings, End, More, item_text, others_text}
+use Rattle.crs_normal.specs.inner.Prelude.{node_from}
 use Rattle.crs_writer.specs.inner.Openings.{enclosed}
 
 pub enclosing : (front : List ℕ) (items : Siblings) (at : ℕ) (old opened closed : List ℕ) →

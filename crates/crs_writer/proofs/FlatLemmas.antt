@@ -4,14 +4,14 @@ use Rattle.std.proofs.lemmas.List.{append-nil}
 use Rattle.std.proofs.lemmas.Result.{on_ok_weaker}
 use Rattle.std.specs.Option.{option_copied, option_map}
 use denote.Bor.{Bor}
-use Rattle.crs_text.specs.Prelude.{Item, Siblings, End, More, item_text, others_text}
+use Rattle.crs_text.specs.inner.Prelude.{Item, Siblings, End, More, item_text, others_text}
 use Rattle.crs_shape.specs.declared.unit_kind.UnitKind.{UnitKind}
 use Rattle.crs_shape.specs.declared.unit_kind.UnitKind.TheVariants as kinds
-use Rattle.crs_decimal.specs.Prelude.{plain, Value}
-use Rattle.crs_value.specs.Prelude.{AxisMeridianParts, UnitParts}
+use Rattle.crs_decimal.specs.inner.Prelude.{plain, Value}
+use Rattle.crs_value.specs.inner.Prelude.{AxisMeridianParts, UnitParts}
 use Rattle.crs_value.specs.Values.{IdentParts}
 use Rattle.crs_value.specs.declared.values.level.Level.{Level}
-use Rattle.crs_normal.specs.Prelude.{axis_meridian_text, each, number_node, opt, item_axis_meridian, norm_axis_meridians, is_zero, item_ident, item_unit, norm_unit, norm_units, number_item, set_idents}
+use Rattle.crs_normal.specs.inner.Prelude.{axis_meridian_text, each, number_node, opt, item_axis_meridian, norm_axis_meridians, is_zero, item_ident, item_unit, norm_unit, norm_units, number_item, set_idents}
 use Rattle.crs_writer.specs.inner.FromItems.{Writes}
 use Rattle.crs_writer.specs.inner.Openings.{named_node}
 use Rattle.crs_writer.specs.inner.Found.{SaysIfAny}

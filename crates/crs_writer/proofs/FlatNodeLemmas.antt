@@ -1,11 +1,11 @@
 -- Nodes of which no argument is a node: nothing is read from nodes in them.
 use Rattle.std.proofs.Common.{◌≡◌, ◌-◌, ◌≤◌, false, [], refl, arith}
 use denote.Enum.Bare.{sameb}
-use Rattle.crs_text.specs.Prelude.{Item, Siblings, leaf, node, End, More, arguments, count, size_of, sizes, number, text, word}
+use Rattle.crs_text.specs.inner.Prelude.{Item, Siblings, leaf, node, End, More, arguments, count, size_of, sizes, number, text, word}
 use Rattle.crs_shape.specs.contracts.class.Class.{the_type}
 use Rattle.crs_shape.specs.declared.class.Class.{Class}
 use Rattle.crs_shape.specs.declared.class.Class.TheVariants as class
-use Rattle.crs_value.specs.Prelude.{those}
+use Rattle.crs_value.specs.inner.Prelude.{those}
 use Rattle.crs_writer.specs.inner.Found.{AreLeaves}
 
 some-size : (item : Item) → 1 ≤ size_of item

@@ -2,9 +2,9 @@
 use Rattle.std.proofs.Common.{◌≡◌, List, [], ◌∷◌, Option, Some, None, sym, subst}
 use Rattle.std.specs.Option.{option_copied}
 use denote.Bor.{Bor}
-use Rattle.crs_text.specs.Prelude.{Item}
+use Rattle.crs_text.specs.inner.Prelude.{Item}
 use Rattle.crs_shape.specs.declared.class.Class.{Class}
-use Rattle.crs_value.specs.Prelude.{ReadsEach, ReadsFirst, ReadsOptional}
+use Rattle.crs_value.specs.inner.Prelude.{ReadsEach, ReadsFirst, ReadsOptional}
 use Rattle.crs_writer.specs.inner.Node.{IsFirst, args, item}
 use Rattle.crs_writer.specs.inner.Found.{SaysIfAny}
 use Rattle.crs_writer.specs.declared.nodes.node.Node.{Node}

@@ -1,6 +1,6 @@
 -- Spellings of the members of a set that are gathered one after another.
 use Rattle.std.proofs.Common.{◌≡◌, ℕ, List, [], ◌∷◌, ◌++◌, map, refl, sym, ap, ◌∙◌}
-use Rattle.crs_normal.specs.Prelude.{in_order, put, put_all}
+use Rattle.crs_normal.specs.inner.Prelude.{in_order, put, put_all}
 use Rattle.crs_writer.specs.inner.Members.{set_text}
 use Rattle.crs_writer.specs.inner.Parts.{SaysFirst}
 use Rattle.crs_writer.specs.SetText.{commas}

@@ -1,8 +1,8 @@
 -- What is written straight from items, put together from what is written of each part.
 use Rattle.std.proofs.Common.{◌≡◌, ℕ, List, [], ◌∷◌, ◌++◌, Option, sym, ap, ◌∙◌, append_assoc}
 use Rattle.std.proofs.lemmas.List.{append-nil}
-use Rattle.crs_text.specs.Prelude.{Item, Siblings, End, More, item_text, others_text}
-use Rattle.crs_normal.specs.Prelude.{node_of, opt, text_item, text_node}
+use Rattle.crs_text.specs.inner.Prelude.{Item, Siblings, End, More, item_text, others_text}
+use Rattle.crs_normal.specs.inner.Prelude.{node_of, opt, text_item, text_node}
 use Rattle.crs_writer.specs.inner.Openings.{opened, text_behind}
 use Rattle.crs_writer.proofs.PieceLemmas.{three, then-more, then-opt, two}
 use Rattle.crs_writer.proofs.TextLemmas.{text-node}

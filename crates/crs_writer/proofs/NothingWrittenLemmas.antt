@@ -1,17 +1,17 @@
 -- What is written of sets that have no members, of an ensemble in the place of a frame, or where a level doesn't keep a part.
 use Rattle.std.proofs.Common.{◌≡◌, ℕ, List, [], ◌∷◌, ◌++◌, Option, Some, None, true, false, IsSome, inl, inr, map, refl, sym, ap, subst, ◌∙◌}
 use Rattle.std.proofs.lemmas.List.{append-nil}
-use Rattle.crs_text.specs.Prelude.{Item, End, arguments, item_text, others_text}
+use Rattle.crs_text.specs.inner.Prelude.{Item, End, arguments, item_text, others_text}
 use Rattle.crs_shape.specs.declared.class.Class.{Class}
 use Rattle.crs_shape.specs.declared.class.Class.TheVariants as class
-use Rattle.crs_value.specs.Prelude.{kept, kept_one, those, ReadsEach, ReadsElse, ReadsFirst, ReadsOne, ReadsOptional, LacksUsage, ReadsBare, ReadsBox, ReadsEnsemble, ReadsExtent, ReadsTextOf, ReadsUsage, ReadsAsDatum, ReadsAsEnsemble, ReadsFrame, SaysSome, UsageParts}
+use Rattle.crs_value.specs.inner.Prelude.{kept, kept_one, those, ReadsEach, ReadsElse, ReadsFirst, ReadsOne, ReadsOptional, LacksUsage, ReadsBare, ReadsBox, ReadsEnsemble, ReadsExtent, ReadsTextOf, ReadsUsage, ReadsAsDatum, ReadsAsEnsemble, ReadsFrame, SaysSome, UsageParts}
 use Rattle.crs_value.specs.Values.{IdentParts}
 use Rattle.crs_value.specs.declared.values.frame.Frame.{Frame}
 use Rattle.crs_value.specs.declared.values.frame.Frame.TheVariants as frame
 use Rattle.crs_value.specs.declared.values.level.Level.{Level}
 use Rattle.crs_value.specs.declared.values.level.Level.TheVariants as levels
-use Rattle.crs_same.specs.Prelude.{with_bare}
-use Rattle.crs_normal.specs.Prelude.{item_ensemble, item_frame, norm_ensemble, norm_frame, each, item_ident, set_idents, item_usage, norm_usage, set_usages}
+use Rattle.crs_same.specs.inner.Prelude.{with_bare}
+use Rattle.crs_normal.specs.inner.Prelude.{item_ensemble, item_frame, norm_ensemble, norm_frame, each, item_ident, set_idents, item_usage, norm_usage, set_usages}
 use Rattle.crs_writer.specs.inner.FromItems.{Writes}
 use Rattle.crs_writer.specs.inner.Members.{set_text}
 use Rattle.crs_writer.proofs.WrittenLemmas.{idents-written, usages-written}

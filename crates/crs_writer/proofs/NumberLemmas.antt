@@ -1,6 +1,6 @@
 -- Numbers, as bytes spell them.
 use Rattle.std.proofs.Common.{◌≡◌, ℕ, List, ◌++◌, ◌∙◌, Result, Ok, Err, OnOk, MatchResult, Some, sym, ap, subst}
-use Rattle.crs_decimal.specs.Prelude.{AppendsPlain, Denotes, IsFault, IsPlain, Value, IsNormal, exact, plain}
+use Rattle.crs_decimal.specs.inner.Prelude.{AppendsPlain, Denotes, IsFault, IsPlain, Value, IsNormal, exact, plain}
 use Rattle.crs_decimal.specs.declared.fault.NumberFault.{NumberFault}
 use Rattle.crs_decimal.specs.declared.fault.NumberFault.TheVariants as faults
 

@@ -1,7 +1,7 @@
 -- Texts that are appended piece by piece.
 use Rattle.std.proofs.Common.{◌≡◌, ℕ, List, ◌∷◌, ◌++◌, Option, sym, ap, ◌∙◌, append_assoc}
-use Rattle.crs_text.specs.Prelude.{Item, Siblings, End, More, item_text, others_text}
-use Rattle.crs_normal.specs.Prelude.{each, opt}
+use Rattle.crs_text.specs.inner.Prelude.{Item, Siblings, End, More, item_text, others_text}
+use Rattle.crs_normal.specs.inner.Prelude.{each, opt}
 use Rattle.crs_writer.proofs.TextLemmas.{each-text, opt-text}
 
 pub two : (old a b s1 s2 : List ℕ) → s1 ≡ old ++ a → s2 ≡ s1 ++ b → s2 ≡ old ++ (a ++ b)

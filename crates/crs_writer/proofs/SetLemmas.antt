@@ -5,7 +5,7 @@ use Rattle.std.specs.Cmp.Lexicographic.{slice_cmp}
 use Rattle.std.specs.Ordering.{nat_cmp, match_ordering}
 use Rattle.std.specs.declared.alloc.Global.{Global}
 use Rattle.std.specs.declared.cmp.Ordering.{Ordering}
-use Rattle.crs_normal.specs.Prelude.{put}
+use Rattle.crs_normal.specs.inner.Prelude.{put}
 use Rattle.crs_writer.specs.inner.Members.{spellings}
 use Rattle.crs_writer.proofs.TextLemmas.{map-match}
 

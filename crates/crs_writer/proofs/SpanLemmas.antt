@@ -6,7 +6,7 @@ use Rattle.std.specs.Ordering.{nat_cmp, match_ordering, ordering_reverse}
 use Rattle.std.proofs.lemmas.Cmp.{nat_list_cmp_total}
 use Rattle.std.proofs.lemmas.List.{append_assoc, drop-append-le, drop_more, get_or-map, length-append, length-drop, length-map, take-append-drop, take-append-le, take_all, take_more}
 use Rattle.crs_value.specs.Sound.{Each}
-use Rattle.crs_normal.specs.Prelude.{Ascends, Below, IsIn, in_order, put, put_all}
+use Rattle.crs_normal.specs.inner.Prelude.{Ascends, Below, IsIn, in_order, put, put_all}
 use Rattle.crs_writer.specs.inner.Spans.{AreInOrder, AreWithin, IsPutAmong, IsWithin, text_at, texts_at}
 use Rattle.crs_writer.specs.declared.spans.Span.{Span}
 

@@ -1,11 +1,11 @@
 -- Axes as they are looked up and written.
 use Rattle.std.proofs.Common.{◌≡◌, ℕ, suc, ◌+◌, List, [], ◌∷◌, ◌++◌, Option, Some, None, codes, refl, sym, ap, ◌∙◌, subst, append_assoc}
-use Rattle.crs_text.specs.Prelude.{Siblings, End, More, item_text, others_text}
-use Rattle.crs_shape.specs.Prelude.{asked_kind, direction_word}
-use Rattle.crs_value.specs.Prelude.{AxisParts, SystemParts}
+use Rattle.crs_text.specs.inner.Prelude.{Siblings, End, More, item_text, others_text}
+use Rattle.crs_shape.specs.inner.Prelude.{asked_kind, direction_word}
+use Rattle.crs_value.specs.inner.Prelude.{AxisParts, SystemParts}
 use Rattle.crs_value.specs.declared.values.level.Level.{Level}
-use Rattle.crs_same.specs.Prelude.{own_or}
-use Rattle.crs_normal.specs.Prelude.{each, number_node, opt, word_item, axes_from, axis_at, item_axis, item_axis_meridian, item_head, norm_axis, norm_axis_meridians, norm_system, system_items, with_axis, item_ident, item_unit, norm_units, set_idents, whole_value}
+use Rattle.crs_same.specs.inner.Prelude.{own_or}
+use Rattle.crs_normal.specs.inner.Prelude.{each, number_node, opt, word_item, axes_from, axis_at, item_axis, item_axis_meridian, item_head, norm_axis, norm_axis_meridians, norm_system, system_items, with_axis, item_ident, item_unit, norm_units, set_idents, whole_value}
 use Rattle.crs_writer.specs.inner.Openings.{named_node}
 use Rattle.crs_writer.proofs.PieceLemmas.{two}
 use Rattle.crs_writer.proofs.TextLemmas.{each-text}

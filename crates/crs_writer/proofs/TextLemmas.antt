@@ -1,8 +1,8 @@
 -- The text of arguments is that of the first ones and that of the rest.
 use Rattle.std.proofs.Common.{◌≡◌, ℕ, List, [], ◌∷◌, ◌++◌, Option, Some, None, map, refl, sym, ap, ◌∙◌, append_assoc}
 use Rattle.std.proofs.lemmas.List.{append-nil}
-use Rattle.crs_text.specs.Prelude.{Item, Siblings, End, More, item_text, others_text}
-use Rattle.crs_normal.specs.Prelude.{in_order, put, put_all, each, opt, text_node}
+use Rattle.crs_text.specs.inner.Prelude.{Item, Siblings, End, More, item_text, others_text}
+use Rattle.crs_normal.specs.inner.Prelude.{in_order, put, put_all, each, opt, text_node}
 use Rattle.std.specs.Cmp.Lexicographic.{slice_cmp}
 use Rattle.std.specs.Ordering.{nat_cmp, match_ordering}
 use Rattle.std.specs.declared.cmp.Ordering.{Ordering}

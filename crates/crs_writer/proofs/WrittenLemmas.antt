@@ -1,11 +1,11 @@
 -- The sets of a part as they are written.
 use Rattle.std.proofs.Common.{◌≡◌, ◌∙◌, List, Option, ap, map, refl, sym}
-use Rattle.crs_text.specs.Prelude.{End, item_text, others_text}
-use Rattle.crs_value.specs.Prelude.{GeoidModelParts, ParameterParts, MemberParts, UsageParts, kept, kept_one, kept-joined}
+use Rattle.crs_text.specs.inner.Prelude.{End, item_text, others_text}
+use Rattle.crs_value.specs.inner.Prelude.{GeoidModelParts, ParameterParts, MemberParts, UsageParts, kept, kept_one, kept-joined}
 use Rattle.crs_value.specs.Values.{IdentParts}
 use Rattle.crs_value.specs.declared.values.level.Level.{Level}
-use Rattle.crs_same.specs.Prelude.{with_bare}
-use Rattle.crs_normal.specs.Prelude.{item_geoid_model, item_parameter, norm_geoid_model, norm_parameter, set_geoid_models, set_parameters, item_member, norm_member, set_members, each, item_ident, set_idents, item_usage, norm_usage, set_usages}
+use Rattle.crs_same.specs.inner.Prelude.{with_bare}
+use Rattle.crs_normal.specs.inner.Prelude.{item_geoid_model, item_parameter, norm_geoid_model, norm_parameter, set_geoid_models, set_parameters, item_member, norm_member, set_members, each, item_ident, set_idents, item_usage, norm_usage, set_usages}
 use Rattle.crs_writer.specs.inner.Members.{set_text}
 use Rattle.crs_writer.proofs.TextLemmas.{normal_set-written, set-written}
 

@@ -7,4 +7,5 @@ pub mod Members
 pub mod Node
 pub mod Openings
 pub mod Parts
+pub mod Prelude
 pub mod Spans

@@ -1,7 +1,8 @@
 //! The axes of a CRS, and their positions.
 ghost use Rattle.std.specs.Prelude.{◌≡◌, List, length};
 ghost use Rattle.crs_text.specs.Items.{HasId, arguments};
-ghost use Rattle.crs_value.specs.Reading.{Holds, item_at, those, ReadsAll};
+ghost use Rattle.crs_value.specs.Reading.{those, ReadsAll};
+ghost use Rattle.crs_value.specs.inner.Arguments.{Holds, item_at};
 ghost use Rattle.crs_value.specs.Reads.{ReadsAxis};
 ghost use Rattle.crs_value.specs.Values.{AxisParts};
 ghost use Rattle.crs_normal.specs.inner.SpelledSystems.{axis_at, is_at, is_number};

@@ -1,7 +1,8 @@
 //! Refusals as C has them.
 ghost use Rattle.std.specs.Prelude.{◌≡◌};
 ghost use Rattle.crs_text.specs.Fault.{refusal_of};
-ghost use Rattle.crs_c.specs.Refusals.{IsTold, no_refusal, place_and_number};
+ghost use Rattle.crs_c.specs.Refusals.{no_refusal, place_and_number};
+ghost use Rattle.crs_c.specs.inner.Told.{IsTold};
 
 use crate::calls::codes::NO_MEMORY;
 use crs_text::{Fault, Refusal};

@@ -1,6 +1,7 @@
 ghost use Rattle.std.specs.Prelude.{◌≡◌, ◌↔◌, IfOk, IfErr, IsErrOf, false, true};
 ghost use Rattle.crs_desk.specs.Ending.{IsWritten, IsWriteFault};
-ghost use Rattle.crs_desk.specs.SameOutput.{IsSameOutput, WritesPart};
+ghost use Rattle.crs_desk.specs.SameOutput.{IsSameOutput};
+ghost use Rattle.crs_desk.specs.inner.Found.{WritesPart};
 ghost use Rattle.crs_streams.specs.Streams.{fresh_sink};
 
 use crate::{PairAnswer, Telling, refused_line, write_answer};

@@ -111,7 +111,7 @@ pub fn run_check<R: Read, W: Write>(
 
 // The line of a kind or of a refusal, and the status.
 impl Answer for Result<Kind, Refusal> {
-    ghost use Rattle.crs_desk.specs.Output.{WritesFound};
+    ghost use Rattle.crs_desk.specs.inner.Found.{WritesFound};
 
     ghost Output = { λ s written status. WritesFound s written status };
 

@@ -1,19 +1,19 @@
 -- An axis by itself is accepted, and normal but for a unit that is `UNIT`.
 use Rattle.std.proofs.Common.{◌≢◌, ℕ, Option, Some, None, List, [], ◌∷◌, codes, IfSome, inl, inr, refl, arith}
-use Rattle.crs_decimal.specs.Prelude.{IsNormal}
-use Rattle.crs_text.specs.Prelude.{Item, Siblings, End, More, arguments, at_place}
+use Rattle.crs_decimal.specs.inner.Prelude.{IsNormal}
+use Rattle.crs_text.specs.inner.Prelude.{Item, Siblings, End, More, arguments, at_place}
 use Rattle.crs_shape.specs.declared.class.Class.{Class}
 use Rattle.crs_shape.specs.declared.class.Class.TheVariants as class
 use Rattle.crs_shape.specs.declared.unit_kind.UnitKind.{UnitKind}
 use Rattle.crs_shape.specs.declared.unit_kind.UnitKind.TheVariants as kinds
-use Rattle.crs_shape.specs.Prelude.{is_keyword, slots_of, direction_word}
-use Rattle.crs_value.specs.Prelude.{those, IsAxis, IsAxisUnit, IsUnit, AxisParts, UnitParts, Own as BreaksOwn}
+use Rattle.crs_shape.specs.inner.Prelude.{is_keyword, slots_of, direction_word}
+use Rattle.crs_value.specs.inner.Prelude.{those, IsAxis, IsAxisUnit, IsUnit, AxisParts, UnitParts, Own as BreaksOwn}
 use Rattle.crs_value.specs.declared.values.level.Level.{Level}
-use Rattle.crs_same.specs.Prelude.{kind_as}
+use Rattle.crs_same.specs.inner.Prelude.{kind_as}
 use Rattle.crs_normal.specs.AxisAlone.{AreNormalArguments, IsNormalArgument, IsNormalAxis}
 use Rattle.crs_normal.specs.inner.LowerLaws.{LowerLaws}
 use Rattle.crs_normal.specs.Normal.{IsNormalIn}
-use Rattle.crs_normal.specs.Prelude.{norm_axis_alone, number_node, item_axis, item_axis_meridian, norm_axis_meridians, item_unit, norm_units}
+use Rattle.crs_normal.specs.inner.Prelude.{norm_axis_alone, number_node, item_axis, item_axis_meridian, norm_axis_meridians, item_unit, norm_units}
 use Rattle.crs_normal.proofs.made.AxisLemmas.{axis-meridians-made, known-direction, order-argument, axis-names, direction-letters}
 use Rattle.crs_normal.proofs.made.IdentLemmas.{ids-orderly, ids-of}
 use Rattle.crs_normal.proofs.made.LeafLemmas.{word-made}

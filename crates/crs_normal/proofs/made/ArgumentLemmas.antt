@@ -1,18 +1,18 @@
 -- A node is made of arguments that say how many they are: whether they fit its slots is computed.
 use Rattle.std.proofs.Common.{◌≡◌, ◌≢◌, ◌∙◌, ℕ, suc, ◌≤◌, Bool, true, false, true≢false, IsTrue, IfSome, Option, Some, None, List, [], ◌∷◌, map, length, if◌then◌else◌, refl, sym, ap, subst, arith, ◌&&◌}
 use Rattle.std.specs.Option.{is_some, option_map}
-use Rattle.crs_decimal.specs.Prelude.{Value, IsNormal}
-use Rattle.crs_text.specs.Prelude.{Item, Siblings, End, More, arguments, RefusedAt, IsWord, at_place, item_text}
+use Rattle.crs_decimal.specs.inner.Prelude.{Value, IsNormal}
+use Rattle.crs_text.specs.inner.Prelude.{Item, Siblings, End, More, arguments, RefusedAt, IsWord, at_place, item_text}
 use Rattle.crs_shape.specs.declared.class.Class.{Class}
 use Rattle.crs_shape.specs.declared.class.Class.TheVariants as class
-use Rattle.crs_shape.specs.Prelude.{is_keyword, Allowed, SlotParts, class_in, class_named, one, slots_of, takes}
+use Rattle.crs_shape.specs.inner.Prelude.{is_keyword, Allowed, SlotParts, class_in, class_named, one, slots_of, takes}
 use Rattle.crs_value.specs.declared.values.level.Level.{Level}
-use Rattle.crs_value.specs.Prelude.{IsText, those, Own as BreaksOwn}
+use Rattle.crs_value.specs.inner.Prelude.{IsText, those, Own as BreaksOwn}
 use Rattle.crs_value.specs.Sound.{Each}
 use Rattle.crs_normal.specs.inner.LowerLaws.{LowerLaws}
 use Rattle.crs_normal.specs.Normal.{IsFirstKeyword, IsNormalIn, AreNormalIn, IsNormalNode}
 use Rattle.crs_normal.specs.NormalOwn.{HasOwnForm, Rise, set_classes, Ascend}
-use Rattle.crs_normal.specs.Prelude.{each, node_of, number_item, number_node, opt, text_item, text_node, in_order}
+use Rattle.crs_normal.specs.inner.Prelude.{each, node_of, number_item, number_node, opt, text_item, text_node, in_order}
 use Rattle.crs_normal.proofs.made.AscendLemmas.{set-each, set-some}
 use Rattle.crs_normal.proofs.made.FitLemmas.{given-few, held, more-fit, none-fit, slot-fits}
 use Rattle.crs_normal.proofs.read.ViewLemmas.{each-so}

@@ -1,7 +1,7 @@
 -- Axes at their positions are made.
 use Rattle.std.proofs.Common.{◌≡◌, ℕ, zero, suc, ◌≤◌, Option, Some, None, List, [], ◌∷◌, codes, IfSome, inl, inr, refl, sym, subst, arith, ap}
-use Rattle.crs_decimal.specs.Prelude.{Value, IsNormal}
-use Rattle.crs_text.specs.Prelude.{Item, arguments, RefusedAt, at_place, Siblings, More, End, IsWord}
+use Rattle.crs_decimal.specs.inner.Prelude.{Value, IsNormal}
+use Rattle.crs_text.specs.inner.Prelude.{Item, arguments, RefusedAt, at_place, Siblings, More, End, IsWord}
 use Rattle.crs_shape.specs.declared.class.Class.TheVariants as class
 use Rattle.crs_shape.specs.declared.direction.Direction.{Direction}
 use Rattle.crs_shape.specs.declared.direction.Direction.TheVariants as direction
@@ -9,12 +9,12 @@ use Rattle.crs_shape.specs.declared.system_type.SystemType.{SystemType}
 use Rattle.crs_shape.specs.declared.system_type.SystemType.TheVariants as types
 use Rattle.crs_shape.specs.declared.unit_kind.UnitKind.{UnitKind}
 use Rattle.crs_shape.specs.declared.unit_kind.UnitKind.TheVariants as kinds
-use Rattle.crs_shape.specs.Prelude.{is_keyword, class_named, asked_kind, kind_by_direction, direction_word, unit_word}
-use Rattle.crs_value.specs.Prelude.{orders_in, units_in, UnknownDirection, AnyOf, those, IsAxis, IsAxisMeridian, IsUnitOf, AxisMeridianParts, AxisParts, SystemParts, UnitParts, Own as BreaksOwn}
+use Rattle.crs_shape.specs.inner.Prelude.{is_keyword, class_named, asked_kind, kind_by_direction, direction_word, unit_word}
+use Rattle.crs_value.specs.inner.Prelude.{orders_in, units_in, UnknownDirection, AnyOf, those, IsAxis, IsAxisMeridian, IsUnitOf, AxisMeridianParts, AxisParts, SystemParts, UnitParts, Own as BreaksOwn}
 use Rattle.crs_value.specs.declared.values.level.Level.{Level}
-use Rattle.crs_same.specs.Prelude.{own_or}
+use Rattle.crs_same.specs.inner.Prelude.{own_or}
 use Rattle.crs_normal.specs.inner.LowerLaws.{LowerLaws}
-use Rattle.crs_normal.specs.Prelude.{number_node, word_item, each, opt, text_item, item_unit, norm_unit, whole_value, item_ident, norm_units, set_idents}
+use Rattle.crs_normal.specs.inner.Prelude.{number_node, word_item, each, opt, text_item, item_unit, norm_unit, whole_value, item_ident, norm_units, set_idents}
 use Rattle.crs_normal.specs.inner.SpelledSystems.{item_axis, item_axis_meridian, norm_axis, norm_axis_meridian, norm_axis_meridians}
 use Rattle.crs_normal.proofs.made.EllipsoidLemmas.{unit-argument}
 use Rattle.crs_normal.proofs.made.IdentLemmas.{ids-of, ids-orderly}

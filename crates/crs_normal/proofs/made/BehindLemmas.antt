@@ -1,17 +1,17 @@
 -- What CRSs with a coordinate system have after their other parts is made: the system and the end.
 use Rattle.std.proofs.Common.{◌≡◌, ◌≢◌, ℕ, suc, ◌≤◌, List, [], ◌∷◌, length, map, codes, Some, refl, sym, ap, subst, ◌∙◌, arith}
 use Rattle.std.proofs.lemmas.List.{append-nil, length-map, nil_from_length}
-use Rattle.crs_decimal.specs.Prelude.{SameNumber, whole_number, exact}
-use Rattle.crs_text.specs.Prelude.{Item, arguments}
+use Rattle.crs_decimal.specs.inner.Prelude.{SameNumber, whole_number, exact}
+use Rattle.crs_text.specs.inner.Prelude.{Item, arguments}
 use Rattle.crs_shape.specs.declared.class.Class.{Class}
 use Rattle.crs_shape.specs.declared.class.Class.TheVariants as class
 use Rattle.crs_shape.specs.declared.system_type.SystemType.{SystemType}
-use Rattle.crs_shape.specs.Prelude.{class_named, IsOneOf}
-use Rattle.crs_value.specs.Prelude.{kept_one, those, IsSystem, SystemParts, TailParts}
+use Rattle.crs_shape.specs.inner.Prelude.{class_named, IsOneOf}
+use Rattle.crs_value.specs.inner.Prelude.{kept_one, those, IsSystem, SystemParts, TailParts}
 use Rattle.crs_value.specs.declared.values.level.Level.{Level}
 use Rattle.crs_value.specs.Sound.{Each}
 use Rattle.crs_normal.specs.inner.LowerLaws.{LowerLaws}
-use Rattle.crs_normal.specs.Prelude.{axes_from, item_axis, item_head, norm_system, text_node}
+use Rattle.crs_normal.specs.inner.Prelude.{axes_from, item_axis, item_head, norm_system, text_node}
 use Rattle.crs_normal.specs.NormalOwn.{Lacks, bare_classes}
 use Rattle.crs_normal.proofs.read.ViewLemmas.{each-so}
 use Rattle.crs_normal.proofs.made.CheckLemmas.{IsSystemIn, IsSystemSeen}

@@ -2,18 +2,18 @@
 use Rattle.std.proofs.Common.{◌≡◌, ◌⊎◌, ℕ, ◌+◌, ◌<◌, ◌≤◌, ◌++◌, List, [], ◌∷◌, length, map, codes, decimal, inl, inr, refl, sym, ap, subst, ◌∙◌, arith}
 use Rattle.std.proofs.Math.Logic.{⊎_elim}
 use Rattle.std.proofs.lemmas.List.{append-nil}
-use Rattle.crs_decimal.specs.Prelude.{SameNumber, whole_number, Value, IsNormal, exact}
-use Rattle.crs_text.specs.Prelude.{Item, arguments, RefusedAt, at_place}
+use Rattle.crs_decimal.specs.inner.Prelude.{SameNumber, whole_number, Value, IsNormal, exact}
+use Rattle.crs_text.specs.inner.Prelude.{Item, arguments, RefusedAt, at_place}
 use Rattle.crs_shape.specs.declared.class.Class.{Class}
 use Rattle.crs_shape.specs.declared.class.Class.TheVariants as class
 use Rattle.crs_shape.specs.declared.direction.Direction.{Direction}
 use Rattle.crs_shape.specs.declared.system_type.SystemType.{SystemType}
-use Rattle.crs_shape.specs.Prelude.{IsOneOf, asked_kind, direction_word, system_word}
-use Rattle.crs_value.specs.Prelude.{BadOrder, BadOrders, IsBadOrder, IsPosition, LacksOrder, OneHas, ReadsOrder, orders_in, BadOwnUnit, Misfits, units_in, AnyOf, BadSystems, OfHead, ReadsFirst, those, SystemParts, ReadsDirection, ReadsKind, ReadsNumber, ReadsType}
+use Rattle.crs_shape.specs.inner.Prelude.{IsOneOf, asked_kind, direction_word, system_word}
+use Rattle.crs_value.specs.inner.Prelude.{BadOrder, BadOrders, IsBadOrder, IsPosition, LacksOrder, OneHas, ReadsOrder, orders_in, BadOwnUnit, Misfits, units_in, AnyOf, BadSystems, OfHead, ReadsFirst, those, SystemParts, ReadsDirection, ReadsKind, ReadsNumber, ReadsType}
 use Rattle.crs_value.specs.Sound.{Each}
 use Rattle.crs_normal.specs.inner.LowerLaws.{LowerLaws}
 use Rattle.crs_normal.specs.NormalOwn.{AreOrdered, Has, HasAxes, numbers_in}
-use Rattle.crs_normal.specs.Prelude.{number_item, number_node, word_item, item_unit, whole_value}
+use Rattle.crs_normal.specs.inner.Prelude.{number_item, number_node, word_item, item_unit, whole_value}
 use Rattle.crs_normal.proofs.read.ViewLemmas.{each-so}
 use Rattle.crs_normal.proofs.made.AxisLemmas.{IsAxisItem, whole-normal}
 use Rattle.crs_normal.proofs.made.EllipsoidLemmas.{placed-some}

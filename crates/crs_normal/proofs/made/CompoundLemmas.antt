@@ -1,14 +1,14 @@
 -- Compound CRSs are made, and with them all CRSs.
 use Rattle.std.proofs.Math.Logic.{⊎_elim}
 use Rattle.std.proofs.Common.{◌≡◌, ℕ, Bool, true, false, Some, List, [], ◌∷◌, codes, refl, sym, subst, ◌∙◌, arith, drop}
-use Rattle.crs_decimal.specs.Prelude.{SameNumber, whole_number, Value, IsNormal, exact}
-use Rattle.crs_text.specs.Prelude.{Item, More, arguments, RefusedAt, at_place}
+use Rattle.crs_decimal.specs.inner.Prelude.{SameNumber, whole_number, Value, IsNormal, exact}
+use Rattle.crs_text.specs.inner.Prelude.{Item, More, arguments, RefusedAt, at_place}
 use Rattle.crs_shape.specs.declared.class.Class.{Class}
 use Rattle.crs_shape.specs.declared.class.Class.TheVariants as class
 use Rattle.crs_shape.specs.declared.system_type.SystemType.{SystemType}
 use Rattle.crs_shape.specs.declared.system_type.SystemType.TheVariants as types
-use Rattle.crs_shape.specs.Prelude.{is_keyword, class_named, one_of, takes}
-use Rattle.crs_value.specs.Prelude.{BadComponent, IsNotEllipsoidal, IsNotHorizontal, IsNotPlane, FirstIs, OfCompound, horizontal_classes, CompoundParts, GeodeticParts, ProjectedParts, VerticalParts, those, IsText, IsCompound, IsHorizontal, IsPlane, IsGeodetic, IsProjected, IsVertical, IsTail, TailParts, Own as BreaksOwn}
+use Rattle.crs_shape.specs.inner.Prelude.{is_keyword, class_named, one_of, takes}
+use Rattle.crs_value.specs.inner.Prelude.{BadComponent, IsNotEllipsoidal, IsNotHorizontal, IsNotPlane, FirstIs, OfCompound, horizontal_classes, CompoundParts, GeodeticParts, ProjectedParts, VerticalParts, those, IsText, IsCompound, IsHorizontal, IsPlane, IsGeodetic, IsProjected, IsVertical, IsTail, TailParts, Own as BreaksOwn}
 use Rattle.crs_value.specs.declared.values.compound.Horizontal.{Horizontal}
 use Rattle.crs_value.specs.declared.values.compound.Horizontal.TheVariants as horizontal
 use Rattle.crs_value.specs.declared.values.level.Level.{Level}
@@ -16,7 +16,7 @@ use Rattle.crs_value.specs.Sound.{Each}
 use Rattle.crs_normal.specs.inner.LowerLaws.{LowerLaws}
 use Rattle.crs_normal.specs.PartSpellings.{geodetic_class}
 use Rattle.crs_normal.specs.inner.SpelledCrs.{geodetic_keyword, item_compound, item_geodetic, item_projected, item_vertical, norm_compound, norm_geodetic, norm_projected, norm_vertical}
-use Rattle.crs_normal.specs.Prelude.{node_of, text_item, norm_tail, tail_items}
+use Rattle.crs_normal.specs.inner.Prelude.{node_of, text_item, norm_tail, tail_items}
 use Rattle.crs_normal.proofs.made.BehindLemmas.{Shows, tail-seen, tail_classes}
 use Rattle.crs_normal.proofs.made.CheckLemmas.{first-number, word-type}
 use Rattle.crs_normal.proofs.made.GeodeticLemmas.{geodetic-made, geodetic-seen}

@@ -1,15 +1,15 @@
 -- Parameters and conversions are made.
 use Rattle.std.proofs.Common.{◌≡◌, ℕ, true, Option, Some, None, List, [], ◌∷◌, map, codes, IfSome, refl, arith}
-use Rattle.crs_text.specs.Prelude.{at_place}
+use Rattle.crs_text.specs.inner.Prelude.{at_place}
 use Rattle.crs_shape.specs.declared.class.Class.{Class}
 use Rattle.crs_shape.specs.declared.class.Class.TheVariants as class
 use Rattle.crs_shape.specs.declared.unit_kind.UnitKind.{UnitKind}
 use Rattle.crs_shape.specs.declared.unit_kind.UnitKind.TheVariants as kinds
-use Rattle.crs_shape.specs.Prelude.{is_keyword, class_named, optional_of, takes}
-use Rattle.crs_value.specs.Prelude.{ConversionParts, ParameterParts, IsUnit, IsConversion, IsParameter, UnitParts, Own as BreaksOwn}
+use Rattle.crs_shape.specs.inner.Prelude.{is_keyword, class_named, optional_of, takes}
+use Rattle.crs_value.specs.inner.Prelude.{ConversionParts, ParameterParts, IsUnit, IsConversion, IsParameter, UnitParts, Own as BreaksOwn}
 use Rattle.crs_value.specs.declared.values.level.Level.{Level}
-use Rattle.crs_same.specs.Prelude.{kind_as}
-use Rattle.crs_normal.specs.Prelude.{unit_class, item_conversion, item_method, item_parameter, norm_conversion, norm_method, norm_parameter, set_parameters, item_unit, norm_units}
+use Rattle.crs_same.specs.inner.Prelude.{kind_as}
+use Rattle.crs_normal.specs.inner.Prelude.{unit_class, item_conversion, item_method, item_parameter, norm_conversion, norm_method, norm_parameter, set_parameters, item_unit, norm_units}
 use Rattle.crs_normal.specs.inner.LowerLaws.{LowerLaws}
 use Rattle.crs_normal.proofs.made.AscendLemmas.{set-ascends}
 use Rattle.crs_normal.proofs.made.IdentLemmas.{ids-of, ids-orderly, ids_run}

@@ -1,13 +1,13 @@
 -- All CRSs are made, and their texts are normal.
 use Rattle.std.proofs.Common.{ℕ, ◌≤◌, sym, arith}
-use Rattle.crs_text.specs.Prelude.{Item, at_place, item_text}
+use Rattle.crs_text.specs.inner.Prelude.{Item, at_place, item_text}
 use Rattle.crs_shape.specs.declared.class.Class.{Class}
 use Rattle.crs_value.specs.declared.values.crs.Crs.{Crs}
 use Rattle.crs_value.specs.declared.values.crs.Crs.TheVariants as crs
 use Rattle.crs_value.specs.declared.values.level.Level.{Level}
-use Rattle.crs_value.specs.Prelude.{IsCrs}
+use Rattle.crs_value.specs.inner.Prelude.{IsCrs}
 use Rattle.crs_normal.specs.inner.LowerLaws.{LowerLaws}
-use Rattle.crs_normal.specs.Prelude.{IsNormalText, item_crs, norm_crs}
+use Rattle.crs_normal.specs.inner.Prelude.{IsNormalText, item_crs, norm_crs}
 use Rattle.crs_normal.proofs.made.CompoundLemmas.{compound-made}
 use Rattle.crs_normal.proofs.made.GeodeticLemmas.{geodetic-made}
 use Rattle.crs_normal.proofs.made.PlaceLemmas.{text-at}

@@ -1,11 +1,11 @@
 -- Dynamic parts are made, and none is beside an ensemble.
 use Rattle.std.proofs.Common.{◌≡◌, ◌⊎◌, ℕ, ◌≤◌, Option, Some, List, [], ◌∷◌, codes, inl, inr, refl, arith}
 use Rattle.std.specs.Option.{option_map}
-use Rattle.crs_text.specs.Prelude.{Item, arguments, RefusedAt, at_place}
+use Rattle.crs_text.specs.inner.Prelude.{Item, arguments, RefusedAt, at_place}
 use Rattle.crs_shape.specs.declared.class.Class.{Class}
 use Rattle.crs_shape.specs.declared.class.Class.TheVariants as class
-use Rattle.crs_shape.specs.Prelude.{is_keyword, class_named}
-use Rattle.crs_value.specs.Prelude.{BadDynamic, IsUnsteady, AnyOf, DynamicParts, those, IsDynamic, IsDynamicOf, Own as BreaksOwn}
+use Rattle.crs_shape.specs.inner.Prelude.{is_keyword, class_named}
+use Rattle.crs_value.specs.inner.Prelude.{BadDynamic, IsUnsteady, AnyOf, DynamicParts, those, IsDynamic, IsDynamicOf, Own as BreaksOwn}
 use Rattle.crs_value.specs.declared.values.frame.Frame.{Frame}
 use Rattle.crs_value.specs.declared.values.level.Level.{Level}
 use Rattle.crs_normal.specs.inner.LowerLaws.{LowerLaws}

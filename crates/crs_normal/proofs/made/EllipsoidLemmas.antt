@@ -1,17 +1,17 @@
 -- Units in the nodes that have them, and ellipsoids, are made.
 use Rattle.std.proofs.Common.{◌≡◌, ◌≢◌, ℕ, ◌≤◌, true, false, Option, Some, None, List, [], ◌∷◌, codes, IfSome, inl, inr, refl, sym, ap, subst, ◌∙◌, arith}
-use Rattle.crs_decimal.specs.Prelude.{Value, IsNormal}
-use Rattle.crs_text.specs.Prelude.{Item, arguments, RefusedAt, at_place}
+use Rattle.crs_decimal.specs.inner.Prelude.{Value, IsNormal}
+use Rattle.crs_text.specs.inner.Prelude.{Item, arguments, RefusedAt, at_place}
 use Rattle.crs_shape.specs.declared.class.Class.{Class}
 use Rattle.crs_shape.specs.declared.class.Class.TheVariants as class
 use Rattle.crs_shape.specs.declared.unit_kind.UnitKind.{UnitKind}
 use Rattle.crs_shape.specs.declared.unit_kind.UnitKind.TheVariants as kinds
-use Rattle.crs_shape.specs.Prelude.{is_keyword, class_named, unit_word}
-use Rattle.crs_value.specs.Prelude.{IsAboveZero, OfEllipsoid, kept-none, those, IsUnitOf, IsEllipsoid, EllipsoidParts, UnitParts, Own as BreaksOwn}
+use Rattle.crs_shape.specs.inner.Prelude.{is_keyword, class_named, unit_word}
+use Rattle.crs_value.specs.inner.Prelude.{IsAboveZero, OfEllipsoid, kept-none, those, IsUnitOf, IsEllipsoid, EllipsoidParts, UnitParts, Own as BreaksOwn}
 use Rattle.crs_value.specs.declared.values.level.Level.{Level}
 use Rattle.crs_value.specs.Values.{IdentParts}
 use Rattle.crs_normal.specs.inner.LowerLaws.{LowerLaws}
-use Rattle.crs_normal.specs.Prelude.{item_ellipsoid, norm_ellipsoid, number_item}
+use Rattle.crs_normal.specs.inner.Prelude.{item_ellipsoid, norm_ellipsoid, number_item}
 use Rattle.crs_normal.specs.inner.SpelledItems.{item_unit, metre, norm_length, norm_unit, norm_units}
 use Rattle.crs_normal.proofs.members.IdentLemmas.{none-form}
 use Rattle.crs_normal.proofs.made.IdentLemmas.{ids-of, ids-orderly}

@@ -1,9 +1,9 @@
 -- Arguments of one class, before others, fill the slots of a class.
 use Rattle.std.proofs.Common.{◌≡◌, ◌≤◌, ◌≢◌, true, false, true≢false, IsTrue, IsFalse, Option, Some, None, List, [], ◌∷◌, ◌++◌, length, refl, sym, ap, ◌∙◌, arith}
 use Rattle.std.specs.Option.{is_some}
-use Rattle.crs_text.specs.Prelude.{Item}
+use Rattle.crs_text.specs.inner.Prelude.{Item}
 use Rattle.crs_shape.specs.declared.class.Class.{Class}
-use Rattle.crs_shape.specs.Prelude.{Fills, AllTaken, Allowed, SlotParts, takes}
+use Rattle.crs_shape.specs.inner.Prelude.{Fills, AllTaken, Allowed, SlotParts, takes}
 use Rattle.crs_normal.proofs.made.NodeLemmas.{given, repeated}
 
 pub held : {A : Type 0} (o : Option A) → is_some o ≡ true → A

@@ -1,12 +1,12 @@
 -- Datums, ensembles, and so frames of either sort, are made.
 use Rattle.std.proofs.Common.{ℕ, Option, Some, None, [], ◌∷◌, map, codes, IfSome, IsNone, IsSome, refl, arith, ◌++◌, List, drop, inl, inr, ◌≡◌, subst}
-use Rattle.crs_text.specs.Prelude.{at_place, Item, Siblings, arguments, RefusedAt}
+use Rattle.crs_text.specs.inner.Prelude.{at_place, Item, Siblings, arguments, RefusedAt}
 use Rattle.crs_shape.specs.declared.class.Class.TheVariants as class
-use Rattle.crs_shape.specs.Prelude.{is_keyword, class_named}
+use Rattle.crs_shape.specs.inner.Prelude.{is_keyword, class_named}
 use Rattle.crs_value.specs.declared.values.frame.Frame.{Frame}
 use Rattle.crs_value.specs.declared.values.frame.Frame.TheVariants as frame
 use Rattle.crs_value.specs.declared.values.level.Level.{Level}
-use Rattle.crs_value.specs.Prelude.{IsEllipsoid, IsEnsemble, IsGeodeticFrame, IsVerticalFrame, EllipsoidParts, EnsembleParts, Own as BreaksOwn, AnyOf, anchors, those, IsRepeated, RepeatsAny, IsDatum, DatumParts}
+use Rattle.crs_value.specs.inner.Prelude.{IsEllipsoid, IsEnsemble, IsGeodeticFrame, IsVerticalFrame, EllipsoidParts, EnsembleParts, Own as BreaksOwn, AnyOf, anchors, those, IsRepeated, RepeatsAny, IsDatum, DatumParts}
 use Rattle.crs_normal.specs.inner.LowerLaws.{LowerLaws}
 use Rattle.crs_normal.specs.inner.SpelledFrames.{item_ellipsoid, item_ensemble, item_frame, item_member, norm_ellipsoid, norm_ensemble, norm_frame, norm_member, set_members}
 use Rattle.crs_normal.proofs.made.AscendLemmas.{set-ascends}
@@ -17,7 +17,7 @@ use Rattle.crs_normal.proofs.made.NamedLemmas.{member-made}
 use Rattle.crs_normal.proofs.made.ArgumentLemmas.{made-of, one-number, text-of, node-of, set-of, may-number, may-text}
 use Rattle.crs_shape.specs.declared.class.Class.{Class}
 use Rattle.crs_value.specs.Sound.{Each}
-use Rattle.crs_normal.specs.Prelude.{item_datum, item_ellipsoid, norm_datum, norm_ellipsoid, number_node, text_node}
+use Rattle.crs_normal.specs.inner.Prelude.{item_datum, item_ellipsoid, norm_datum, norm_ellipsoid, number_node, text_node}
 use Rattle.crs_normal.proofs.made.PlaceLemmas.{ArePlaced}
 use Rattle.crs_normal.proofs.made.ClassLemmas.{geodetic_frame_class, vertical_frame_class}
 

@@ -1,14 +1,14 @@
 -- What geodetic CRSs and base CRSs have in front is made: the name, the dynamic part and the frame.
 use Rattle.std.proofs.Math.Logic.{⊎_elim, ⊎_map}
 use Rattle.std.proofs.Common.{◌≡◌, ◌≢◌, ℕ, suc, IsTrue, ◌++◌, true, Option, Some, None, List, [], ◌∷◌, codes, inl, inr, refl, Bool, false, ◌⊎◌}
-use Rattle.crs_text.specs.Prelude.{Item, More, Siblings, IsWord, at_place, RefusedAt}
+use Rattle.crs_text.specs.inner.Prelude.{Item, More, Siblings, IsWord, at_place, RefusedAt}
 use Rattle.crs_shape.specs.declared.class.Class.{Class}
 use Rattle.crs_shape.specs.declared.class.Class.TheVariants as class
-use Rattle.crs_shape.specs.Prelude.{class_in, class_named, dimensions_of, is_keyword, one_of, slots_of, takes, IsOneOf}
+use Rattle.crs_shape.specs.inner.Prelude.{class_in, class_named, dimensions_of, is_keyword, one_of, slots_of, takes, IsOneOf}
 use Rattle.crs_value.specs.declared.values.frame.Frame.{Frame}
 use Rattle.crs_value.specs.declared.values.frame.Frame.TheVariants as frame
 use Rattle.crs_value.specs.declared.values.level.Level.{Level}
-use Rattle.crs_value.specs.Prelude.{DynamicParts, IsDynamicOf, MeridianParts, SystemParts, TailParts, OfCrs, Own as BreaksOwn}
+use Rattle.crs_value.specs.inner.Prelude.{DynamicParts, IsDynamicOf, MeridianParts, SystemParts, TailParts, OfCrs, Own as BreaksOwn}
 use Rattle.crs_value.specs.Sound.{Each}
 use Rattle.crs_normal.specs.inner.LowerLaws.{LowerLaws}
 use Rattle.crs_normal.specs.NormalOwn.{HasAxes, HasOwnForm, HasTail}

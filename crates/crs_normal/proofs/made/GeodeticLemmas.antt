@@ -1,13 +1,13 @@
 -- Geodetic and geographic CRSs are made.
 use Rattle.std.proofs.Common.{◌≡◌, ◌≢◌, ℕ, IsTrue, Some, List, [], ◌∷◌, codes, refl, sym, subst, ◌∙◌, arith, true, drop}
-use Rattle.crs_decimal.specs.Prelude.{Value}
-use Rattle.crs_text.specs.Prelude.{Item, arguments, raw_of, RefusedAt, IsWord, at_place}
+use Rattle.crs_decimal.specs.inner.Prelude.{Value}
+use Rattle.crs_text.specs.inner.Prelude.{Item, arguments, raw_of, RefusedAt, IsWord, at_place}
 use Rattle.crs_shape.specs.declared.class.Class.{Class}
 use Rattle.crs_shape.specs.declared.class.Class.TheVariants as class
 use Rattle.crs_shape.specs.declared.system_type.SystemType.{SystemType}
 use Rattle.crs_shape.specs.declared.system_type.SystemType.TheVariants as types
-use Rattle.crs_shape.specs.Prelude.{is_keyword, class_named, geodetic_slots, slots_of, IsOneOf, dimensions_of, system_word}
-use Rattle.crs_value.specs.Prelude.{OfCrs, GeodeticParts, those, IsGeodetic, Own as BreaksOwn}
+use Rattle.crs_shape.specs.inner.Prelude.{is_keyword, class_named, geodetic_slots, slots_of, IsOneOf, dimensions_of, system_word}
+use Rattle.crs_value.specs.inner.Prelude.{OfCrs, GeodeticParts, those, IsGeodetic, Own as BreaksOwn}
 use Rattle.crs_value.specs.declared.values.level.Level.{Level}
 use Rattle.crs_value.specs.Sound.{Each}
 use Rattle.crs_normal.specs.inner.LowerLaws.{LowerLaws}
@@ -15,7 +15,7 @@ use Rattle.crs_normal.specs.PartSpellings.{geodetic_class}
 use Rattle.crs_normal.specs.Normal.{IsFirstKeyword}
 use Rattle.crs_normal.specs.NormalOwn.{Has, HasAxes, HasTail, HasOwnForm, words_in}
 use Rattle.crs_normal.specs.inner.SpelledCrs.{geodetic_keyword, item_geodetic, norm_geodetic}
-use Rattle.crs_normal.specs.Prelude.{item_frame, norm_frame, word_item}
+use Rattle.crs_normal.specs.inner.Prelude.{item_frame, norm_frame, word_item}
 use Rattle.crs_normal.proofs.made.SystemLemmas.{IsFew}
 use Rattle.crs_normal.proofs.made.BehindLemmas.{NamesSystem, few-system, system-seen, behind_arguments}
 use Rattle.crs_normal.proofs.read.ViewLemmas.{each-so}

@@ -1,17 +1,17 @@
 -- Identifiers and lists of them are made.
 use Rattle.std.proofs.Common.{◌≡◌, ℕ, ◌+◌, ◌≤◌, true, Option, Some, None, List, [], ◌∷◌, ◌++◌, map, drop, codes, IfSome, inl, inr, refl, sym, subst, arith}
 use Rattle.std.proofs.lemmas.List.{append-nil}
-use Rattle.crs_text.specs.Prelude.{Item, leaf, End, More, skip, Kind, number, text, word, at_place, at_places, item_text}
+use Rattle.crs_text.specs.inner.Prelude.{Item, leaf, End, More, skip, Kind, number, text, word, at_place, at_places, item_text}
 use Rattle.crs_shape.specs.declared.class.Class.{Class}
 use Rattle.crs_shape.specs.declared.class.Class.TheVariants as class
-use Rattle.crs_shape.specs.Prelude.{is_keyword, class_of_kind, class_named, one_of, optional_of, takes}
-use Rattle.crs_value.specs.Prelude.{kept, kept-each, kept-made, single_of, IsIdent, IsText, Own as BreaksOwn}
+use Rattle.crs_shape.specs.inner.Prelude.{is_keyword, class_of_kind, class_named, one_of, optional_of, takes}
+use Rattle.crs_value.specs.inner.Prelude.{kept, kept-each, kept-made, single_of, IsIdent, IsText, Own as BreaksOwn}
 use Rattle.crs_value.specs.declared.values.level.Level.{Level}
 use Rattle.crs_value.specs.Sound.{Each}
 use Rattle.crs_value.specs.Values.{IdentParts}
 use Rattle.crs_normal.specs.inner.LowerLaws.{LowerLaws}
 use Rattle.crs_normal.specs.NormalOwn.{Ascend, IsCode}
-use Rattle.crs_normal.specs.Prelude.{in_order, code_item, text_node, item_ident, set_idents}
+use Rattle.crs_normal.specs.inner.Prelude.{in_order, code_item, text_node, item_ident, set_idents}
 use Rattle.crs_normal.proofs.made.AscendLemmas.{set-ascends}
 use Rattle.crs_normal.proofs.read.ViewLemmas.{each-so}
 use Rattle.crs_normal.proofs.members.SetLemmas.{each-in_order}

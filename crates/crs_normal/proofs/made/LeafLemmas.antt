@@ -2,15 +2,15 @@
 use Rattle.std.proofs.Common.{◌≡◌, ℕ, ◌&&◌, Bool, true, false, IsTrue, List, length, if◌then◌else◌, refl, sym, ◌∙◌, arith, nat_le}
 use Rattle.std.specs.List.{list_all}
 use Rattle.std.proofs.lemmas.Bool.{le-leb, leb-true, and_parts}
-use Rattle.crs_decimal.specs.Prelude.{Denotes, IsInBounds, IsPlain, plain, is_digit, Value, IsNormal, exact}
-use Rattle.crs_text.specs.Prelude.{leaf, Kind, number, text, word, IsSingle, IsWord}
+use Rattle.crs_decimal.specs.inner.Prelude.{Denotes, IsInBounds, IsPlain, plain, is_digit, Value, IsNormal, exact}
+use Rattle.crs_text.specs.inner.Prelude.{leaf, Kind, number, text, word, IsSingle, IsWord}
 use Rattle.crs_shape.specs.declared.class.Class.{Class}
 use Rattle.crs_shape.specs.declared.class.Class.TheVariants as class
 use denote.Enum.Bare.{sameb}
 use Rattle.crs_shape.specs.contracts.class.Class.{the_type}
-use Rattle.crs_shape.specs.Prelude.{class_of_kind}
+use Rattle.crs_shape.specs.inner.Prelude.{class_of_kind}
 use Rattle.crs_value.specs.declared.values.level.Level.{Level}
-use Rattle.crs_value.specs.Prelude.{IsText}
+use Rattle.crs_value.specs.inner.Prelude.{IsText}
 use Rattle.crs_normal.specs.inner.LowerLaws.{LowerLaws}
 use Rattle.crs_normal.specs.Normal.{IsNumberIn, IsSingleIn, IsWordIn}
 use Rattle.crs_normal.specs.NormalOwn.{IsShort}

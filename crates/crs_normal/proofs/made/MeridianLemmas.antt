@@ -1,19 +1,19 @@
 -- Prime meridians are made.
 use Rattle.std.proofs.Common.{◌≡◌, ℕ, ◌<◌, ◌≤◌, ◌++◌, Bool, true, false, Option, Some, None, List, [], ◌∷◌, codes, IfSome, if◌then◌else◌, refl, sym, ap, subst, ◌∙◌, arith, IsUtf8}
 use Rattle.std.proofs.lemmas.Fmt.{decimal_digit}
-use Rattle.crs_decimal.specs.Prelude.{Denotes, plain, Value, IsNormal, exact}
-use Rattle.crs_text.specs.Prelude.{Item, arguments, raw_of, at_place}
+use Rattle.crs_decimal.specs.inner.Prelude.{Denotes, plain, Value, IsNormal, exact}
+use Rattle.crs_text.specs.inner.Prelude.{Item, arguments, raw_of, at_place}
 use Rattle.crs_shape.specs.declared.class.Class.{Class}
 use Rattle.crs_shape.specs.declared.class.Class.TheVariants as class
 use Rattle.crs_shape.specs.declared.unit_kind.UnitKind.TheVariants as kinds
-use Rattle.crs_shape.specs.Prelude.{is_keyword, class_named}
-use Rattle.crs_value.specs.Prelude.{kept-none, those, IsMeridian, IsUnitOf, MeridianParts, UnitParts, Own as BreaksOwn}
+use Rattle.crs_shape.specs.inner.Prelude.{is_keyword, class_named}
+use Rattle.crs_value.specs.inner.Prelude.{kept-none, those, IsMeridian, IsUnitOf, MeridianParts, UnitParts, Own as BreaksOwn}
 use Rattle.crs_value.specs.declared.values.level.Level.{Level}
 use Rattle.crs_value.specs.Values.{IdentParts}
 use Rattle.crs_normal.specs.inner.LowerLaws.{LowerLaws}
 use Rattle.crs_normal.specs.NormalOwn.{HasNoUnitAtZero}
 use Rattle.crs_normal.specs.inner.SpelledFrames.{greenwich, is_zero, item_meridian, norm_given, norm_meridian}
-use Rattle.crs_normal.specs.Prelude.{number_item, item_unit, norm_units, whole_value}
+use Rattle.crs_normal.specs.inner.Prelude.{number_item, item_unit, norm_units, whole_value}
 use Rattle.crs_normal.proofs.made.EllipsoidLemmas.{given-unit}
 use Rattle.crs_normal.proofs.members.IdentLemmas.{none-form}
 use Rattle.crs_normal.proofs.made.IdentLemmas.{ids-of, ids-orderly}

@@ -1,15 +1,15 @@
 -- Nodes of a name and identifiers are made: members, methods, geoid models and deformation models.
 use Rattle.std.proofs.Common.{◌≡◌, ℕ, IsTrue, Some, List, [], ◌∷◌, codes, refl, arith}
-use Rattle.crs_text.specs.Prelude.{Item, RefusedAt, IsWord, at_place}
+use Rattle.crs_text.specs.inner.Prelude.{Item, RefusedAt, IsWord, at_place}
 use Rattle.crs_shape.specs.declared.class.Class.{Class}
 use Rattle.crs_shape.specs.declared.class.Class.TheVariants as class
-use Rattle.crs_shape.specs.Prelude.{is_keyword, class_named, named_slots, slots_of}
-use Rattle.crs_value.specs.Prelude.{GeoidModelParts, MethodParts, DeformationModelParts, IsNamed, IsGeoidModel, IsMethod, IsDeformationModel, IsMember, MemberParts, NamedParts, Own as BreaksOwn}
+use Rattle.crs_shape.specs.inner.Prelude.{is_keyword, class_named, named_slots, slots_of}
+use Rattle.crs_value.specs.inner.Prelude.{GeoidModelParts, MethodParts, DeformationModelParts, IsNamed, IsGeoidModel, IsMethod, IsDeformationModel, IsMember, MemberParts, NamedParts, Own as BreaksOwn}
 use Rattle.crs_value.specs.declared.values.level.Level.{Level}
 use Rattle.crs_normal.specs.inner.LowerLaws.{LowerLaws}
 use Rattle.crs_normal.specs.Normal.{IsFirstKeyword}
 use Rattle.crs_normal.specs.NormalOwn.{HasOwnForm}
-use Rattle.crs_normal.specs.Prelude.{item_geoid_model, item_method, norm_geoid_model, norm_method, item_member, norm_member}
+use Rattle.crs_normal.specs.inner.Prelude.{item_geoid_model, item_method, norm_geoid_model, norm_method, item_member, norm_member}
 use Rattle.crs_normal.specs.inner.SpelledDynamic.{item_deformation_model, norm_deformation_model}
 use Rattle.crs_normal.proofs.made.IdentLemmas.{ids-of, ids-orderly}
 use Rattle.crs_normal.proofs.made.ArgumentLemmas.{made-of, text-of}

@@ -2,10 +2,10 @@
 -- its arguments is said of them as runs of one class each, with all places left out.
 use Rattle.std.proofs.Common.{◌≡◌, ℕ, suc, ◌+◌, ◌≤◌, Bool, true, IsTrue, Option, Some, List, [], ◌∷◌, ◌++◌, length, if◌then◌else◌, refl, sym, ap, subst, ◌∙◌, arith, nat_le, None, leb-true, ◌&&◌}
 use Rattle.std.proofs.Math.Logic.{⊎_elim}
-use Rattle.crs_text.specs.Prelude.{Item, IsNode, Siblings, End, More, arguments, depth, depths, RefusedAt, IsWord, AreFormed, AreAllFormed, at_place, at_places, item_text}
+use Rattle.crs_text.specs.inner.Prelude.{Item, IsNode, Siblings, End, More, arguments, depth, depths, RefusedAt, IsWord, AreFormed, AreAllFormed, at_place, at_places, item_text}
 use Rattle.crs_shape.specs.declared.class.Class.{Class}
-use Rattle.crs_shape.specs.Prelude.{is_keyword, Allowed, class_in, Shaped, AreShaped, slots_of}
-use Rattle.crs_value.specs.Prelude.{AtClass, Breaks, BreaksAmong, kept, kept-none, kept-where_none, is_same, those, Own as BreaksOwn}
+use Rattle.crs_shape.specs.inner.Prelude.{is_keyword, Allowed, class_in, Shaped, AreShaped, slots_of}
+use Rattle.crs_value.specs.inner.Prelude.{AtClass, Breaks, BreaksAmong, kept, kept-none, kept-where_none, is_same, those, Own as BreaksOwn}
 use Rattle.crs_value.specs.declared.values.level.Level.{Level}
 use Rattle.crs_normal.specs.Normal.{AtLevel, IsNormalIn, left_out}
 use Rattle.crs_normal.specs.NormalOwn.{Ascend, rank, set_classes, Rise}

@@ -2,10 +2,10 @@
 use Rattle.std.proofs.Common.{◌≡◌, ℕ, ◌+◌, Bool, true, false, List, [], ◌∷◌, ◌++◌, length, map, if◌then◌else◌, inl, inr, refl, sym, ap, ap₂, subst, ◌∙◌}
 use Rattle.std.specs.Cmp.Lexicographic.{slice_cmp}
 use Rattle.std.specs.Ordering.{nat_cmp}
-use Rattle.crs_text.specs.Prelude.{Item, leaf, node, Siblings, End, More, at_place, at_places, item_text, others_text, RefusedAt}
+use Rattle.crs_text.specs.inner.Prelude.{Item, leaf, node, Siblings, End, More, at_place, at_places, item_text, others_text, RefusedAt}
 use Rattle.crs_shape.specs.declared.class.Class.{Class}
-use Rattle.crs_shape.specs.Prelude.{class_in, is_class}
-use Rattle.crs_value.specs.Prelude.{AnyOf, those}
+use Rattle.crs_shape.specs.inner.Prelude.{class_in, is_class}
+use Rattle.crs_value.specs.inner.Prelude.{AnyOf, those}
 use Rattle.crs_normal.specs.NormalOwn.{Ascend}
 use Rattle.crs_value.specs.Sound.{Each}
 use Rattle.crs_normal.proofs.members.SetLemmas.{IsBelow}

@@ -1,13 +1,13 @@
 -- Base CRSs and projected CRSs are made.
 use Rattle.std.proofs.Common.{ℕ, List, [], ◌∷◌, codes, inl, refl, arith, true, drop}
-use Rattle.crs_text.specs.Prelude.{Item, arguments, at_place}
+use Rattle.crs_text.specs.inner.Prelude.{Item, arguments, at_place}
 use Rattle.crs_shape.specs.declared.class.Class.TheVariants as class
 use Rattle.crs_shape.specs.declared.unit_kind.UnitKind.TheVariants as kinds
-use Rattle.crs_shape.specs.Prelude.{is_keyword, class_named, dimensions_of}
-use Rattle.crs_value.specs.Prelude.{BaseParts, ProjectedParts, those, IsBase, IsProjected, Own as BreaksOwn}
+use Rattle.crs_shape.specs.inner.Prelude.{is_keyword, class_named, dimensions_of}
+use Rattle.crs_value.specs.inner.Prelude.{BaseParts, ProjectedParts, those, IsBase, IsProjected, Own as BreaksOwn}
 use Rattle.crs_value.specs.declared.values.level.Level.{Level}
 use Rattle.crs_normal.specs.inner.LowerLaws.{LowerLaws}
-use Rattle.crs_normal.specs.Prelude.{item_conversion, norm_conversion, item_frame, norm_frame, item_unit, norm_units}
+use Rattle.crs_normal.specs.inner.Prelude.{item_conversion, norm_conversion, item_frame, norm_frame, item_unit, norm_units}
 use Rattle.crs_normal.specs.inner.SpelledCrs.{item_base, item_projected, norm_base, norm_projected}
 use Rattle.crs_normal.proofs.made.SystemLemmas.{IsFew}
 use Rattle.crs_normal.proofs.made.BehindLemmas.{crs_classes, system-seen, few-system, behind_arguments, projected-names}

@@ -4,19 +4,19 @@ use Rattle.std.specs.Prelude.{IsSomeAnd, ⊤}
 use Rattle.std.proofs.lemmas.Bool.Decides.{Decides-eqb}
 use Rattle.std.proofs.lemmas.List.{append-nil}
 use Rattle.std.proofs.lemmas.Slice.Eq.{bytes_eq-Decides}
-use Rattle.crs_decimal.specs.Prelude.{plain, Value, IsNormal}
-use Rattle.crs_text.specs.Prelude.{Item, arguments, RefusedAt, at_place, IsWord}
+use Rattle.crs_decimal.specs.inner.Prelude.{plain, Value, IsNormal}
+use Rattle.crs_text.specs.inner.Prelude.{Item, arguments, RefusedAt, at_place, IsWord}
 use Rattle.crs_shape.specs.declared.class.Class.{Class}
 use Rattle.crs_shape.specs.declared.class.Class.TheVariants as class
 use Rattle.crs_shape.specs.declared.system_type.SystemType.{SystemType}
 use Rattle.crs_shape.specs.declared.system_type.SystemType.TheVariants as types
-use Rattle.crs_shape.specs.Prelude.{is_keyword, class_named, asked_kind, system_word}
-use Rattle.crs_value.specs.Prelude.{UnknownType, AnyOf, those, IsAxis, IsAxisUnit, Suits, HasUnits, IsSystem, SuitsAxis, AxisParts, SystemParts, UnitParts, Own as BreaksOwn}
+use Rattle.crs_shape.specs.inner.Prelude.{is_keyword, class_named, asked_kind, system_word}
+use Rattle.crs_value.specs.inner.Prelude.{UnknownType, AnyOf, those, IsAxis, IsAxisUnit, Suits, HasUnits, IsSystem, SuitsAxis, AxisParts, SystemParts, UnitParts, Own as BreaksOwn}
 use Rattle.crs_value.specs.declared.values.level.Level.{Level}
 use Rattle.crs_value.specs.Sound.{Each}
-use Rattle.crs_same.specs.Prelude.{HasAt, IsPositionOf, own_or}
+use Rattle.crs_same.specs.inner.Prelude.{HasAt, IsPositionOf, own_or}
 use Rattle.crs_normal.specs.inner.LowerLaws.{LowerLaws}
-use Rattle.crs_normal.specs.Prelude.{number_item, word_item, axes_from, axis_at, is_at, item_axis, item_head, norm_axis, norm_system, whole_value}
+use Rattle.crs_normal.specs.inner.Prelude.{number_item, word_item, axes_from, axis_at, is_at, item_axis, item_head, norm_axis, norm_system, whole_value}
 use Rattle.crs_normal.proofs.made.AxisLemmas.{Fits, IsAxisItem, axis-made, axis-seen, whole-normal}
 use Rattle.crs_normal.proofs.made.ArgumentLemmas.{Argument, arguments-seen, made-of, number-of, one-of}
 use Rattle.crs_normal.proofs.made.IdentLemmas.{ids-of, ids-orderly}

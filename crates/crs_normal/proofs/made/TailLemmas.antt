@@ -1,17 +1,17 @@
 -- The ends of CRSs are made.
 use Rattle.std.proofs.Common.{◌≡◌, ℕ, ◌≤◌, ◌++◌, Option, Some, None, List, [], ◌∷◌, map, drop, codes, IfSome, refl, arith, ap}
-use Rattle.crs_text.specs.Prelude.{Item, arguments, RefusedAt, item_text}
+use Rattle.crs_text.specs.inner.Prelude.{Item, arguments, RefusedAt, item_text}
 use Rattle.crs_shape.specs.declared.class.Class.{Class}
 use Rattle.crs_shape.specs.declared.class.Class.TheVariants as class
-use Rattle.crs_shape.specs.Prelude.{is_keyword, class_named}
-use Rattle.crs_value.specs.Prelude.{once, kept, kept_one, kept-each, kept-if_some, kept-made, kept-made_one, those, RepeatsAny, IsText, IsTail, IsUsage, TailParts, UsageParts, Own as BreaksOwn}
+use Rattle.crs_shape.specs.inner.Prelude.{is_keyword, class_named}
+use Rattle.crs_value.specs.inner.Prelude.{once, kept, kept_one, kept-each, kept-if_some, kept-made, kept-made_one, those, RepeatsAny, IsText, IsTail, IsUsage, TailParts, UsageParts, Own as BreaksOwn}
 use Rattle.crs_value.specs.declared.values.level.Level.{Level}
 use Rattle.crs_value.specs.declared.values.level.Level.TheVariants as levels
 use Rattle.crs_value.specs.Sound.{Each}
-use Rattle.crs_same.specs.Prelude.{usages_of, with_bare}
+use Rattle.crs_same.specs.inner.Prelude.{usages_of, with_bare}
 use Rattle.crs_normal.specs.inner.LowerLaws.{LowerLaws}
 use Rattle.crs_normal.specs.NormalOwn.{Ascend, HasTail, Rise, Lacks, bare_classes}
-use Rattle.crs_normal.specs.Prelude.{in_order, text_node, item_usage, norm_usage, set_usages}
+use Rattle.crs_normal.specs.inner.Prelude.{in_order, text_node, item_usage, norm_usage, set_usages}
 use Rattle.crs_normal.proofs.made.AscendLemmas.{set-ascends, set-each}
 use Rattle.crs_normal.proofs.made.FrameLemmas.{none-repeats}
 use Rattle.crs_normal.proofs.made.IdentLemmas.{identifiers-ascend, identifiers-left, ids-of, ids_run}

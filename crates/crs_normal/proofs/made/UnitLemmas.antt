@@ -1,18 +1,18 @@
 -- Units are made.
 use Rattle.std.proofs.Common.{◌≡◌, ℕ, true, Some, List, [], ◌∷◌, codes, inl, inr, refl, sym, subst, arith}
-use Rattle.crs_decimal.specs.Prelude.{plain, Value, IsNormal}
-use Rattle.crs_text.specs.Prelude.{Item, arguments, RefusedAt, IsWord, at_place}
+use Rattle.crs_decimal.specs.inner.Prelude.{plain, Value, IsNormal}
+use Rattle.crs_text.specs.inner.Prelude.{Item, arguments, RefusedAt, IsWord, at_place}
 use Rattle.crs_shape.specs.declared.class.Class.{Class}
 use Rattle.crs_shape.specs.declared.class.Class.TheVariants as class
 use Rattle.crs_shape.specs.declared.unit_kind.UnitKind.{UnitKind}
 use Rattle.crs_shape.specs.declared.unit_kind.UnitKind.TheVariants as kinds
-use Rattle.crs_shape.specs.Prelude.{is_keyword, class_named, slots_of, unit_slots, unit_word}
-use Rattle.crs_value.specs.Prelude.{IsAboveZero, NotAbove, AnyOf, OfUnit, those, ReadsNumber, IsUnit, UnitParts, Own as BreaksOwn}
+use Rattle.crs_shape.specs.inner.Prelude.{is_keyword, class_named, slots_of, unit_slots, unit_word}
+use Rattle.crs_value.specs.inner.Prelude.{IsAboveZero, NotAbove, AnyOf, OfUnit, those, ReadsNumber, IsUnit, UnitParts, Own as BreaksOwn}
 use Rattle.crs_value.specs.declared.values.level.Level.{Level}
 use Rattle.crs_normal.specs.inner.LowerLaws.{LowerLaws}
 use Rattle.crs_normal.specs.Normal.{IsFirstKeyword}
 use Rattle.crs_normal.specs.NormalOwn.{HasOwnForm}
-use Rattle.crs_normal.specs.Prelude.{number_item, item_unit, set_idents}
+use Rattle.crs_normal.specs.inner.Prelude.{number_item, item_unit, set_idents}
 use Rattle.crs_normal.proofs.made.IdentLemmas.{ids-of, ids-orderly}
 use Rattle.crs_normal.proofs.made.PlaceLemmas.{ArePlaced, none-of}
 use Rattle.crs_normal.proofs.read.NameLemmas.{keyword-names}

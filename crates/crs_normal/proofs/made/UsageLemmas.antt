@@ -1,14 +1,14 @@
 -- Boxes, extents and usages are made.
 use Rattle.std.proofs.Common.{◌≡◌, ◌≢◌, ℕ, suc, Some, List, [], ◌∷◌, codes, refl, arith, IsTrue, true}
-use Rattle.crs_text.specs.Prelude.{Item, Siblings, End, More, arguments, IsNode, at_place, RefusedAt, IsWord}
+use Rattle.crs_text.specs.inner.Prelude.{Item, Siblings, End, More, arguments, IsNode, at_place, RefusedAt, IsWord}
 use Rattle.crs_shape.specs.declared.class.Class.{Class}
 use Rattle.crs_shape.specs.declared.class.Class.TheVariants as class
-use Rattle.crs_shape.specs.Prelude.{is_keyword, class_in, class_named, slots_of}
+use Rattle.crs_shape.specs.inner.Prelude.{is_keyword, class_in, class_named, slots_of}
 use Rattle.crs_value.specs.declared.values.level.Level.{Level}
 use Rattle.crs_value.specs.declared.values.level.Level.TheVariants as levels
-use Rattle.crs_value.specs.Prelude.{those, IsBox, IsExtent, IsUsage, BoxParts, ExtentParts, SaysSome, UsageParts, Own as BreaksOwn}
+use Rattle.crs_value.specs.inner.Prelude.{those, IsBox, IsExtent, IsUsage, BoxParts, ExtentParts, SaysSome, UsageParts, Own as BreaksOwn}
 use Rattle.crs_normal.specs.inner.LowerLaws.{LowerLaws}
-use Rattle.crs_normal.specs.Prelude.{node_from, item_unit, norm_length, item_box, item_extent, item_usage, norm_extent, norm_usage}
+use Rattle.crs_normal.specs.inner.Prelude.{node_from, item_unit, norm_length, item_box, item_extent, item_usage, norm_extent, norm_usage}
 use Rattle.crs_normal.proofs.made.EllipsoidLemmas.{length-argument, placed-some}
 use Rattle.crs_normal.proofs.made.NodeLemmas.{IsAcceptedNormal, IsOrderly, as-argument, none-orderly}
 use Rattle.crs_normal.proofs.made.ArgumentLemmas.{Argument, as_runs, fit, lay, made-of, may-of, may-text, number-of, one-of, may-node}

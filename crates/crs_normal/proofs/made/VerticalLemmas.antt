@@ -1,14 +1,14 @@
 -- Vertical CRSs are made.
 use Rattle.std.proofs.Common.{◌≡◌, ℕ, true, Some, List, [], ◌∷◌, map, codes, refl, arith, false, None, drop}
-use Rattle.crs_text.specs.Prelude.{at_place}
+use Rattle.crs_text.specs.inner.Prelude.{at_place}
 use Rattle.crs_shape.specs.declared.class.Class.TheVariants as class
-use Rattle.crs_shape.specs.Prelude.{is_keyword, class_in, dimensions_of}
-use Rattle.crs_value.specs.Prelude.{VerticalParts, IsVertical, Own as BreaksOwn}
+use Rattle.crs_shape.specs.inner.Prelude.{is_keyword, class_in, dimensions_of}
+use Rattle.crs_value.specs.inner.Prelude.{VerticalParts, IsVertical, Own as BreaksOwn}
 use Rattle.crs_value.specs.declared.values.frame.Frame.{Frame}
 use Rattle.crs_value.specs.declared.values.frame.Frame.TheVariants as frame
 use Rattle.crs_value.specs.declared.values.level.Level.{Level}
 use Rattle.crs_normal.specs.inner.LowerLaws.{LowerLaws}
-use Rattle.crs_normal.specs.Prelude.{item_geoid_model, norm_geoid_model, set_geoid_models, item_vertical, norm_vertical, item_frame, norm_frame}
+use Rattle.crs_normal.specs.inner.Prelude.{item_geoid_model, norm_geoid_model, set_geoid_models, item_vertical, norm_vertical, item_frame, norm_frame}
 use Rattle.crs_normal.proofs.made.AscendLemmas.{set-ascends}
 use Rattle.crs_normal.proofs.made.SystemLemmas.{IsFew}
 use Rattle.crs_normal.proofs.made.BehindLemmas.{few-system, behind_arguments, vertical-names}

@@ -1,16 +1,16 @@
 -- Sets of identifiers, members of ensembles, parameters, geoid models and usages: in order, their one forms are one list
 -- exactly where they are the same set, since equal texts are of equal forms.
 use Rattle.std.proofs.Common.{◌≡◌, ◌↔◌, List, codes, map-id, arith}
-use Rattle.crs_text.specs.Prelude.{item_text}
+use Rattle.crs_text.specs.inner.Prelude.{item_text}
 use Rattle.crs_shape.specs.declared.class.Class.TheVariants as class
-use Rattle.crs_value.specs.Prelude.{ParameterParts, UsageParts, NamedParts, ReadsIdent, ReadsNamed, ReadsParameter, ReadsUsage, IsIdent, IsNamed, IsParameter, IsReadOnce, IsUsage, kept, kept-each}
+use Rattle.crs_value.specs.inner.Prelude.{ParameterParts, UsageParts, NamedParts, ReadsIdent, ReadsNamed, ReadsParameter, ReadsUsage, IsIdent, IsNamed, IsParameter, IsReadOnce, IsUsage, kept, kept-each}
 use Rattle.crs_value.specs.Sound.{Each}
 use Rattle.crs_value.specs.Values.{IdentParts}
 use Rattle.crs_value.specs.declared.values.level.Level.{Level}
 use Rattle.crs_value.specs.declared.values.level.Level.TheVariants as levels
-use Rattle.crs_same.specs.Prelude.{SameIdent, SameIdents, SameNamed, SameParameter, SameSet, SameUsage}
+use Rattle.crs_same.specs.inner.Prelude.{SameIdent, SameIdents, SameNamed, SameParameter, SameSet, SameUsage}
 use Rattle.crs_normal.specs.inner.LowerLaws.{LowerLaws}
-use Rattle.crs_normal.specs.Prelude.{item_geoid_model, item_ident, item_member, item_parameter, item_usage, norm_geoid_model, norm_member, norm_parameter, norm_usage, set_geoid_models, set_idents, set_members, set_parameters, set_usages}
+use Rattle.crs_normal.specs.inner.Prelude.{item_geoid_model, item_ident, item_member, item_parameter, item_usage, norm_geoid_model, norm_member, norm_parameter, norm_usage, set_geoid_models, set_idents, set_members, set_parameters, set_usages}
 use Rattle.crs_normal.proofs.made.ConversionLemmas.{parameter-made}
 use Rattle.crs_normal.proofs.made.IdentLemmas.{ident-made}
 use Rattle.crs_normal.proofs.made.NamedLemmas.{geoid-model-made, member-made}

@@ -1,12 +1,12 @@
 -- Boxes and extents of a usage: their items read as them wherever they are.
 use Rattle.std.proofs.Common.{◌≡◌, ℕ, ◌+◌, IfSome, Option, Some, None, [], ◌∷◌, refl}
-use Rattle.crs_decimal.specs.Prelude.{IsNormal}
-use Rattle.crs_text.specs.Prelude.{at_place}
+use Rattle.crs_decimal.specs.inner.Prelude.{IsNormal}
+use Rattle.crs_text.specs.inner.Prelude.{at_place}
 use Rattle.crs_shape.specs.declared.class.Class.TheVariants as class
 use Rattle.crs_shape.specs.declared.unit_kind.UnitKind.TheVariants as kinds
 use Rattle.crs_value.specs.declared.values.level.Level.{Level}
-use Rattle.crs_value.specs.Prelude.{ReadsBox, ReadsExtent, IsUnit, IsUnitOf, IsBox, IsExtent, BoxParts, ExtentParts, UnitParts}
-use Rattle.crs_normal.specs.Prelude.{item_unit, norm_length, item_box, item_extent, norm_extent}
+use Rattle.crs_value.specs.inner.Prelude.{ReadsBox, ReadsExtent, IsUnit, IsUnitOf, IsBox, IsExtent, BoxParts, ExtentParts, UnitParts}
+use Rattle.crs_normal.specs.inner.Prelude.{item_unit, norm_length, item_box, item_extent, norm_extent}
 use Rattle.crs_normal.specs.inner.LowerLaws.{LowerLaws}
 use Rattle.crs_normal.proofs.texts.SegmentLemmas.{a-number, if-any, opt-field, seen, some-imp}
 use Rattle.crs_normal.proofs.members.MemberUnitLemmas.{number-read, unit-in, unit-kept, unit-read}

@@ -1,13 +1,13 @@
 -- Identifiers: the item of one reads as it wherever it is, and they are equal exactly where they are the same.
 use Rattle.std.proofs.Common.{◌≡◌, ◌↔◌, ◌⊎◌, ℕ, ◌+◌, true, false, codes, if◌then◌else◌, Option, Some, None, List, [], ◌∷◌, inl, inr, refl, ap}
-use Rattle.crs_text.specs.Prelude.{Item, leaf, Siblings, End, More, number, text, at_place, at_places, item_text}
+use Rattle.crs_text.specs.inner.Prelude.{Item, leaf, Siblings, End, More, number, text, at_place, at_places, item_text}
 use Rattle.crs_shape.specs.declared.class.Class.TheVariants as class
-use Rattle.crs_shape.specs.Prelude.{class_of_kind}
-use Rattle.crs_value.specs.Prelude.{kept, ReadsIfAny, ReadsOptional, ReadsText, ReadsTextOf, single_of, ReadsIdent, IsIdent}
+use Rattle.crs_shape.specs.inner.Prelude.{class_of_kind}
+use Rattle.crs_value.specs.inner.Prelude.{kept, ReadsIfAny, ReadsOptional, ReadsText, ReadsTextOf, single_of, ReadsIdent, IsIdent}
 use Rattle.crs_value.specs.declared.values.level.Level.{Level}
 use Rattle.crs_value.specs.Values.{IdentParts}
-use Rattle.crs_same.specs.Prelude.{SameIdent}
-use Rattle.crs_normal.specs.Prelude.{in_order, code_item, is_short, node_of, opt, text_item, text_node, item_ident, set_idents}
+use Rattle.crs_same.specs.inner.Prelude.{SameIdent}
+use Rattle.crs_normal.specs.inner.Prelude.{in_order, code_item, is_short, node_of, opt, text_item, text_node, item_ident, set_idents}
 use Rattle.crs_normal.proofs.texts.SegmentLemmas.{IsIn, Segment, a-text, either-item, may-be, seen, text-field}
 use Rattle.crs_normal.proofs.read.NameLemmas.{keyword-names}
 

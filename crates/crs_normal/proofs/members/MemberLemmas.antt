@@ -1,11 +1,11 @@
 -- Nodes of a name and identifiers alone, as members of an ensemble and geoid models are: their items
 -- read as them wherever they are.
 use Rattle.std.proofs.Common.{ℕ, ◌+◌, List, [], ◌∷◌, length, refl}
-use Rattle.crs_text.specs.Prelude.{Item, End, at_place}
+use Rattle.crs_text.specs.inner.Prelude.{Item, End, at_place}
 use Rattle.crs_shape.specs.declared.class.Class.{Class}
-use Rattle.crs_value.specs.Prelude.{NamedParts, ReadsNamed, IsNamed}
+use Rattle.crs_value.specs.inner.Prelude.{NamedParts, ReadsNamed, IsNamed}
 use Rattle.crs_value.specs.declared.values.level.Level.{Level}
-use Rattle.crs_normal.specs.Prelude.{norm_member, each, node_of, text_item, item_ident}
+use Rattle.crs_normal.specs.inner.Prelude.{norm_member, each, node_of, text_item, item_ident}
 use Rattle.crs_normal.proofs.texts.SegmentLemmas.{a-text, seen}
 use Rattle.crs_normal.proofs.members.MemberUnitLemmas.{NamesId, identifiers-back, identifiers-of}
 use Rattle.crs_normal.proofs.made.IdentLemmas.{idents-sound}

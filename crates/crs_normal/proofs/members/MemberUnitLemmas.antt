@@ -1,16 +1,16 @@
 -- Units within the members of sets: their items read as them wherever they are.
 use Rattle.std.proofs.Common.{ap, ◌∙◌, ◌≡◌, ℕ, ◌+◌, codes, Some, List, [], ◌∷◌, length, refl, map, ◌++◌}
-use Rattle.crs_decimal.specs.Prelude.{Value, IsNormal}
-use Rattle.crs_text.specs.Prelude.{Item, at_place}
+use Rattle.crs_decimal.specs.inner.Prelude.{Value, IsNormal}
+use Rattle.crs_text.specs.inner.Prelude.{Item, at_place}
 use Rattle.crs_shape.specs.declared.class.Class.{Class}
 use Rattle.crs_shape.specs.declared.class.Class.TheVariants as class
 use Rattle.crs_shape.specs.declared.unit_kind.UnitKind.{UnitKind}
-use Rattle.crs_shape.specs.Prelude.{class_named, unit_word}
+use Rattle.crs_shape.specs.inner.Prelude.{class_named, unit_word}
 use Rattle.crs_value.specs.declared.values.level.Level.{Level}
-use Rattle.crs_value.specs.Prelude.{ReadsIds, ReadsNumber, ReadsUnit, IsIdent, IsUnit, UnitParts}
+use Rattle.crs_value.specs.inner.Prelude.{ReadsIds, ReadsNumber, ReadsUnit, IsIdent, IsUnit, UnitParts}
 use Rattle.crs_value.specs.Sound.{Each}
 use Rattle.crs_value.specs.Values.{IdentParts}
-use Rattle.crs_normal.specs.Prelude.{number_item, item_ident, item_unit, norm_unit}
+use Rattle.crs_normal.specs.inner.Prelude.{number_item, item_ident, item_unit, norm_unit}
 use Rattle.crs_normal.specs.inner.LowerLaws.{LowerLaws}
 use Rattle.crs_normal.proofs.members.IdentLemmas.{ident-read}
 use Rattle.crs_normal.proofs.texts.SegmentLemmas.{IsIn, Seen, Segment, a-number, a-text, all-of, each-field, items_of, seen}

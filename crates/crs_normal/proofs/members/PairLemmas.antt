@@ -1,16 +1,16 @@
 -- Several numbers in slots of their own, and optional units, as they are written.
 use Rattle.std.proofs.Common.{◌≡◌, ◌≢◌, ℕ, drop, Option, Some, None, List, [], ◌∷◌, refl, subst}
-use Rattle.crs_decimal.specs.Prelude.{Value}
-use Rattle.crs_text.specs.Prelude.{Item, Siblings, More, arguments}
+use Rattle.crs_decimal.specs.inner.Prelude.{Value}
+use Rattle.crs_text.specs.inner.Prelude.{Item, Siblings, More, arguments}
 use Rattle.crs_shape.specs.declared.class.Class.{Class}
 use Rattle.crs_shape.specs.declared.class.Class.TheVariants as class
-use Rattle.crs_shape.specs.Prelude.{SlotParts}
+use Rattle.crs_shape.specs.inner.Prelude.{SlotParts}
 use Rattle.crs_shape.specs.declared.unit_kind.UnitKind.{UnitKind}
 use Rattle.crs_shape.specs.declared.unit_kind.UnitKind.TheVariants as kinds
-use Rattle.crs_value.specs.Prelude.{those, ReadsFirst, ReadsOptional, ReadsNumber, UnitParts}
+use Rattle.crs_value.specs.inner.Prelude.{those, ReadsFirst, ReadsOptional, ReadsNumber, UnitParts}
 use Rattle.crs_value.specs.declared.values.level.Level.{Level}
 use Rattle.crs_value.specs.Sound.{Each}
-use Rattle.crs_normal.specs.Prelude.{number_item, opt, item_unit, norm_length, norm_unit, norm_units}
+use Rattle.crs_normal.specs.inner.Prelude.{number_item, opt, item_unit, norm_length, norm_unit, norm_units}
 use Rattle.crs_normal.proofs.normal.FormLemmas.{IsGood, Looked, Opened, found-in, good-in}
 use Rattle.crs_normal.proofs.normal.LeafLemmas.{ArePlain, PlainIsOne, number-form}
 use Rattle.crs_normal.proofs.read.ViewLemmas.{and_then, without_places_onto}

@@ -1,18 +1,18 @@
 -- Parameters: the item of one reads as it wherever it is, with a unit of the class that its keyword
 -- names.
 use Rattle.std.proofs.Common.{rules, ◌≡◌, ◌⊎◌, inl, inr, ℕ, ◌+◌, codes, IfSome, Option, Some, None, List, [], ◌∷◌, refl, map, ◌++◌}
-use Rattle.crs_decimal.specs.Prelude.{Value}
-use Rattle.crs_text.specs.Prelude.{Item, End, More, at_place}
+use Rattle.crs_decimal.specs.inner.Prelude.{Value}
+use Rattle.crs_text.specs.inner.Prelude.{Item, End, More, at_place}
 use Rattle.crs_shape.specs.declared.class.Class.{Class}
 use Rattle.crs_shape.specs.declared.class.Class.TheVariants as class
 use Rattle.crs_shape.specs.declared.unit_kind.UnitKind.{UnitKind}
 use Rattle.crs_shape.specs.declared.unit_kind.UnitKind.TheVariants as kinds
-use Rattle.crs_shape.specs.Prelude.{is_keyword, class_named, unit_word}
-use Rattle.crs_value.specs.Prelude.{ParameterParts, ReadsElse, ReadsIds, ReadsAsUnit, ReadsParameter, ReadsUnitOf, parameter_units, IsIdent, IsUnit, IsParameter, UnitParts}
+use Rattle.crs_shape.specs.inner.Prelude.{is_keyword, class_named, unit_word}
+use Rattle.crs_value.specs.inner.Prelude.{ParameterParts, ReadsElse, ReadsIds, ReadsAsUnit, ReadsParameter, ReadsUnitOf, parameter_units, IsIdent, IsUnit, IsParameter, UnitParts}
 use Rattle.crs_value.specs.declared.values.level.Level.{Level}
 use Rattle.crs_value.specs.Sound.{Each}
 use Rattle.crs_value.specs.Values.{IdentParts}
-use Rattle.crs_normal.specs.Prelude.{unit_class, item_parameter, norm_parameter, each, node_of, number_item, opt, text_item, item_ident, item_unit, norm_units}
+use Rattle.crs_normal.specs.inner.Prelude.{unit_class, item_parameter, norm_parameter, each, node_of, number_item, opt, text_item, item_ident, item_unit, norm_units}
 use Rattle.crs_normal.specs.inner.LowerLaws.{LowerLaws}
 use Rattle.crs_normal.proofs.texts.SegmentLemmas.{IsIn, MayIn, Seen, Segment, a-number, a-text, if-any, items_of, lacks, placed-at, seen}
 use Rattle.crs_normal.proofs.members.MemberUnitLemmas.{NamesId, identifiers-back, identifiers-of, number-read, unit-kept, unit-read}

@@ -7,8 +7,8 @@ use Rattle.std.specs.Ordering.{nat_cmp, match_ordering, ordering_reverse}
 use Rattle.std.proofs.lemmas.Cmp.{nat_list_cmp_total}
 use Rattle.std.proofs.lemmas.Map.Lookups.{exact_bytes}
 use Rattle.crs_value.specs.Sound.{Each}
-use Rattle.crs_same.specs.Prelude.{HasSame, AllHaveSame, SameSet}
-use Rattle.crs_normal.specs.Prelude.{Ascends, Below, IsIn, put, put_all, in_order}
+use Rattle.crs_same.specs.inner.Prelude.{HasSame, AllHaveSame, SameSet}
+use Rattle.crs_normal.specs.inner.Prelude.{Ascends, Below, IsIn, put, put_all, in_order}
 use Rattle.crs_normal.proofs.read.ViewLemmas.{each-so}
 
 -- ---- the order of bytes

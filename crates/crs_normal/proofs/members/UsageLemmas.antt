@@ -1,10 +1,10 @@
 -- Usages: the item of one reads as it wherever it is.
 use Rattle.std.proofs.Common.{◌⊎◌, ℕ, ◌+◌, codes, IfSome, IsSome, Option, Some, None, option_map, List, [], ◌∷◌, inl, inr, refl, arith}
-use Rattle.crs_text.specs.Prelude.{Siblings, End, IsNode, at_place}
+use Rattle.crs_text.specs.inner.Prelude.{Siblings, End, IsNode, at_place}
 use Rattle.crs_shape.specs.declared.class.Class.TheVariants as class
-use Rattle.crs_value.specs.Prelude.{ReadsUsage, IsText, IsBox, IsUsage, BoxParts, ExtentParts, SaysSome, UsageParts}
+use Rattle.crs_value.specs.inner.Prelude.{ReadsUsage, IsText, IsBox, IsUsage, BoxParts, ExtentParts, SaysSome, UsageParts}
 use Rattle.crs_value.specs.declared.values.level.Level.TheVariants as levels
-use Rattle.crs_normal.specs.Prelude.{opt, text_node, item_box, item_extent, item_usage, norm_extent, norm_usage}
+use Rattle.crs_normal.specs.inner.Prelude.{opt, text_node, item_box, item_extent, item_usage, norm_extent, norm_usage}
 use Rattle.crs_normal.specs.inner.LowerLaws.{LowerLaws}
 use Rattle.crs_normal.proofs.members.ExtentLemmas.{IsWrittenExtent, box-read, extent-kept, extent-read}
 use Rattle.crs_normal.proofs.texts.ItemLemmas.{from-arguments}

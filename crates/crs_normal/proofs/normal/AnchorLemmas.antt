@@ -1,12 +1,12 @@
 -- The anchor of a normal reference frame and its epoch are the one form of their values: by their
 -- ranks the anchor comes first.
 use Rattle.std.proofs.Common.{◌≡◌, ℕ, inl, inr, Option, List, codes, refl, ◌∙◌, arith}
-use Rattle.crs_decimal.specs.Prelude.{Value}
-use Rattle.crs_text.specs.Prelude.{Item, Siblings, End, RefusedAt, arguments}
+use Rattle.crs_decimal.specs.inner.Prelude.{Value}
+use Rattle.crs_text.specs.inner.Prelude.{Item, Siblings, End, RefusedAt, arguments}
 use Rattle.crs_shape.specs.declared.class.Class.{Class}
 use Rattle.crs_shape.specs.declared.class.Class.TheVariants as class
-use Rattle.crs_shape.specs.Prelude.{SlotParts, anchor_slot}
-use Rattle.crs_value.specs.Prelude.{RepeatsAny, anchors, those, ReadsOptional, ReadsNumberOf, ReadsTextOf}
+use Rattle.crs_shape.specs.inner.Prelude.{SlotParts, anchor_slot}
+use Rattle.crs_value.specs.inner.Prelude.{RepeatsAny, anchors, those, ReadsOptional, ReadsNumberOf, ReadsTextOf}
 use Rattle.crs_value.specs.Sound.{Each}
 use Rattle.crs_value.specs.declared.values.level.Level.{Level}
 use Rattle.crs_normal.specs.NormalOwn.{Rise}

@@ -1,14 +1,14 @@
 -- A normal axis is the one form of its value at its position.
 use Rattle.std.proofs.Common.{◌≡◌, ℕ, map, true, Option, Some, None, List, [], ◌∷◌, append-nil, codes, decimal, refl, sym, ◌∙◌, ap, subst, arith}
-use Rattle.crs_decimal.specs.Prelude.{plain, Value}
-use Rattle.crs_text.specs.Prelude.{Item, leaf, node, Siblings, End, More, number, word}
+use Rattle.crs_decimal.specs.inner.Prelude.{plain, Value}
+use Rattle.crs_text.specs.inner.Prelude.{Item, leaf, node, Siblings, End, More, number, word}
 use Rattle.crs_shape.specs.declared.class.Class.{Class}
 use Rattle.crs_shape.specs.declared.class.Class.TheVariants as class
 use Rattle.crs_shape.specs.declared.unit_kind.UnitKind.TheVariants as kinds
-use Rattle.crs_shape.specs.Prelude.{asked_kind, SpellsWord, direction_word, system_word}
-use Rattle.crs_value.specs.Prelude.{ReadsOptional, ReadsAxis, ReadsAxisMeridian, ReadsDirection, ReadsNumberOf, ReadsType, AxisMeridianParts, AxisParts, SystemParts}
+use Rattle.crs_shape.specs.inner.Prelude.{asked_kind, SpellsWord, direction_word, system_word}
+use Rattle.crs_value.specs.inner.Prelude.{ReadsOptional, ReadsAxis, ReadsAxisMeridian, ReadsDirection, ReadsNumberOf, ReadsType, AxisMeridianParts, AxisParts, SystemParts}
 use Rattle.crs_value.specs.declared.values.level.Level.{Level}
-use Rattle.crs_same.specs.Prelude.{own_or}
+use Rattle.crs_same.specs.inner.Prelude.{own_or}
 use Rattle.crs_normal.proofs.WithoutPlaces.{without_places}
 use Rattle.crs_normal.specs.NormalOwn.{Has, HasOneOrder, numbers_in}
 use Rattle.crs_value.specs.Sound.{Each}

@@ -1,9 +1,9 @@
 -- Arguments of a node that breaks no check break none.
 use Rattle.std.proofs.Common.{◌≡◌, ℕ, ◌≤◌, length, drop, true, false, inl, inr, Option, List, [], ◌∷◌, if◌then◌else◌, refl, sym, ◌∙◌, ap, subst, arith}
-use Rattle.crs_text.specs.Prelude.{Item, End, RefusedAt, arguments}
+use Rattle.crs_text.specs.inner.Prelude.{Item, End, RefusedAt, arguments}
 use Rattle.crs_shape.specs.declared.class.Class.{Class}
-use Rattle.crs_shape.specs.Prelude.{SlotParts, slots_of}
-use Rattle.crs_value.specs.Prelude.{AnyOf, AtClass, Breaks, BreaksAmong, Own, is_a, those, ReadsElse, ReadsFirst, IsRepeated}
+use Rattle.crs_shape.specs.inner.Prelude.{SlotParts, slots_of}
+use Rattle.crs_value.specs.inner.Prelude.{AnyOf, AtClass, Breaks, BreaksAmong, Own, is_a, those, ReadsElse, ReadsFirst, IsRepeated}
 use Rattle.crs_value.specs.Sound.{Each}
 use Rattle.crs_value.specs.declared.values.level.Level.{Level}
 use Rattle.crs_normal.proofs.WithoutPlaces.{without_places}

@@ -1,10 +1,10 @@
 -- Normal compound CRSs, and normal CRSs of any kind, are the one form of their values.
 use Rattle.std.proofs.Common.{◌≡◌, ℕ, inl, List, refl, ◌∙◌, ap, ap₂, subst}
-use Rattle.crs_text.specs.Prelude.{Item, End, More, RefusedAt, arguments}
+use Rattle.crs_text.specs.inner.Prelude.{Item, End, More, RefusedAt, arguments}
 use Rattle.crs_shape.specs.declared.class.Class.{Class}
 use Rattle.crs_shape.specs.declared.class.Class.TheVariants as class
-use Rattle.crs_shape.specs.Prelude.{SlotParts}
-use Rattle.crs_value.specs.Prelude.{BreaksAmong, Own, those, ReadsElse, ReadsFirst, ReadsAsHorizontal, ReadsCompound, ReadsCrs, ReadsProjected, ReadsVertical}
+use Rattle.crs_shape.specs.inner.Prelude.{SlotParts}
+use Rattle.crs_value.specs.inner.Prelude.{BreaksAmong, Own, those, ReadsElse, ReadsFirst, ReadsAsHorizontal, ReadsCompound, ReadsCrs, ReadsProjected, ReadsVertical}
 use Rattle.crs_value.specs.declared.values.compound.Horizontal.{Horizontal}
 use Rattle.crs_value.specs.declared.values.compound.Horizontal.TheVariants as horizontal
 use Rattle.crs_value.specs.declared.values.crs.Crs.TheVariants as crs

@@ -1,9 +1,9 @@
 -- A coordinate system has one to three dimensions.
 use Rattle.std.proofs.Common.{◌≡◌, ℕ, ◌≤◌, ◌*◌, List, [], ◌∷◌, inl, inr, arith}
-use Rattle.crs_decimal.specs.Prelude.{Number, SameNumber, whole_number, Value, exact}
+use Rattle.crs_decimal.specs.inner.Prelude.{Number, SameNumber, whole_number, Value, exact}
 use Rattle.crs_shape.specs.declared.class.Class.TheVariants as class
 use Rattle.crs_shape.specs.declared.system_type.SystemType.{SystemType}
-use Rattle.crs_shape.specs.Prelude.{IsOneOf, dimensions_of}
+use Rattle.crs_shape.specs.inner.Prelude.{IsOneOf, dimensions_of}
 use Rattle.crs_value.specs.Sound.{Each}
 
 abbrev pub AreSmall : List ℕ → Type 0

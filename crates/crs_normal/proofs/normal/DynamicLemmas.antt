@@ -2,7 +2,7 @@
 use Rattle.std.proofs.Common.{codes, refl}
 use Rattle.crs_shape.specs.declared.class.Class.{Class}
 use Rattle.crs_shape.specs.declared.class.Class.TheVariants as class
-use Rattle.crs_value.specs.Prelude.{ReadsDynamic}
+use Rattle.crs_value.specs.inner.Prelude.{ReadsDynamic}
 use Rattle.crs_value.specs.declared.values.level.Level.{Level}
 use Rattle.crs_normal.specs.inner.SpelledDynamic.{item_deformation_model, item_dynamic, norm_deformation_model, norm_dynamic}
 use Rattle.crs_normal.proofs.normal.FormLemmas.{Form, by-slots, mapped-in, one-in, spelled-by}

@@ -1,11 +1,11 @@
 -- Normal ellipsoids and prime meridians are the one form of their values.
 use Rattle.std.proofs.Common.{◌≡◌, ℕ, Bool, true, Option, None, List, [], ◌∷◌, if◌then◌else◌, codes, refl, ◌∙◌, ap, arith}
-use Rattle.crs_decimal.specs.Prelude.{plain, Value, IsNormal, zero}
-use Rattle.crs_text.specs.Prelude.{Item, Siblings, arguments}
+use Rattle.crs_decimal.specs.inner.Prelude.{plain, Value, IsNormal, zero}
+use Rattle.crs_text.specs.inner.Prelude.{Item, Siblings, arguments}
 use Rattle.crs_shape.specs.declared.class.Class.{Class}
 use Rattle.crs_shape.specs.declared.class.Class.TheVariants as class
 use Rattle.crs_shape.specs.declared.unit_kind.UnitKind.TheVariants as kinds
-use Rattle.crs_value.specs.Prelude.{those, ReadsFirst, ReadsOptional, ReadsEllipsoid, ReadsMeridian, ReadsNumber, ReadsUnit, UnitParts}
+use Rattle.crs_value.specs.inner.Prelude.{those, ReadsFirst, ReadsOptional, ReadsEllipsoid, ReadsMeridian, ReadsNumber, ReadsUnit, UnitParts}
 use Rattle.crs_value.specs.declared.values.level.Level.{Level}
 use Rattle.crs_normal.specs.inner.SpelledFrames.{is_zero, item_ellipsoid, item_meridian, norm_ellipsoid, norm_given}
 use Rattle.crs_normal.specs.inner.SpelledItems.{opt, item_unit, norm_unit, norm_units}

@@ -1,11 +1,11 @@
 -- Normal ensembles, frames of either sort, and base CRSs are the one form of their values.
 use Rattle.std.proofs.Common.{◌≡◌, ℕ, List, codes, refl, ◌∙◌, ap, ap₂}
-use Rattle.crs_text.specs.Prelude.{Item, Siblings, End, More, RefusedAt, arguments}
+use Rattle.crs_text.specs.inner.Prelude.{Item, Siblings, End, More, RefusedAt, arguments}
 use Rattle.crs_shape.specs.declared.class.Class.{Class}
 use Rattle.crs_shape.specs.declared.class.Class.TheVariants as class
 use Rattle.crs_shape.specs.declared.unit_kind.UnitKind.TheVariants as kinds
-use Rattle.crs_shape.specs.Prelude.{SlotParts}
-use Rattle.crs_value.specs.Prelude.{BreaksAmong, those, ReadsElse, ReadsFirst, ReadsDatum, ReadsEnsemble, ReadsAsDatum, ReadsAsEnsemble, ReadsBase}
+use Rattle.crs_shape.specs.inner.Prelude.{SlotParts}
+use Rattle.crs_value.specs.inner.Prelude.{BreaksAmong, those, ReadsElse, ReadsFirst, ReadsDatum, ReadsEnsemble, ReadsAsDatum, ReadsAsEnsemble, ReadsBase}
 use Rattle.crs_value.specs.declared.values.frame.Frame.{Frame}
 use Rattle.crs_value.specs.declared.values.frame.Frame.TheVariants as frame
 use Rattle.crs_value.specs.declared.values.level.Level.{Level}

@@ -2,11 +2,11 @@
 use Rattle.std.proofs.Common.{IsTrue, IsFalse, ◌≡◌, ◌≢◌, ◌⊎◌, ℕ, ◌≤◌, length, map, Bool, true, Option, Some, None, List, [], ◌∷◌, ◌++◌, refl, sym, ◌∙◌, ap, ap₂, subst, arith}
 use Rattle.std.specs.Option.{option_map}
 use denote.Enum.Bare.{sameb}
-use Rattle.crs_text.specs.Prelude.{Item, leaf, node, Siblings, End, More, Kind, number, RefusedAt, arguments, item_text, others_text, raw_of}
+use Rattle.crs_text.specs.inner.Prelude.{Item, leaf, node, Siblings, End, More, Kind, number, RefusedAt, arguments, item_text, others_text, raw_of}
 use Rattle.crs_shape.specs.contracts.class.Class.{the_type}
 use Rattle.crs_shape.specs.declared.class.Class.{Class}
-use Rattle.crs_shape.specs.Prelude.{Shaped, AreShaped, SlotParts, class_of_kind, slots_of}
-use Rattle.crs_value.specs.Prelude.{AtClass, Breaks, BreaksAmong, Own, those, ReadsFirst, ReadsOptional, ReadsEach, kept, kept-where_none}
+use Rattle.crs_shape.specs.inner.Prelude.{Shaped, AreShaped, SlotParts, class_of_kind, slots_of}
+use Rattle.crs_value.specs.inner.Prelude.{AtClass, Breaks, BreaksAmong, Own, those, ReadsFirst, ReadsOptional, ReadsEach, kept, kept-where_none}
 use Rattle.crs_value.specs.declared.values.level.Level.{Level}
 use Rattle.crs_normal.proofs.WithoutPlaces.{without_places, all_without_places}
 use Rattle.crs_normal.specs.Normal.{IsNormalIn, AreNormalIn, IsFirstKeyword, KeepsAll}

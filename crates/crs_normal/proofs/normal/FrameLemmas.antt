@@ -1,9 +1,9 @@
 -- Normal reference frames are the one form of their values.
 use Rattle.std.proofs.Common.{◌≡◌, Option, None, List, [], codes, refl, arith}
-use Rattle.crs_text.specs.Prelude.{Item}
+use Rattle.crs_text.specs.inner.Prelude.{Item}
 use Rattle.crs_shape.specs.declared.class.Class.{Class}
 use Rattle.crs_shape.specs.declared.class.Class.TheVariants as class
-use Rattle.crs_value.specs.Prelude.{Own, ReadsOptional, ReadsDatum}
+use Rattle.crs_value.specs.inner.Prelude.{Own, ReadsOptional, ReadsDatum}
 use Rattle.crs_value.specs.declared.values.level.Level.{Level}
 use Rattle.crs_normal.specs.inner.SpelledFrames.{item_datum, item_ellipsoid, norm_datum, norm_ellipsoid}
 use Rattle.crs_normal.proofs.normal.AnchorLemmas.{anchors-in}

@@ -1,12 +1,12 @@
 -- Normal geodetic and geographic CRSs are the one form of their values.
 use Rattle.std.proofs.Common.{◌≡◌, ◌≢◌, ℕ, inl, inr, List, codes, refl, sym, ◌∙◌, ap}
-use Rattle.crs_text.specs.Prelude.{Item, RefusedAt, arguments}
+use Rattle.crs_text.specs.inner.Prelude.{Item, RefusedAt, arguments}
 use Rattle.crs_shape.specs.declared.class.Class.{Class}
 use Rattle.crs_shape.specs.declared.class.Class.TheVariants as class
 use Rattle.crs_shape.specs.declared.system_type.SystemType.{SystemType}
 use Rattle.crs_shape.specs.declared.system_type.SystemType.TheVariants as types
-use Rattle.crs_shape.specs.Prelude.{geodetic_slots, dimensions_of}
-use Rattle.crs_value.specs.Prelude.{BreaksAmong, OfCrs, Own, GeodeticParts, ReadsGeodetic}
+use Rattle.crs_shape.specs.inner.Prelude.{geodetic_slots, dimensions_of}
+use Rattle.crs_value.specs.inner.Prelude.{BreaksAmong, OfCrs, Own, GeodeticParts, ReadsGeodetic}
 use Rattle.crs_value.specs.declared.values.level.Level.{Level}
 use Rattle.crs_normal.proofs.WithoutPlaces.{without_places}
 use Rattle.crs_normal.specs.NormalOwn.{Has, HasAxes, HasTail}

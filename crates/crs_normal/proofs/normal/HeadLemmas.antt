@@ -1,14 +1,14 @@
 -- What the checks say of a normal CRS: how many axes there are, and of which type its system is.
 use Rattle.std.proofs.Common.{◌≡◌, ◌≢◌, ℕ, suc, ◌+◌, ◌^◌, ◌≤◌, ◌<◌, length, inl, inr, ⊎_elim, List, [], ◌∷◌, codes, refl, ◌∙◌, ap, arith}
 use Rattle.std.proofs.lemmas.Bool.{cases_lt}
-use Rattle.crs_decimal.specs.Prelude.{SameNumber, Value, exact, whole_number}
-use Rattle.crs_text.specs.Prelude.{Item, arguments, RefusedAt}
+use Rattle.crs_decimal.specs.inner.Prelude.{SameNumber, Value, exact, whole_number}
+use Rattle.crs_text.specs.inner.Prelude.{Item, arguments, RefusedAt}
 use Rattle.crs_shape.specs.declared.class.Class.{Class}
 use Rattle.crs_shape.specs.declared.class.Class.TheVariants as class
 use Rattle.crs_shape.specs.declared.system_type.SystemType.{SystemType}
 use Rattle.crs_shape.specs.declared.system_type.SystemType.TheVariants as types
-use Rattle.crs_shape.specs.Prelude.{IsOneOf, dimensions_of, system_word}
-use Rattle.crs_value.specs.Prelude.{at, BadSystems, those, ReadsEach, ReadsFirst, ReadsHead, ReadsNumberOf, ReadsType, SystemParts}
+use Rattle.crs_shape.specs.inner.Prelude.{IsOneOf, dimensions_of, system_word}
+use Rattle.crs_value.specs.inner.Prelude.{at, BadSystems, those, ReadsEach, ReadsFirst, ReadsHead, ReadsNumberOf, ReadsType, SystemParts}
 use Rattle.crs_value.specs.declared.values.level.Level.{Level}
 use Rattle.crs_normal.specs.NormalOwn.{words_in}
 use Rattle.crs_value.specs.Sound.{Each}

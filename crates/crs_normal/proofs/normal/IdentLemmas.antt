@@ -2,12 +2,12 @@
 use Rattle.std.proofs.Common.{◌≡◌, ℕ, ◌≤◌, ◌||◌, length, true, false, inl, inr, ⊎_elim, Option, Some, None, List, [], ◌∷◌, ◌++◌, if◌then◌else◌, codes, refl, sym, ◌∙◌, ap, ap₂, subst, arith}
 use Rattle.std.proofs.lemmas.Bool.{cases_Bool, or_cases}
 use denote.Enum.Bare.{sameb}
-use Rattle.crs_text.specs.Prelude.{Item, leaf, node, Siblings, End, More, arguments, raw_of, skip, number, text}
+use Rattle.crs_text.specs.inner.Prelude.{Item, leaf, node, Siblings, End, More, arguments, raw_of, skip, number, text}
 use Rattle.crs_shape.specs.contracts.class.Class.{the_type}
 use Rattle.crs_shape.specs.declared.class.Class.{Class}
 use Rattle.crs_shape.specs.declared.class.Class.TheVariants as class
-use Rattle.crs_shape.specs.Prelude.{is_keyword, SlotParts, class_of_kind, one, optional, optional_of, slots_of}
-use Rattle.crs_value.specs.Prelude.{is_a, those, ReadsFirst, ReadsOptional, ReadsText, ReadsIdent, single_of}
+use Rattle.crs_shape.specs.inner.Prelude.{is_keyword, SlotParts, class_of_kind, one, optional, optional_of, slots_of}
+use Rattle.crs_value.specs.inner.Prelude.{is_a, those, ReadsFirst, ReadsOptional, ReadsText, ReadsIdent, single_of}
 use Rattle.crs_value.specs.declared.values.level.Level.{Level}
 use Rattle.crs_normal.proofs.WithoutPlaces.{without_places}
 use Rattle.crs_normal.specs.NormalOwn.{IsCode, IsShort}

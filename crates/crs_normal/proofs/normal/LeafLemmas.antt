@@ -1,11 +1,11 @@
 -- Texts and numbers, and nodes of one text or one number, are the one form of what is read from them.
 use Rattle.std.proofs.Common.{◌≡◌, ℕ, true, false, List, [], ◌∷◌, refl, ap}
-use Rattle.crs_decimal.specs.Prelude.{Denotes, IsPlain, plain, Value, IsNormal, exact}
-use Rattle.crs_text.specs.Prelude.{Item, leaf, node, Kind, number, text, word}
+use Rattle.crs_decimal.specs.inner.Prelude.{Denotes, IsPlain, plain, Value, IsNormal, exact}
+use Rattle.crs_text.specs.inner.Prelude.{Item, leaf, node, Kind, number, text, word}
 use Rattle.crs_shape.specs.declared.class.Class.{Class}
 use Rattle.crs_shape.specs.declared.class.Class.TheVariants as class
-use Rattle.crs_shape.specs.Prelude.{is_keyword, class_of_kind, one, slots_of}
-use Rattle.crs_value.specs.Prelude.{ReadsText, ReadsNumber, ReadsTextOf, ReadsNumberOf}
+use Rattle.crs_shape.specs.inner.Prelude.{is_keyword, class_of_kind, one, slots_of}
+use Rattle.crs_value.specs.inner.Prelude.{ReadsText, ReadsNumber, ReadsTextOf, ReadsNumberOf}
 use Rattle.crs_value.specs.declared.values.level.Level.{Level}
 use Rattle.crs_normal.specs.Normal.{IsNumberIn, IsSingleIn, IsFirstKeyword}
 use Rattle.crs_normal.specs.inner.SpelledItems.{number_item, number_node, text_item, text_node}

@@ -1,9 +1,9 @@
 -- A text that is normal at some level is normal at the full one, which leaves nothing out.
 use Rattle.std.proofs.Common.{ℕ, List, Option, Some, None, refl}
-use Rattle.crs_text.specs.Prelude.{Item, leaf, node, Siblings, End, More}
+use Rattle.crs_text.specs.inner.Prelude.{Item, leaf, node, Siblings, End, More}
 use Rattle.crs_shape.specs.declared.class.Class.{Class}
-use Rattle.crs_shape.specs.Prelude.{class_in}
-use Rattle.crs_value.specs.Prelude.{AtClass}
+use Rattle.crs_shape.specs.inner.Prelude.{class_in}
+use Rattle.crs_value.specs.inner.Prelude.{AtClass}
 use Rattle.crs_value.specs.declared.values.level.Level.{Level}
 use Rattle.crs_value.specs.declared.values.level.Level.TheVariants as levels
 use Rattle.crs_normal.specs.Normal.{AreNormalIn, AtLevel, IsNormalIn, IsNormalText}

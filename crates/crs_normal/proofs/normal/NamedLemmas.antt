@@ -1,12 +1,12 @@
 -- Normal members, methods, geoid models, deformation models, parameters and conversions are the one form of their
 -- values.
 use Rattle.std.proofs.Common.{◌≡◌, ℕ, ◌≤◌, length, Option, Some, None, List, [], ◌∷◌, codes, refl, ◌∙◌, ap, subst, arith}
-use Rattle.crs_text.specs.Prelude.{Item, Siblings, End, More}
+use Rattle.crs_text.specs.inner.Prelude.{Item, Siblings, End, More}
 use Rattle.crs_shape.specs.declared.class.Class.{Class}
 use Rattle.crs_shape.specs.declared.class.Class.TheVariants as class
 use Rattle.crs_shape.specs.declared.unit_kind.UnitKind.TheVariants as kinds
-use Rattle.crs_shape.specs.Prelude.{SlotParts, named_slots, slots_of}
-use Rattle.crs_value.specs.Prelude.{those, ReadsElse, ReadsMember, ReadsNamed, parameter_units, ReadsAsUnit, ReadsConversion, ReadsGeoidModel, ReadsMethod, ReadsParameter, ReadsUnit, ReadsUnitOf, ReadsDeformationModel, UnitParts}
+use Rattle.crs_shape.specs.inner.Prelude.{SlotParts, named_slots, slots_of}
+use Rattle.crs_value.specs.inner.Prelude.{those, ReadsElse, ReadsMember, ReadsNamed, parameter_units, ReadsAsUnit, ReadsConversion, ReadsGeoidModel, ReadsMethod, ReadsParameter, ReadsUnit, ReadsUnitOf, ReadsDeformationModel, UnitParts}
 use Rattle.crs_value.specs.declared.values.level.Level.{Level}
 use Rattle.crs_normal.proofs.WithoutPlaces.{without_places}
 use Rattle.crs_normal.specs.Normal.{IsFirstKeyword}

@@ -2,8 +2,8 @@
 use Rattle.std.proofs.Common.{codes, inl, inr, refl}
 use Rattle.crs_shape.specs.declared.class.Class.{Class}
 use Rattle.crs_shape.specs.declared.class.Class.TheVariants as class
-use Rattle.crs_shape.specs.Prelude.{dimensions_of}
-use Rattle.crs_value.specs.Prelude.{Own, ReadsBase, ReadsProjected, ReadsVertical}
+use Rattle.crs_shape.specs.inner.Prelude.{dimensions_of}
+use Rattle.crs_value.specs.inner.Prelude.{Own, ReadsBase, ReadsProjected, ReadsVertical}
 use Rattle.crs_value.specs.declared.values.level.Level.{Level}
 use Rattle.crs_normal.specs.inner.SpelledDynamic.{item_dynamic, norm_dynamic}
 use Rattle.crs_normal.specs.inner.SpelledCrs.{item_projected, item_vertical, norm_projected, norm_vertical}

@@ -4,12 +4,12 @@ use Rattle.std.proofs.Common.{zero, suc, ◌≡◌, ◌≢◌, ℕ, ◌≤◌, �
 use Rattle.std.specs.List.{list_any}
 use Rattle.std.proofs.lemmas.Bool.{or_cases}
 use denote.Enum.Bare.{false_same, sameb, true_same}
-use Rattle.crs_text.specs.Prelude.{Item, Siblings, End, More}
+use Rattle.crs_text.specs.inner.Prelude.{Item, Siblings, End, More}
 use Rattle.crs_shape.specs.contracts.class.Class.{the_type}
 use Rattle.crs_shape.specs.declared.class.Class.{Class}
 use Rattle.crs_shape.specs.declared.class.Class.TheVariants as class
-use Rattle.crs_shape.specs.Prelude.{SlotParts, class_in, is_class, tail, vertical_tail}
-use Rattle.crs_value.specs.Prelude.{AtClass, is_a, those}
+use Rattle.crs_shape.specs.inner.Prelude.{SlotParts, class_in, is_class, tail, vertical_tail}
+use Rattle.crs_value.specs.inner.Prelude.{AtClass, is_a, those}
 use Rattle.crs_normal.specs.NormalOwn.{Rise, bare_classes, rank}
 use Rattle.crs_normal.proofs.WithoutPlaces.{without_places}
 use Rattle.crs_value.specs.Sound.{Each}

@@ -1,12 +1,12 @@
 -- The end of a normal CRS is the one form of its value.
 use Rattle.std.proofs.Common.{false, List, None, Option, Some, ℕ, [], ap, ap₂, codes, inl, inr, map, refl, sym, ◌∙◌, ◌≡◌, arith, subst}
-use Rattle.crs_text.specs.Prelude.{Item, End, RefusedAt, arguments, item_text}
+use Rattle.crs_text.specs.inner.Prelude.{Item, End, RefusedAt, arguments, item_text}
 use Rattle.crs_shape.specs.declared.class.Class.{Class}
 use Rattle.crs_shape.specs.declared.class.Class.TheVariants as class
-use Rattle.crs_shape.specs.Prelude.{SlotParts, tail}
-use Rattle.crs_value.specs.Prelude.{RepeatsAny, once, GeoidModelParts, is_a, those, ReadsEach, ReadsBare, ReadsTail, ReadsTextOf, ReadsUsage, ReadsGeoidModel, SaysSome, TailParts, UsageParts, kept, kept-where_none-one}
+use Rattle.crs_shape.specs.inner.Prelude.{SlotParts, tail}
+use Rattle.crs_value.specs.inner.Prelude.{RepeatsAny, once, GeoidModelParts, is_a, those, ReadsEach, ReadsBare, ReadsTail, ReadsTextOf, ReadsUsage, ReadsGeoidModel, SaysSome, TailParts, UsageParts, kept, kept-where_none-one}
 use Rattle.crs_value.specs.declared.values.level.Level.{Level}
-use Rattle.crs_same.specs.Prelude.{usages_of, with_bare}
+use Rattle.crs_same.specs.inner.Prelude.{usages_of, with_bare}
 use Rattle.crs_normal.specs.NormalOwn.{HasTail, Lacks, bare_classes}
 use Rattle.crs_value.specs.Sound.{Each}
 use Rattle.crs_normal.specs.inner.Ordered.{in_order}

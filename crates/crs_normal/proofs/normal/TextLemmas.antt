@@ -1,8 +1,8 @@
 -- A normal text is the one form of the value that it spells, written.
 use Rattle.std.proofs.Common.{◌≡◌, ℕ, inr, List, sym, ◌∙◌, ap, subst}
-use Rattle.crs_text.specs.Prelude.{Item, item_text}
+use Rattle.crs_text.specs.inner.Prelude.{Item, item_text}
 use Rattle.crs_shape.specs.declared.class.Class.{Class}
-use Rattle.crs_value.specs.Prelude.{SpellsCrs, Spells}
+use Rattle.crs_value.specs.inner.Prelude.{SpellsCrs, Spells}
 use Rattle.crs_value.specs.declared.values.crs.Crs.{Crs}
 use Rattle.crs_value.specs.declared.values.level.Level.{Level}
 use Rattle.crs_normal.specs.Normal.{IsNormalIn, IsNormalText}

@@ -1,15 +1,15 @@
 -- Normal units and lists of identifiers are the one form of their values.
 use Rattle.std.proofs.Common.{◌≡◌, ℕ, inl, inr, List, refl, sym, ◌∙◌, ap, subst, map-id}
-use Rattle.crs_text.specs.Prelude.{Item, Siblings, arguments, item_text, raw_of}
+use Rattle.crs_text.specs.inner.Prelude.{Item, Siblings, arguments, item_text, raw_of}
 use Rattle.crs_shape.specs.declared.class.Class.{Class}
 use Rattle.crs_shape.specs.declared.class.Class.TheVariants as class
 use Rattle.crs_shape.specs.declared.unit_kind.UnitKind.{UnitKind}
 use Rattle.crs_shape.specs.declared.unit_kind.UnitKind.TheVariants as kinds
-use Rattle.crs_shape.specs.Prelude.{SlotParts, slots_of, unit_slots, SpellsWord, unit_word}
-use Rattle.crs_value.specs.Prelude.{those, ReadsEach, ReadsIdent, ReadsUnit, kept}
+use Rattle.crs_shape.specs.inner.Prelude.{SlotParts, slots_of, unit_slots, SpellsWord, unit_word}
+use Rattle.crs_value.specs.inner.Prelude.{those, ReadsEach, ReadsIdent, ReadsUnit, kept}
 use Rattle.crs_value.specs.Values.{IdentParts}
 use Rattle.crs_value.specs.declared.values.level.Level.{Level}
-use Rattle.crs_same.specs.Prelude.{kind_as}
+use Rattle.crs_same.specs.inner.Prelude.{kind_as}
 use Rattle.crs_normal.specs.Normal.{IsFirstKeyword}
 use Rattle.crs_normal.specs.NormalOwn.{Ascend}
 use Rattle.crs_value.specs.Sound.{Each}

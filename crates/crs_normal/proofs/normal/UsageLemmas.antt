@@ -1,10 +1,10 @@
 -- Normal boxes, extents and usages are the one form of their values.
 use Rattle.std.proofs.Common.{codes, refl, ◌∙◌}
-use Rattle.crs_text.specs.Prelude.{End, arguments}
+use Rattle.crs_text.specs.inner.Prelude.{End, arguments}
 use Rattle.crs_shape.specs.declared.class.Class.{Class}
 use Rattle.crs_shape.specs.declared.class.Class.TheVariants as class
 use Rattle.crs_shape.specs.declared.unit_kind.UnitKind.TheVariants as kinds
-use Rattle.crs_value.specs.Prelude.{those, ReadsBox, ReadsExtent, ReadsUnit, ReadsUsage}
+use Rattle.crs_value.specs.inner.Prelude.{those, ReadsBox, ReadsExtent, ReadsUnit, ReadsUsage}
 use Rattle.crs_value.specs.declared.values.level.Level.{Level}
 use Rattle.crs_value.specs.declared.values.level.Level.TheVariants as levels
 use Rattle.crs_normal.specs.inner.SpelledUsages.{item_box, item_extent, item_usage, norm_extent, norm_usage}

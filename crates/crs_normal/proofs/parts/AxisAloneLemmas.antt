@@ -1,17 +1,17 @@
 -- An axis by itself, normal but for a unit that is `UNIT`, is the one form of its value.
 use Rattle.std.proofs.Common.{◌≡◌, ◌≢◌, IsTrue, Option, List, [], ◌∷◌, codes, inl, inr, refl, sym, ◌∙◌, subst}
-use Rattle.crs_text.specs.Prelude.{Item, leaf, node, Siblings, End, More, arguments}
+use Rattle.crs_text.specs.inner.Prelude.{Item, leaf, node, Siblings, End, More, arguments}
 use Rattle.crs_shape.specs.declared.class.Class.{Class}
 use Rattle.crs_shape.specs.declared.class.Class.TheVariants as class
 use Rattle.crs_shape.specs.declared.unit_kind.UnitKind.TheVariants as kinds
-use Rattle.crs_shape.specs.Prelude.{is_keyword, AreShaped, Shaped, class_in, class_named, slots_of}
-use Rattle.crs_value.specs.Prelude.{AtClass, ReadsEach, ReadsFirst, those, ReadsAxis, ReadsIdent, ReadsNumber, ReadsText, ReadsUnit, AxisParts, UnitParts}
+use Rattle.crs_shape.specs.inner.Prelude.{is_keyword, AreShaped, Shaped, class_in, class_named, slots_of}
+use Rattle.crs_value.specs.inner.Prelude.{AtClass, ReadsEach, ReadsFirst, those, ReadsAxis, ReadsIdent, ReadsNumber, ReadsText, ReadsUnit, AxisParts, UnitParts}
 use Rattle.crs_value.specs.declared.values.level.Level.{Level}
 use Rattle.crs_normal.specs.AxisAlone.{AreNormalArguments, IsNormalArgument, IsNormalAxis}
 use Rattle.crs_normal.proofs.WithoutPlaces.{without_places}
 use Rattle.crs_normal.specs.Normal.{IsNormalIn}
 use Rattle.crs_value.specs.Sound.{Each}
-use Rattle.crs_normal.specs.Prelude.{norm_axis_alone, item_axis, item_unit, norm_unit}
+use Rattle.crs_normal.specs.inner.Prelude.{norm_axis_alone, item_axis, item_unit, norm_unit}
 use Rattle.crs_normal.proofs.normal.AxisLemmas.{axis_meridian-form, direction-form, opt-meridians}
 use Rattle.crs_normal.proofs.normal.FormLemmas.{IsGood, node-spelled, one-spelled, optional-spelled, optional-by}
 use Rattle.crs_normal.proofs.normal.LeafLemmas.{PlainIsOne, number-node-form, text-form}

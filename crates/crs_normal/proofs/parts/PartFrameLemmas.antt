@@ -1,14 +1,14 @@
 -- Reference frames and ensembles by themselves: geodetic where they have an ellipsoid, else vertical.
 use Rattle.std.proofs.Common.{◌≡◌, ◌↔◌, ◌∙◌, ℕ, true≢false, codes, Option, Some, None, List, [], ◌∷◌, ◌++◌, refl, sym, ap, arith, IsNone, IsSome}
 use Rattle.std.specs.Option.{option_map}
-use Rattle.crs_text.specs.Prelude.{at_place}
+use Rattle.crs_text.specs.inner.Prelude.{at_place}
 use Rattle.crs_shape.specs.declared.class.Class.TheVariants as class
-use Rattle.crs_value.specs.Prelude.{ReadsDatum, ReadsEnsemble, IsDatum, IsEnsemble, IsGeodeticFrame, IsVerticalFrame, IsReadAs, DatumParts, EllipsoidParts, EnsembleParts}
+use Rattle.crs_value.specs.inner.Prelude.{ReadsDatum, ReadsEnsemble, IsDatum, IsEnsemble, IsGeodeticFrame, IsVerticalFrame, IsReadAs, DatumParts, EllipsoidParts, EnsembleParts}
 use Rattle.crs_value.specs.declared.values.frame.Frame.{Frame}
 use Rattle.crs_value.specs.declared.values.frame.Frame.TheVariants as frame
 use Rattle.crs_value.specs.declared.values.level.Level.{Level}
-use Rattle.crs_same.specs.Prelude.{AreSame, parts_of_datum, parts_of_ensemble, parts_of_frame}
-use Rattle.crs_normal.specs.Prelude.{IsWrittenForm, item_datum, item_ensemble, norm_datum, norm_ellipsoid, norm_ensemble}
+use Rattle.crs_same.specs.inner.Prelude.{AreSame, parts_of_datum, parts_of_ensemble, parts_of_frame}
+use Rattle.crs_normal.specs.inner.Prelude.{IsWrittenForm, item_datum, item_ensemble, norm_datum, norm_ellipsoid, norm_ensemble}
 use Rattle.crs_normal.specs.PartSpellings.{IsFrame, IsSpelledDatum, IsSpelledEnsemble, IsSpelledFrame, datum_class, ensemble_class}
 use Rattle.crs_normal.specs.inner.PartTexts.{datum_keyword, datum_text, ensemble_text, frame_text, item_own_datum}
 use Rattle.crs_normal.specs.inner.LowerLaws.{LowerLaws}

@@ -3,14 +3,14 @@ use Rattle.std.proofs.Common.{◌≡◌, ◌↔◌}
 use Rattle.crs_shape.specs.declared.class.Class.TheVariants as class
 use Rattle.crs_shape.specs.declared.system_type.SystemType.{SystemType}
 use Rattle.crs_shape.specs.declared.system_type.SystemType.TheVariants as types
-use Rattle.crs_text.specs.Prelude.{item_text}
-use Rattle.crs_value.specs.Prelude.{GeodeticParts, ReadsGeodetic, IsCrs, IsGeodetic, IsProjected}
+use Rattle.crs_text.specs.inner.Prelude.{item_text}
+use Rattle.crs_value.specs.inner.Prelude.{GeodeticParts, ReadsGeodetic, IsCrs, IsGeodetic, IsProjected}
 use Rattle.crs_value.specs.declared.values.compound.Horizontal.{Horizontal}
 use Rattle.crs_value.specs.declared.values.compound.Horizontal.TheVariants as horizontal
 use Rattle.crs_value.specs.declared.values.crs.Crs.{Crs}
 use Rattle.crs_value.specs.declared.values.crs.Crs.TheVariants as crs
 use Rattle.crs_value.specs.declared.values.level.Level.{Level}
-use Rattle.crs_same.specs.Prelude.{AreSame, parts_of_geodetic, parts_of_projected, parts_of_horizontal, SameCrs}
+use Rattle.crs_same.specs.inner.Prelude.{AreSame, parts_of_geodetic, parts_of_projected, parts_of_horizontal, SameCrs}
 use Rattle.crs_normal.specs.inner.WrittenForm.{IsWrittenForm}
 use Rattle.crs_normal.specs.inner.Decides.{FormDecides}
 use Rattle.crs_normal.specs.PartSpellings.{geodetic_class}

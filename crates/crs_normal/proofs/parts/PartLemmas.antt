@@ -1,11 +1,11 @@
 -- Values of one kind: from the laws of their one form and its item, what their spellings have in
 -- common.
 use Rattle.std.proofs.Common.{◌≡◌, ◌≤◌, ◌∙◌, ℕ, List, sym, ap, subst, arith}
-use Rattle.crs_text.specs.Prelude.{Item, SpellsNode, at_place, item_text}
+use Rattle.crs_text.specs.inner.Prelude.{Item, SpellsNode, at_place, item_text}
 use Rattle.crs_shape.specs.declared.class.Class.{Class}
-use Rattle.crs_value.specs.Prelude.{IsSound, IsReadAs, IsReadOnce}
+use Rattle.crs_value.specs.inner.Prelude.{IsSound, IsReadAs, IsReadOnce}
 use Rattle.crs_value.specs.declared.values.level.Level.{Level}
-use Rattle.crs_normal.specs.Prelude.{IsWrittenForm, IsClosed}
+use Rattle.crs_normal.specs.inner.Prelude.{IsWrittenForm, IsClosed}
 use Rattle.crs_normal.specs.inner.Decides.{FormDecides}
 use Rattle.crs_normal.proofs.WithoutPlaces.{without_places}
 use Rattle.crs_normal.specs.Normal.{IsNormalIn}

@@ -3,11 +3,11 @@ use Rattle.std.proofs.Common.{◌≡◌, refl, codes, Some}
 use Rattle.crs_shape.specs.declared.class.Class.TheVariants as class
 use Rattle.crs_shape.specs.declared.unit_kind.UnitKind.{UnitKind}
 use Rattle.crs_shape.specs.declared.unit_kind.UnitKind.TheVariants as kinds
-use Rattle.crs_shape.specs.Prelude.{is_keyword, class_named}
-use Rattle.crs_value.specs.Prelude.{IsUnitClass, ReadsUnit}
+use Rattle.crs_shape.specs.inner.Prelude.{is_keyword, class_named}
+use Rattle.crs_value.specs.inner.Prelude.{IsUnitClass, ReadsUnit}
 use Rattle.crs_value.specs.declared.values.level.Level.{Level}
-use Rattle.crs_same.specs.Prelude.{kind_as}
-use Rattle.crs_normal.specs.Prelude.{unit_class, item_unit, norm_unit}
+use Rattle.crs_same.specs.inner.Prelude.{kind_as}
+use Rattle.crs_normal.specs.inner.Prelude.{unit_class, item_unit, norm_unit}
 use Rattle.crs_normal.proofs.normal.FormLemmas.{Form}
 use Rattle.crs_normal.proofs.normal.LeafLemmas.{PlainIsOne}
 use Rattle.crs_normal.proofs.normal.UnitLemmas.{in-angle, in-length, in-plain, in-scale, unit-form}

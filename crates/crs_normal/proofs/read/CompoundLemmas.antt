@@ -1,11 +1,11 @@
 -- Compound CRSs, and with them all CRSs, in their one form are read back from their items.
 use Rattle.std.proofs.Common.{◌≡◌, ◌⊎◌, ℕ, ◌+◌, List, [], ◌∷◌, inl, inr, refl, ◌∙◌, ap}
-use Rattle.crs_text.specs.Prelude.{Item, arguments, at_place}
+use Rattle.crs_text.specs.inner.Prelude.{Item, arguments, at_place}
 use Rattle.crs_shape.specs.declared.class.Class.{Class}
 use Rattle.crs_shape.specs.declared.class.Class.TheVariants as class
 use Rattle.crs_shape.specs.declared.system_type.SystemType.TheVariants as types
-use Rattle.crs_shape.specs.Prelude.{class_named}
-use Rattle.crs_value.specs.Prelude.{CompoundParts, GeodeticParts, those, ReadsElse, ReadsFirst, ReadsAsHorizontal, ReadsCompound, ReadsCrs, IsCompound, IsHorizontal, IsCrs}
+use Rattle.crs_shape.specs.inner.Prelude.{class_named}
+use Rattle.crs_value.specs.inner.Prelude.{CompoundParts, GeodeticParts, those, ReadsElse, ReadsFirst, ReadsAsHorizontal, ReadsCompound, ReadsCrs, IsCompound, IsHorizontal, IsCrs}
 use Rattle.crs_value.specs.declared.values.compound.Horizontal.{Horizontal}
 use Rattle.crs_value.specs.declared.values.compound.Horizontal.TheVariants as horizontal
 use Rattle.crs_value.specs.declared.values.crs.Crs.{Crs}

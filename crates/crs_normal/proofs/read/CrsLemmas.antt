@@ -1,14 +1,14 @@
 -- CRSs of one kind in their one form are read back from their items.
 use Rattle.std.proofs.Common.{◌≤◌, ℕ, ◌+◌, codes, List, [], ◌∷◌, length, refl}
-use Rattle.crs_text.specs.Prelude.{at_place}
+use Rattle.crs_text.specs.inner.Prelude.{at_place}
 use Rattle.crs_shape.specs.declared.class.Class.{Class}
 use Rattle.crs_shape.specs.declared.class.Class.TheVariants as class
 use Rattle.crs_shape.specs.declared.unit_kind.UnitKind.TheVariants as kinds
-use Rattle.crs_shape.specs.Prelude.{IsOneOf, dimensions_of}
-use Rattle.crs_value.specs.Prelude.{BaseParts, GeodeticParts, ProjectedParts, VerticalParts, ReadsBase, ReadsGeodetic, ReadsProjected, ReadsVertical, IsBase, IsGeodetic, IsProjected, IsVertical, IsSystem, SystemParts}
+use Rattle.crs_shape.specs.inner.Prelude.{IsOneOf, dimensions_of}
+use Rattle.crs_value.specs.inner.Prelude.{BaseParts, GeodeticParts, ProjectedParts, VerticalParts, ReadsBase, ReadsGeodetic, ReadsProjected, ReadsVertical, IsBase, IsGeodetic, IsProjected, IsVertical, IsSystem, SystemParts}
 use Rattle.crs_value.specs.declared.values.level.Level.{Level}
 use Rattle.crs_normal.specs.inner.LowerLaws.{LowerLaws}
-use Rattle.crs_normal.specs.Prelude.{item_conversion, item_geoid_model, norm_conversion, set_geoid_models, item_unit, norm_units}
+use Rattle.crs_normal.specs.inner.Prelude.{item_conversion, item_geoid_model, norm_conversion, set_geoid_models, item_unit, norm_units}
 use Rattle.crs_normal.specs.inner.SpelledCrs.{geodetic_keyword, item_base, item_geodetic, item_projected, item_vertical, norm_base, norm_geodetic, norm_projected, norm_vertical}
 use Rattle.crs_normal.specs.inner.SpelledFrames.{item_meridian, norm_frame, norm_meridian}
 use Rattle.crs_normal.proofs.made.BehindLemmas.{projected-names, vertical-names}

@@ -1,14 +1,14 @@
 -- Frames are read back from the arguments of a CRS: a reference frame, or where there is none an ensemble.
 use Rattle.std.proofs.Common.{◌≡◌, ◌⊎◌, ℕ, false, true≢false, codes, IsNone, Option, Some, None, List, [], inl, inr}
 use Rattle.std.specs.Option.{option_map}
-use Rattle.crs_text.specs.Prelude.{Item, arguments}
+use Rattle.crs_text.specs.inner.Prelude.{Item, arguments}
 use Rattle.crs_shape.specs.declared.class.Class.{Class}
 use Rattle.crs_shape.specs.declared.class.Class.TheVariants as class
-use Rattle.crs_shape.specs.Prelude.{class_named, is_class}
+use Rattle.crs_shape.specs.inner.Prelude.{class_named, is_class}
 use Rattle.crs_value.specs.declared.values.frame.Frame.{Frame}
 use Rattle.crs_value.specs.declared.values.frame.Frame.TheVariants as frame
 use Rattle.crs_value.specs.declared.values.level.Level.{Level}
-use Rattle.crs_value.specs.Prelude.{those, ReadsElse, ReadsFirst, ReadsDatum, ReadsEnsemble, ReadsAsDatum, ReadsAsEnsemble, ReadsFrame, IsGeodeticFrame, IsVerticalFrame, EllipsoidParts}
+use Rattle.crs_value.specs.inner.Prelude.{those, ReadsElse, ReadsFirst, ReadsDatum, ReadsEnsemble, ReadsAsDatum, ReadsAsEnsemble, ReadsFrame, IsGeodeticFrame, IsVerticalFrame, EllipsoidParts}
 use Rattle.crs_normal.specs.inner.SpelledFrames.{item_datum, item_ellipsoid, item_ensemble, item_frame, norm_ellipsoid, norm_frame}
 use Rattle.crs_normal.specs.inner.LowerLaws.{LowerLaws}
 use Rattle.crs_normal.proofs.read.FrameLemmas.{datum-read, ensemble-read}

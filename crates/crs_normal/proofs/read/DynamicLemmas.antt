@@ -1,11 +1,11 @@
 -- Deformation models and dynamic parts in their one form are read back from their items.
 use Rattle.std.proofs.Common.{◌≡◌, ◌+◌, codes, Option, Some, List, [], ◌∷◌, refl, ◌++◌}
 use Rattle.std.specs.Option.{option_map}
-use Rattle.crs_text.specs.Prelude.{Item, at_place}
+use Rattle.crs_text.specs.inner.Prelude.{Item, at_place}
 use Rattle.crs_shape.specs.declared.class.Class.{Class}
 use Rattle.crs_shape.specs.declared.class.Class.TheVariants as class
-use Rattle.crs_shape.specs.Prelude.{class_named}
-use Rattle.crs_value.specs.Prelude.{DeformationModelParts, DynamicParts, ReadsIfAny, ReadsDeformationModel, ReadsDynamic, IsDeformationModel, IsDynamic, IsDynamicOf}
+use Rattle.crs_shape.specs.inner.Prelude.{class_named}
+use Rattle.crs_value.specs.inner.Prelude.{DeformationModelParts, DynamicParts, ReadsIfAny, ReadsDeformationModel, ReadsDynamic, IsDeformationModel, IsDynamic, IsDynamicOf}
 use Rattle.crs_value.specs.declared.values.frame.Frame.{Frame}
 use Rattle.crs_value.specs.declared.values.level.Level.{Level}
 use Rattle.crs_normal.specs.inner.SpelledDynamic.{item_deformation_model, item_dynamic, norm_deformation_model, norm_dynamic}

@@ -1,13 +1,13 @@
 -- Frames, systems and ends of CRSs are read back from the arguments of a CRS, and conversions from their items.
 use Rattle.std.proofs.Common.{◌≡◌, ◌+◌, codes, List, [], ◌∷◌, length, refl, map, ◌++◌, ◌≤◌, arith}
-use Rattle.crs_text.specs.Prelude.{Item, at_place, item_text}
+use Rattle.crs_text.specs.inner.Prelude.{Item, at_place, item_text}
 use Rattle.crs_shape.specs.declared.class.Class.{Class}
 use Rattle.crs_shape.specs.declared.class.Class.TheVariants as class
-use Rattle.crs_value.specs.Prelude.{ConversionParts, GeoidModelParts, MethodParts, ParameterParts, kept, kept_one, kept-each, ReadsSystem, ReadsTail, ReadsConversion, ReadsGeoidModel, ReadsMethod, ReadsParameter, IsConversion, IsGeoidModel, IsMethod, IsParameter, IsSystem, IsTail, IsUsage, SystemParts, TailParts, UsageParts}
+use Rattle.crs_value.specs.inner.Prelude.{ConversionParts, GeoidModelParts, MethodParts, ParameterParts, kept, kept_one, kept-each, ReadsSystem, ReadsTail, ReadsConversion, ReadsGeoidModel, ReadsMethod, ReadsParameter, IsConversion, IsGeoidModel, IsMethod, IsParameter, IsSystem, IsTail, IsUsage, SystemParts, TailParts, UsageParts}
 use Rattle.crs_value.specs.declared.values.level.Level.{Level}
 use Rattle.crs_value.specs.Sound.{Each}
-use Rattle.crs_same.specs.Prelude.{usages_of}
-use Rattle.crs_normal.specs.Prelude.{item_conversion, item_geoid_model, item_method, item_parameter, norm_conversion, norm_geoid_model, norm_method, norm_parameter, set_geoid_models, set_parameters, text_node, axes_from, item_axis, item_head, norm_system, item_ident, item_unit, set_idents, item_usage, norm_tail, set_usages}
+use Rattle.crs_same.specs.inner.Prelude.{usages_of}
+use Rattle.crs_normal.specs.inner.Prelude.{item_conversion, item_geoid_model, item_method, item_parameter, norm_conversion, norm_geoid_model, norm_method, norm_parameter, set_geoid_models, set_parameters, text_node, axes_from, item_axis, item_head, norm_system, item_ident, item_unit, set_idents, item_usage, norm_tail, set_usages}
 use Rattle.crs_normal.specs.inner.LowerLaws.{LowerLaws}
 use Rattle.crs_normal.proofs.made.BehindLemmas.{NamesSystem}
 use Rattle.crs_normal.proofs.made.TailLemmas.{NamesTail, usages-sound}

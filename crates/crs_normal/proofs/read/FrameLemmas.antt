@@ -1,17 +1,17 @@
 -- Ellipsoids, prime meridians, reference frames and ensembles in their one form are read back from their items.
 use Rattle.std.proofs.Common.{◌≡◌, ℕ, ◌+◌, codes, IfSome, Option, Some, None, List, [], ◌∷◌, length, refl, if◌then◌else◌, Bool, true, false, map, ◌++◌}
 use Rattle.std.specs.Option.{option_map}
-use Rattle.crs_text.specs.Prelude.{Item, at_place, item_text}
+use Rattle.crs_text.specs.inner.Prelude.{Item, at_place, item_text}
 use Rattle.crs_shape.specs.declared.class.Class.{Class}
 use Rattle.crs_shape.specs.declared.class.Class.TheVariants as class
 use Rattle.crs_shape.specs.declared.unit_kind.UnitKind.TheVariants as kinds
-use Rattle.crs_shape.specs.Prelude.{class_named}
+use Rattle.crs_shape.specs.inner.Prelude.{class_named}
 use Rattle.crs_value.specs.declared.values.level.Level.{Level}
-use Rattle.crs_value.specs.Prelude.{ReadsDatum, ReadsEllipsoid, ReadsEnsemble, ReadsIds, ReadsMember, ReadsMeridian, ReadsUnit, IsIdent, IsUnit, IsUnitOf, IsDatum, IsEllipsoid, IsEnsemble, IsMember, IsMeridian, DatumParts, EllipsoidParts, EnsembleParts, MemberParts, MeridianParts, UnitParts}
+use Rattle.crs_value.specs.inner.Prelude.{ReadsDatum, ReadsEllipsoid, ReadsEnsemble, ReadsIds, ReadsMember, ReadsMeridian, ReadsUnit, IsIdent, IsUnit, IsUnitOf, IsDatum, IsEllipsoid, IsEnsemble, IsMember, IsMeridian, DatumParts, EllipsoidParts, EnsembleParts, MemberParts, MeridianParts, UnitParts}
 use Rattle.crs_value.specs.Sound.{Each}
 use Rattle.crs_value.specs.Values.{IdentParts}
 use Rattle.crs_normal.specs.inner.SpelledFrames.{greenwich, is_zero, item_datum, item_ellipsoid, item_ensemble, item_member, item_meridian, norm_datum, norm_ellipsoid, norm_ensemble, norm_given, norm_member, norm_meridian, set_members}
-use Rattle.crs_normal.specs.Prelude.{number_node, text_node, item_ident, item_unit, norm_length, norm_unit, norm_units, set_idents, whole_value}
+use Rattle.crs_normal.specs.inner.Prelude.{number_node, text_node, item_ident, item_unit, norm_length, norm_unit, norm_units, set_idents, whole_value}
 use Rattle.crs_normal.specs.inner.LowerLaws.{LowerLaws}
 use Rattle.crs_normal.proofs.members.ExtentLemmas.{length-kept}
 use Rattle.crs_normal.proofs.members.MemberLemmas.{named-kept, named-read}

@@ -1,7 +1,7 @@
 -- The class that a keyword names among the arguments of another, by computing.
 use Rattle.std.proofs.Common.{◌≡◌, ◌∙◌, ℕ, List, [], ◌∷◌, Option, Some, None, if◌then◌else◌, refl, ap}
 use Rattle.crs_shape.specs.declared.class.Class.{Class}
-use Rattle.crs_shape.specs.Prelude.{first_named, is_keyword, is_one_of, keywords_of, SlotParts, class_named, named_in, slots_of}
+use Rattle.crs_shape.specs.inner.Prelude.{first_named, is_keyword, is_one_of, keywords_of, SlotParts, class_named, named_in, slots_of}
 
 -- the first of these classes that has the word among its keywords
 abbrev first_found : List Class → List ℕ → Option Class

@@ -1,18 +1,18 @@
 -- Axes in their one form are read back from their items, and so are the nodes of coordinate systems.
 use Rattle.std.proofs.Common.{◌≡◌, ◌≢◌, ℕ, suc, zero, ◌+◌, codes, IfSome, Option, Some, None, List, [], ◌∷◌, refl, ◌≤◌, arith, inl, inr}
-use Rattle.crs_decimal.specs.Prelude.{IsNormal}
-use Rattle.crs_text.specs.Prelude.{at_place}
+use Rattle.crs_decimal.specs.inner.Prelude.{IsNormal}
+use Rattle.crs_text.specs.inner.Prelude.{at_place}
 use Rattle.crs_shape.specs.declared.class.Class.TheVariants as class
-use Rattle.crs_shape.specs.Prelude.{asked_kind, direction_word, system_word}
+use Rattle.crs_shape.specs.inner.Prelude.{asked_kind, direction_word, system_word}
 use Rattle.crs_shape.specs.declared.direction.Direction.{Direction}
 use Rattle.crs_shape.specs.declared.system_type.SystemType.{SystemType}
 use Rattle.crs_shape.specs.declared.unit_kind.UnitKind.{UnitKind}
 use Rattle.crs_shape.specs.declared.unit_kind.UnitKind.TheVariants as kinds
 use Rattle.crs_value.specs.declared.values.level.Level.{Level}
-use Rattle.crs_value.specs.Prelude.{ReadsAxis, ReadsAxisMeridian, ReadsHead, IsAxis, IsAxisMeridian, IsAxisUnit, IsIdent, IsSystem, AxisMeridianParts, AxisParts, SystemParts, UnitParts}
+use Rattle.crs_value.specs.inner.Prelude.{ReadsAxis, ReadsAxisMeridian, ReadsHead, IsAxis, IsAxisMeridian, IsAxisUnit, IsIdent, IsSystem, AxisMeridianParts, AxisParts, SystemParts, UnitParts}
 use Rattle.crs_value.specs.Sound.{Each}
-use Rattle.crs_same.specs.Prelude.{own_or, kind_as}
-use Rattle.crs_normal.specs.Prelude.{norm_axis_alone, number_node, item_unit, norm_unit, norm_units, whole_value}
+use Rattle.crs_same.specs.inner.Prelude.{own_or, kind_as}
+use Rattle.crs_normal.specs.inner.Prelude.{norm_axis_alone, number_node, item_unit, norm_unit, norm_units, whole_value}
 use Rattle.crs_normal.specs.inner.SpelledSystems.{axes_from, axis_at, item_axis, item_axis_meridian, item_head, norm_axis, norm_axis_meridian, norm_axis_meridians, norm_system, with_axis}
 use Rattle.crs_normal.specs.inner.LowerLaws.{LowerLaws}
 use Rattle.crs_normal.proofs.members.MemberUnitLemmas.{identifiers-back, identifiers-of, number-read, unit-in, unit-kept, unit-read}

@@ -2,11 +2,11 @@
 use Rattle.std.proofs.Common.{◌≡◌, ℕ, zero, suc, ◌≤◌, ◌||◌, length, Bool, true, false, true≢false, IsTrue, IsFalse, Some, List, [], ◌∷◌, ◌++◌, if◌then◌else◌, refl, sym, ◌∙◌, ap, subst, arith, rules}
 use Rattle.std.proofs.lemmas.List.{append-nil}
 use denote.Enum.Bare.{sameb, same_true}
-use Rattle.crs_text.specs.Prelude.{Item, Siblings, End, More}
+use Rattle.crs_text.specs.inner.Prelude.{Item, Siblings, End, More}
 use Rattle.crs_shape.specs.contracts.class.Class.{the_type}
 use Rattle.crs_shape.specs.declared.class.Class.{Class}
-use Rattle.crs_shape.specs.Prelude.{AllTaken, Fills, AllFilled, joined, Allowed, Shaped, AreShaped, class_in, SlotParts, optional_of, slots_of, takes, is_class}
-use Rattle.crs_value.specs.Prelude.{is_a, those}
+use Rattle.crs_shape.specs.inner.Prelude.{AllTaken, Fills, AllFilled, joined, Allowed, Shaped, AreShaped, class_in, SlotParts, optional_of, slots_of, takes, is_class}
+use Rattle.crs_value.specs.inner.Prelude.{is_a, those}
 use Rattle.crs_normal.proofs.WithoutPlaces.{without_places, all_without_places}
 use Rattle.crs_value.specs.Sound.{Each}
 

@@ -3,14 +3,14 @@
 use Rattle.std.proofs.Common.{◌≡◌, ◌↔◌, ◌∙◌, ℕ, ◌+◌, ◌<◌, ◌^◌, inl, inr, true, false, List, [], ◌∷◌, Option, Some, None, refl, sym, subst, arith}
 use Rattle.std.proofs.lemmas.Bool.{false≢true}
 use Rattle.std.proofs.lemmas.Bool.Decides.{Decides-eqb}
-use Rattle.crs_decimal.specs.Prelude.{Value, IsNormal}
+use Rattle.crs_decimal.specs.inner.Prelude.{Value, IsNormal}
 use Rattle.crs_shape.specs.declared.unit_kind.UnitKind.TheVariants as kinds
-use Rattle.crs_shape.specs.Prelude.{asked_kind}
-use Rattle.crs_value.specs.Prelude.{IsAxis, IsAxisMeridian, IsAxisUnit, AxisParts, SystemParts}
+use Rattle.crs_shape.specs.inner.Prelude.{asked_kind}
+use Rattle.crs_value.specs.inner.Prelude.{IsAxis, IsAxisMeridian, IsAxisUnit, AxisParts, SystemParts}
 use Rattle.crs_value.specs.Sound.{Each}
 use Rattle.crs_value.specs.declared.values.level.Level.{Level}
-use Rattle.crs_same.specs.Prelude.{AgreeAxis}
-use Rattle.crs_same.specs.Prelude.{HasAt, IsPositionOf, SameAxisAlone, SameAxisMeridian, BothOrNeither}
+use Rattle.crs_same.specs.inner.Prelude.{AgreeAxis}
+use Rattle.crs_same.specs.inner.Prelude.{HasAt, IsPositionOf, SameAxisAlone, SameAxisMeridian, BothOrNeither}
 use Rattle.crs_normal.specs.inner.Decides.{FormDecides, SetsDecide}
 use Rattle.crs_normal.specs.inner.LowerLaws.{LowerLaws}
 use Rattle.crs_normal.specs.inner.PartTexts.{norm_axis_alone}

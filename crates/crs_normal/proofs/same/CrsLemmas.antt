@@ -3,10 +3,10 @@ use Rattle.std.proofs.Common.{ℕ, List, length, arith}
 use Rattle.crs_shape.specs.declared.class.Class.TheVariants as class
 use Rattle.crs_shape.specs.declared.unit_kind.UnitKind.TheVariants as kinds
 use Rattle.crs_shape.specs.declared.system_type.SystemType.{SystemType}
-use Rattle.crs_shape.specs.Prelude.{IsOneOf, dimensions_of}
-use Rattle.crs_value.specs.Prelude.{IsCompound, IsHorizontal, IsCrs, IsBase, IsGeodetic, IsProjected, IsVertical, IsSystem, SystemParts}
+use Rattle.crs_shape.specs.inner.Prelude.{IsOneOf, dimensions_of}
+use Rattle.crs_value.specs.inner.Prelude.{IsCompound, IsHorizontal, IsCrs, IsBase, IsGeodetic, IsProjected, IsVertical, IsSystem, SystemParts}
 use Rattle.crs_value.specs.declared.values.level.Level.{Level}
-use Rattle.crs_same.specs.Prelude.{AgreeBase, AgreeCompound, AgreeCrs, AgreeGeodetic, AgreeHorizontal, AgreeProjected, AgreeVertical}
+use Rattle.crs_same.specs.inner.Prelude.{AgreeBase, AgreeCompound, AgreeCrs, AgreeGeodetic, AgreeHorizontal, AgreeProjected, AgreeVertical}
 use Rattle.crs_normal.specs.inner.Decides.{FormDecides, SetsDecide}
 use Rattle.crs_normal.specs.inner.LowerLaws.{LowerLaws}
 use Rattle.crs_normal.specs.inner.SpelledCrs.{norm_base, norm_compound, norm_crs, norm_geodetic, norm_horizontal, norm_projected, norm_vertical}

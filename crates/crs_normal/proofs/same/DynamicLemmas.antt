@@ -1,9 +1,9 @@
 -- Deformation models and dynamic parts have one form exactly where they are the same.
 use Rattle.std.proofs.Common.{IfSome, Option, arith}
-use Rattle.crs_value.specs.Prelude.{DynamicParts, IsDynamic, IsDynamicOf}
+use Rattle.crs_value.specs.inner.Prelude.{DynamicParts, IsDynamic, IsDynamicOf}
 use Rattle.crs_value.specs.declared.values.frame.Frame.{Frame}
 use Rattle.crs_value.specs.declared.values.level.Level.{Level}
-use Rattle.crs_same.specs.Prelude.{AgreeDynamic}
+use Rattle.crs_same.specs.inner.Prelude.{AgreeDynamic}
 use Rattle.crs_normal.specs.inner.Decides.{FormDecides, SetsDecide}
 use Rattle.crs_normal.specs.inner.SpelledDynamic.{norm_dynamic}
 use Rattle.crs_normal.proofs.same.PartLemmas.{NumbersDecide, values-agree}

@@ -1,7 +1,7 @@
 -- Numbers, and parts that may be missing, have one form exactly where they are the same.
 use Rattle.std.proofs.Common.{◌≡◌, ◌↔◌, Option, Some, None, IfSome, arith}
-use Rattle.crs_decimal.specs.Prelude.{SameNumber, Value, IsNormal, exact}
-use Rattle.crs_same.specs.Prelude.{SameValue, BothOrNeither}
+use Rattle.crs_decimal.specs.inner.Prelude.{SameNumber, Value, IsNormal, exact}
+use Rattle.crs_same.specs.inner.Prelude.{SameValue, BothOrNeither}
 use Rattle.crs_normal.specs.inner.Decides.{FormDecides}
 
 -- a part that may be missing, with what is asked of it where it is there

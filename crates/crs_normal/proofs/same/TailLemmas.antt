@@ -1,8 +1,8 @@
 -- The ends of CRSs have one form exactly where they are the same.
 use Rattle.std.proofs.Common.{arith}
-use Rattle.crs_value.specs.Prelude.{IsTail}
+use Rattle.crs_value.specs.inner.Prelude.{IsTail}
 use Rattle.crs_value.specs.declared.values.level.Level.{Level}
-use Rattle.crs_same.specs.Prelude.{AgreeTail}
+use Rattle.crs_same.specs.inner.Prelude.{AgreeTail}
 use Rattle.crs_normal.specs.inner.Decides.{FormDecides, SetsDecide}
 use Rattle.crs_normal.specs.inner.SpelledUsages.{norm_tail}
 use Rattle.crs_normal.proofs.made.TailLemmas.{usages-sound}

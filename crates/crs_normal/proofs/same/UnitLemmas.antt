@@ -2,10 +2,10 @@
 use Rattle.std.proofs.Common.{◌≡◌, [], Option, Some, None, codes, refl, sym, arith}
 use Rattle.crs_shape.specs.declared.unit_kind.UnitKind.{UnitKind}
 use Rattle.crs_shape.specs.declared.unit_kind.UnitKind.TheVariants as kinds
-use Rattle.crs_value.specs.Prelude.{IsIdent, IsNamed, IsUnit, IsUnitOf, Suits, UnitParts, kept-none}
+use Rattle.crs_value.specs.inner.Prelude.{IsIdent, IsNamed, IsUnit, IsUnitOf, Suits, UnitParts, kept-none}
 use Rattle.crs_value.specs.Sound.{Each}
 use Rattle.crs_value.specs.declared.values.level.Level.{Level}
-use Rattle.crs_same.specs.Prelude.{SameIdents, SameNamed, SameLength, SameUnit, or_metre, kind_as}
+use Rattle.crs_same.specs.inner.Prelude.{SameIdents, SameNamed, SameLength, SameUnit, or_metre, kind_as}
 use Rattle.crs_normal.specs.inner.Decides.{FormDecides}
 use Rattle.crs_normal.specs.inner.SpelledFrames.{norm_member}
 use Rattle.crs_normal.specs.inner.SpelledItems.{metre, norm_length, norm_unit, set_idents, whole_value}

@@ -1,9 +1,9 @@
 -- Boxes, extents and usages have one form exactly where they are the same.
 use Rattle.std.proofs.Common.{arith}
-use Rattle.crs_value.specs.Prelude.{IsBox, IsExtent, IsUsage}
+use Rattle.crs_value.specs.inner.Prelude.{IsBox, IsExtent, IsUsage}
 use Rattle.crs_value.specs.declared.values.level.Level.{Level}
 use Rattle.crs_value.specs.declared.values.level.Level.TheVariants as levels
-use Rattle.crs_same.specs.Prelude.{SameBox, SameExtent, SameUsage}
+use Rattle.crs_same.specs.inner.Prelude.{SameBox, SameExtent, SameUsage}
 use Rattle.crs_normal.specs.inner.Decides.{FormDecides}
 use Rattle.crs_normal.specs.inner.SpelledUsages.{norm_extent, norm_usage}
 use Rattle.crs_normal.proofs.same.PartLemmas.{NumbersDecide, values-agree}

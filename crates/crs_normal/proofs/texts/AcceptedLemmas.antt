@@ -1,11 +1,11 @@
 -- The written form of a CRS is an accepted text, which spells the CRS's one form.
 use Rattle.std.proofs.Common.{◌≡◌, ◌↔◌, ◌∙◌, ℕ, Some, None, sym, subst, arith, inl, inr}
-use Rattle.crs_text.specs.Prelude.{Item, RefusedAt, SpellsNode, WrittenSpells, at_place, item_text}
+use Rattle.crs_text.specs.inner.Prelude.{Item, RefusedAt, SpellsNode, WrittenSpells, at_place, item_text}
 use Rattle.crs_shape.specs.declared.class.Class.{Class}
-use Rattle.crs_shape.specs.Prelude.{AtRoot, Inside, IsFree, class_of_root, Shaped}
+use Rattle.crs_shape.specs.inner.Prelude.{AtRoot, Inside, IsFree, class_of_root, Shaped}
 use Rattle.crs_value.specs.declared.values.crs.Crs.{Crs}
 use Rattle.crs_value.specs.declared.values.level.Level.{Level}
-use Rattle.crs_value.specs.Prelude.{ReadsCrs, SpellsCrs, Spells}
+use Rattle.crs_value.specs.inner.Prelude.{ReadsCrs, SpellsCrs, Spells}
 use Rattle.crs_normal.specs.inner.SpelledCrs.{item_crs, norm_crs}
 use Rattle.crs_normal.proofs.made.PlaceLemmas.{text-at, placed-twice}
 use Rattle.crs_normal.proofs.texts.RootLemmas.{crs_class, crs-rooted}

@@ -3,8 +3,8 @@ use Rattle.std.proofs.Common.{◌≡◌, ◌≢◌, ◌≤◌, ◌+◌, ℕ, zer
 use Rattle.std.specs.List.{list_all}
 use Rattle.std.proofs.lemmas.Bool.{and_parts, eqb-true, true≢false}
 use Rattle.std.proofs.lemmas.Bool.Decides.{nat_tests}
-use Rattle.crs_decimal.specs.Prelude.{is_run_byte}
-use Rattle.crs_text.specs.Prelude.{Item, leaf, node, Siblings, End, More, IsNode, doubled, Kind, number, text, word, IsSingle, IsWord, is_word_byte, single_spelling, AreFormed, AreAllFormed, item_text, others_text}
+use Rattle.crs_decimal.specs.inner.Prelude.{is_run_byte}
+use Rattle.crs_text.specs.inner.Prelude.{Item, leaf, node, Siblings, End, More, IsNode, doubled, Kind, number, text, word, IsSingle, IsWord, is_word_byte, single_spelling, AreFormed, AreAllFormed, item_text, others_text}
 use Rattle.crs_normal.specs.Closed.{IsClosed, closing_count, opening_count, unquoted}
 
 -- ---- a scanner, which finds the `]` that closes

@@ -1,10 +1,10 @@
 -- Written items: numbers, nodes that may have no arguments, and nodes that can be written.
 use Rattle.std.proofs.Common.{◌≡◌, ◌≤◌, ℕ, ◌+◌, Some, List, [], ◌∷◌, length, refl, sym, subst, ◌≢◌}
-use Rattle.crs_decimal.specs.Prelude.{IsInBounds, IsRun}
-use Rattle.crs_text.specs.Prelude.{Item, Siblings, End, More, arguments, depth, IsNode, SpellsNode, number, IsSingle, AreFormed, at_place, at_places, item_text}
+use Rattle.crs_decimal.specs.inner.Prelude.{IsInBounds, IsRun}
+use Rattle.crs_text.specs.inner.Prelude.{Item, Siblings, End, More, arguments, depth, IsNode, SpellsNode, number, IsSingle, AreFormed, at_place, at_places, item_text}
 use Rattle.crs_normal.specs.inner.SpelledItems.{node_from}
 use Rattle.crs_normal.specs.inner.LowerLaws.{LowerLaws}
-use Rattle.crs_shape.specs.Prelude.{class_in, class_named}
+use Rattle.crs_shape.specs.inner.Prelude.{class_in, class_named}
 use Rattle.crs_shape.specs.declared.class.Class.{Class}
 
 -- ---- numbers

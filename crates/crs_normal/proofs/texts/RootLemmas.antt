@@ -1,12 +1,12 @@
 -- By which keyword a CRS is written, and which class that names at the root of a text.
 use Rattle.std.proofs.Common.{◌≡◌, ℕ, Some, refl}
-use Rattle.crs_text.specs.Prelude.{at_place}
+use Rattle.crs_text.specs.inner.Prelude.{at_place}
 use Rattle.crs_shape.specs.declared.class.Class.{Class}
 use Rattle.crs_shape.specs.declared.class.Class.TheVariants as class
 use Rattle.crs_shape.specs.declared.system_type.SystemType.{SystemType}
 use Rattle.crs_shape.specs.declared.system_type.SystemType.TheVariants as types
-use Rattle.crs_shape.specs.Prelude.{is_keyword, root_named, class_of_root}
-use Rattle.crs_value.specs.Prelude.{IsGeodeticClass}
+use Rattle.crs_shape.specs.inner.Prelude.{is_keyword, root_named, class_of_root}
+use Rattle.crs_value.specs.inner.Prelude.{IsGeodeticClass}
 use Rattle.crs_value.specs.declared.values.crs.Crs.{Crs}
 use Rattle.crs_value.specs.declared.values.crs.Crs.TheVariants as crs
 use Rattle.crs_value.specs.declared.values.level.Level.{Level}

@@ -2,15 +2,15 @@
 use Rattle.std.proofs.Common.{◌≡◌, ◌⊎◌, ℕ, Bool, true, false, if◌then◌else◌, IfSome, Option, Some, None, List, [], ◌∷◌, ◌++◌, map, inl, inr, refl, sym, ◌∙◌, ap, subst, rules}
 use Rattle.std.specs.Option.{option_map}
 use denote.Enum.Bare.{same_true}
-use Rattle.crs_decimal.specs.Prelude.{Value}
-use Rattle.crs_text.specs.Prelude.{Item, Siblings, End, More, arguments, at_place, at_places}
+use Rattle.crs_decimal.specs.inner.Prelude.{Value}
+use Rattle.crs_text.specs.inner.Prelude.{Item, Siblings, End, More, arguments, at_place, at_places}
 use Rattle.crs_shape.specs.contracts.class.Class.{the_type}
 use Rattle.crs_shape.specs.declared.class.Class.{Class}
 use Rattle.crs_shape.specs.declared.class.Class.TheVariants as class
-use Rattle.crs_shape.specs.Prelude.{class_in, is_class}
-use Rattle.crs_value.specs.Prelude.{those, ReadsEach, ReadsFirst, ReadsIfAny, ReadsOptional, ReadsTextOf}
+use Rattle.crs_shape.specs.inner.Prelude.{class_in, is_class}
+use Rattle.crs_value.specs.inner.Prelude.{those, ReadsEach, ReadsFirst, ReadsIfAny, ReadsOptional, ReadsTextOf}
 use Rattle.crs_value.specs.Reading.{Each}
-use Rattle.crs_normal.specs.Prelude.{in_order, each, number_item, opt, text_item, text_node, word_item}
+use Rattle.crs_normal.specs.inner.Prelude.{in_order, each, number_item, opt, text_item, text_node, word_item}
 use Rattle.crs_normal.proofs.made.PlaceLemmas.{ArePlaced, those-placed}
 use Rattle.crs_normal.proofs.members.SetLemmas.{each-in_order}
 use Rattle.crs_normal.proofs.read.ViewLemmas.{each-so, onto as line}

@@ -2,7 +2,7 @@
 -- letters has one value.
 use Rattle.std.proofs.Common.{◌≡◌, ℕ, List, [], ◌∷◌, Option, Some, find, refl, sym, ap, ◌∙◌}
 use Rattle.std.specs.Str.{bytes_eq, str_to_ascii_lowercase}
-use Rattle.crs_shape.specs.Prelude.{SpellsWord, direction_word, every_direction, every_type, system_word, unit_word}
+use Rattle.crs_shape.specs.inner.Prelude.{SpellsWord, direction_word, every_direction, every_type, system_word, unit_word}
 use Rattle.crs_shape.specs.declared.direction.Direction.{Direction}
 use Rattle.crs_shape.specs.declared.direction.Direction.TheVariants.{North}
 use Rattle.crs_shape.specs.declared.system_type.SystemType.{SystemType}

@@ -1,6 +1,6 @@
 -- From the text of each value: its spelling, and what spellings have in common.
 use Rattle.std.proofs.Common.{◌≡◌, ◌∙◌, ℕ, List, refl, subst, sym}
-use Rattle.crs_normal.specs.Prelude.{IsClosed, IsWrittenForm}
+use Rattle.crs_normal.specs.inner.Prelude.{IsClosed, IsWrittenForm}
 use Rattle.crs_normal.specs.inner.Decides.{FormDecides}
 
 -- the text of a value is its one spelling, closed, and shows which values are the same

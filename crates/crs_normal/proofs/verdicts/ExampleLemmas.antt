@@ -1,13 +1,13 @@
 -- A text is normal, or isn't, as was computed of its item.
 use Rattle.std.proofs.Common.{◌≡◌, ℕ, List, Some, sym, ap, subst, ◌∙◌}
 use Rattle.crs_normal.specs.inner.LowerLaws.{LowerLaws}
-use Rattle.crs_text.specs.Prelude.{Item, IsNode, depth, SpellsNode, at_place, item_text}
+use Rattle.crs_text.specs.inner.Prelude.{Item, IsNode, depth, SpellsNode, at_place, item_text}
 use Rattle.crs_shape.specs.declared.class.Class.{Class}
-use Rattle.crs_shape.specs.Prelude.{class_of_root}
+use Rattle.crs_shape.specs.inner.Prelude.{class_of_root}
 use Rattle.crs_value.specs.declared.values.level.Level.{Level}
-use Rattle.crs_value.specs.Prelude.{ReadsCrs, SpellsCrs, Spells}
+use Rattle.crs_value.specs.inner.Prelude.{ReadsCrs, SpellsCrs, Spells}
 use Rattle.crs_value.specs.declared.values.crs.Crs.{Crs}
-use Rattle.crs_normal.specs.Examples.{IsOtherwiseAt}
+use Rattle.crs_normal.specs.inner.Examples.{IsOtherwiseAt}
 use Rattle.crs_normal.specs.Normal.{IsNormalIn, IsNormalText}
 use Rattle.crs_normal.proofs.made.PlaceLemmas.{text-at}
 use Rattle.crs_normal.proofs.verdicts.NormalVerdict.{formed, normal_in}

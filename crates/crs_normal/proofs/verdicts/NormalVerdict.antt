@@ -4,12 +4,12 @@ use Rattle.std.specs.Cmp.Lexicographic.{slice_cmp}
 use Rattle.std.specs.Ordering.{nat_cmp}
 use Rattle.std.specs.declared.cmp.Ordering.{Ordering}
 use Rattle.std.specs.declared.cmp.Ordering.TheVariants.{Less, Equal, Greater}
-use Rattle.crs_text.specs.Prelude.{Item, leaf, node, Siblings, End, More, arguments, skip, spelling_of, AreFormed, AreAllFormed, item_text}
+use Rattle.crs_text.specs.inner.Prelude.{Item, leaf, node, Siblings, End, More, arguments, skip, spelling_of, AreFormed, AreAllFormed, item_text}
 use Rattle.crs_text.specs.declared.keyword.Keyword.{Keyword}
 use Rattle.crs_shape.specs.declared.class.Class.{Class}
 use Rattle.crs_shape.specs.declared.class.Class.TheVariants as class
-use Rattle.crs_shape.specs.Prelude.{keywords_of, class_in}
-use Rattle.crs_value.specs.Prelude.{AtClass, is_a, those, single_of}
+use Rattle.crs_shape.specs.inner.Prelude.{keywords_of, class_in}
+use Rattle.crs_value.specs.inner.Prelude.{AtClass, is_a, those, single_of}
 use Rattle.crs_value.specs.Sound.{Each}
 use Rattle.crs_value.specs.declared.values.level.Level.{Level}
 use Rattle.crs_value.specs.declared.values.level.Level.TheVariants as levels

@@ -2,14 +2,14 @@
 use Rattle.std.proofs.Common.{◌≡◌, ℕ, zero, suc, ◌+◌, ◌-◌, ◌==◌, Bool, true, false, List, [], ◌∷◌, ◌++◌, length, take, fold, ℤ, pos, negsuc, Option, Some, None, codes, if◌then◌else◌, inl, inr, refl, sym, ap, subst, ◌∙◌, arith, encode_utf8_all}
 use Rattle.std.specs.List.{list_all}
 use Rattle.std.specs.Str.{all_scalars, str_to_ascii_lowercase}
-use Rattle.crs_decimal.specs.Prelude.{IsInBounds, digits_value, Denotes, IsFractionNeeded, IsPlain, plain, Parts, SpellsNumber, unsigned, Value, IsNormal, exact, is_normal}
+use Rattle.crs_decimal.specs.inner.Prelude.{IsInBounds, digits_value, Denotes, IsFractionNeeded, IsPlain, plain, Parts, SpellsNumber, unsigned, Value, IsNormal, exact, is_normal}
 use Rattle.crs_decimal.specs.Value.{zero as zero_value}
-use Rattle.crs_text.specs.Prelude.{Item, leaf, doubled, Kind, number, text, word, IsSingle, IsWord, is_letter, is_word_byte}
+use Rattle.crs_text.specs.inner.Prelude.{Item, leaf, doubled, Kind, number, text, word, IsSingle, IsWord, is_letter, is_word_byte}
 use Rattle.crs_text.specs.declared.items.ItemKind.TheVariants as kinds
 use Rattle.crs_shape.specs.declared.class.Class.{Class}
 use Rattle.crs_shape.specs.declared.class.Class.TheVariants as class
-use Rattle.crs_shape.specs.Prelude.{direction_word, every_direction, every_type, system_word}
-use Rattle.crs_value.specs.Prelude.{IsText}
+use Rattle.crs_shape.specs.inner.Prelude.{direction_word, every_direction, every_type, system_word}
+use Rattle.crs_value.specs.inner.Prelude.{IsText}
 use Rattle.crs_normal.specs.inner.LowerLaws.{LowerLaws}
 use Rattle.crs_normal.specs.Normal.{IsNumberIn, IsSingleIn, IsWordIn}
 use Rattle.crs_normal.specs.NormalOwn.{IsCode, IsShort}

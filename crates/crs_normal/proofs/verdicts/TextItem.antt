@@ -1,7 +1,7 @@
 -- The item that a text without white space spells, where it has square delimiters and no doubled quote.
 use Rattle.std.proofs.Common.{ℕ, Bool, true, false, ◌==◌, List, [], ◌∷◌, reverse, fold, if◌then◌else◌}
-use Rattle.crs_decimal.specs.Prelude.{is_run_start}
-use Rattle.crs_text.specs.Prelude.{Item, leaf, Siblings, End, More, number, text, word}
+use Rattle.crs_decimal.specs.inner.Prelude.{is_run_start}
+use Rattle.crs_text.specs.inner.Prelude.{Item, leaf, Siblings, End, More, number, text, word}
 use Rattle.crs_normal.specs.inner.SpelledItems.{node_from}
 
 -- a node that is open: its keyword, and what comes before it in the node around it, the last first

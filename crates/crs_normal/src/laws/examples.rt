@@ -1,5 +1,5 @@
 //! The definition of normal texts on worked examples.
-ghost use Rattle.crs_normal.specs.Examples.{AreNormal, AreNormalAtFullAlone, AreNormalByDefinition, DynamicsWrittenOtherwise, NameAloneIsNormal, GeographicsWrittenOtherwise, HeightsWrittenOtherwise};
+ghost use Rattle.crs_normal.specs.inner.Examples.{AreNormal, AreNormalAtFullAlone, AreNormalByDefinition, DynamicsWrittenOtherwise, NameAloneIsNormal, GeographicsWrittenOtherwise, HeightsWrittenOtherwise};
 
 use crate::laws::lower::lower_laws;
 

@@ -2,7 +2,8 @@
 ghost use Rattle.std.specs.Prelude.{◌≡◌, ◌↔◌, IfSome, IsTrue, Some};
 ghost use Rattle.crs_text.specs.Items.{HasId, here, kind_of_item, rest_of};
 ghost use Rattle.crs_value.specs.Checks.{IsAboveZero};
-ghost use Rattle.crs_value.specs.Reading.{IsReading, item_at};
+ghost use Rattle.crs_value.specs.Reading.{IsReading};
+ghost use Rattle.crs_value.specs.inner.Arguments.{item_at};
 ghost use Rattle.crs_rules.specs.Members.{Says, SaysFactor, kind_of, subject_of};
 ghost use Rattle.crs_rules.specs.inner.Named.{SaysNamed};
 

@@ -4,7 +4,7 @@ ghost use Rattle.std.specs.Prelude.{IsTrue, MatchResult, OnErr, OnOk, Some};
 ghost use Rattle.std.specs.Option.{option_copied};
 ghost use Rattle.crs_text.specs.Items.{HasId, IsNode, arguments};
 ghost use Rattle.crs_streams.specs.Lines.{AreLines};
-ghost use Rattle.crs_value.specs.Reading.{Holds, ahead, item_at};
+ghost use Rattle.crs_value.specs.inner.Arguments.{Holds, ahead, item_at};
 ghost use Rattle.crs_rules.specs.RulesFile.{FaultOfLine, Reads, ReadsFile, RefusesFile, SpellsRules, is_idle, start};
 ghost use Rattle.crs_rules.specs.Statements.{Adds, AddsSet, Drops, FaultOfNode, FaultOfSet, FaultOfStatement};
 ghost use Rattle.crs_rules.specs.Statements.{FaultOfWord, FaultOver, IsRefusedBy, Joins, Over, States};

@@ -2,7 +2,7 @@
 ghost use Rattle.std.specs.Prelude.{◌≡◌};
 ghost use Rattle.std.specs.Str.{str_eq_ignore_ascii_case};
 ghost use Rattle.crs_text.specs.Items.{HasId};
-ghost use Rattle.crs_value.specs.Reading.{item_at};
+ghost use Rattle.crs_value.specs.inner.Arguments.{item_at};
 ghost use Rattle.crs_rules.specs.Statements.{with_item, with_word};
 
 use crate::Uncounted;

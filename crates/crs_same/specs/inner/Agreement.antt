@@ -25,10 +25,24 @@ use Rattle.crs_same.specs.PartsOfCrs.{parts_of_vertical, parts_of_horizontal, pa
 use Rattle.crs_same.specs.PartsOfFrames.{parts_of_ellipsoid, parts_of_given, or_greenwich, parts_of_meridian}
 use Rattle.crs_same.specs.PartsOfFrames.{parts_of_datum, parts_of_ensemble, parts_of_frame}
 use Rattle.crs_same.specs.PartsOfSystems.{parts_of_system}
-use Rattle.crs_same.specs.SameParts.{SameParameter, SameGeoidModel, SameDeformationModel, IsZero, SameMember, SameAxisMeridian, HasAt, own_or, SameValue, SameUnit, SameLength, SameUsages, SameRemark}
+use Rattle.crs_same.specs.SameParts.{SameParameter, SameGeoidModel, SameDeformationModel, SameMember, SameAxisMeridian, HasAt, own_or, SameValue, SameUnit, SameLength, SameUsage, usages_of}
 use Rattle.crs_same.specs.SameCrs.{SameCrs, SameDynamic, IsHorizontalPart}
 use Rattle.crs_same.specs.SameIdents.{SameIdents}
 use Rattle.crs_same.specs.Sets.{SameSet, BothOrNeither}
+use Rattle.crs_decimal.specs.Value.{SameNumber, whole_number, Value, exact}
+use Rattle.crs_value.specs.Kept.{kept, kept_one}
+
+-- the value is zero
+abbrev pub IsZero : Value → Type 0
+IsZero value = SameNumber (exact value) (whole_number 0)
+
+-- the usages that the level keeps of the ends of two CRSs are the same set
+abbrev pub SameUsages : Level → TailParts → TailParts → Type 0
+SameUsages level a b = SameSet SameUsage (kept level (usages_of a)) (kept level (usages_of b))
+
+-- the remarks that the level keeps of two ends are equal, or both are missing
+abbrev pub SameRemark : Level → TailParts → TailParts → Type 0
+SameRemark level a b = kept_one level a.remark ≡ kept_one level b.remark
 
 -- ---- conversions
 

@@ -5,7 +5,7 @@ use Rattle.std.proofs.Math.Bool.{and-true}
 use Rattle.std.proofs.lemmas.Bool.{both_ways, true≢false}
 use Rattle.std.proofs.lemmas.Map.Views.{any-filter_same}
 use denote.Enum.Bare.{sameb, same_true}
-use Rattle.crs_text.specs.Prelude.{Item, leaf, node, More, arguments, first_of, rest_of, close_of, place_of, size_of, sizes, here, IsAt}
+use Rattle.crs_text.specs.inner.Prelude.{Item, leaf, node, More, arguments, first_of, rest_of, close_of, place_of, size_of, sizes, here, IsAt}
 use Rattle.crs_shape.specs.contracts.class.Class.{the_type}
 use Rattle.crs_shape.specs.declared.class.Class.{Class}
 use Rattle.crs_shape.specs.declared.fitting.Walk.{Walk}

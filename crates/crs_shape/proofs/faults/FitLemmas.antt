@@ -2,7 +2,7 @@
 use Rattle.std.proofs.Common.{◌≡◌, ◌≢◌, ℕ, ◌+◌, ◌<◌, Bool, true, false, inl, inr, Option, Some, None, List, [], ◌∷◌, if◌then◌else◌, refl, sym, ◌∙◌, ap, subst, arith}
 use Rattle.std.proofs.lemmas.Bool.{cases_Bool}
 use Rattle.std.proofs.lemmas.Option.{none-some, same_Some, some_pair_parts}
-use Rattle.crs_text.specs.Prelude.{Item, leaf, node, Siblings, End, More, arguments, first_of, rest_of, close_of, size_of, sizes, here, HasId, IsAt}
+use Rattle.crs_text.specs.inner.Prelude.{Item, leaf, node, Siblings, End, More, arguments, first_of, rest_of, close_of, size_of, sizes, here, HasId, IsAt}
 use Rattle.crs_shape.specs.declared.class.Class.{Class}
 use denote.Enum.Bare.{true_same}
 use Rattle.crs_shape.specs.contracts.class.Class.{the_type}

@@ -1,6 +1,6 @@
 -- Faults of shape have their numbers, and are at places of the item; those are bytes of the text.
 use Rattle.std.proofs.Common.{◌≡◌, ℕ, zero, suc, ◌+◌, ◌<◌, ◌≤◌, length, slice_index_or, Bool, true, false, if◌then◌else◌, inl, inr, ⊎_elim, List, [], ◌∷◌, ◌++◌, refl, sym, ap, subst, arith}
-use Rattle.crs_text.specs.Prelude.{Kind, number, text, word, Token, single, comma, opening, closing, IsSingle, single_spelling, Forms, Fronts, Item, leaf, node, Siblings, End, More, HasId, first_of, here, inside, inside_items, tokens, others_tokens, RefusedAt, SpellsNode}
+use Rattle.crs_text.specs.inner.Prelude.{Kind, number, text, word, Token, single, comma, opening, closing, IsSingle, single_spelling, Forms, Fronts, Item, leaf, node, Siblings, End, More, HasId, first_of, here, inside, inside_items, tokens, others_tokens, RefusedAt, SpellsNode}
 use Rattle.crs_shape.specs.declared.class.Class.{Class}
 use Rattle.crs_shape.specs.FaultPlace.{IsShapeNumber, IsPlaceIn, IsPlaceAmong}
 use Rattle.crs_shape.specs.Keywords.{is_known}

@@ -3,7 +3,7 @@ use Rattle.std.proofs.Common.{◌≡◌, ℕ, true, false, inl, inr, ◌⊎◌, 
 use Rattle.std.specs.Cmp.{both_ways}
 use Rattle.std.proofs.lemmas.Bool.{false_from_ne_true, true≢false}
 use Rattle.std.proofs.lemmas.Option.{none-some, same_Some}
-use Rattle.crs_text.specs.Prelude.{Item, leaf, node, Siblings, End, More, RefusedAt}
+use Rattle.crs_text.specs.inner.Prelude.{Item, leaf, node, Siblings, End, More, RefusedAt}
 use Rattle.crs_shape.specs.declared.class.Class.{Class}
 use Rattle.crs_shape.specs.ShapeFault.{class_in, is_of, misplaced, missing, IsFree, Stands, Inside, Among, class_of_root, AtRoot}
 use Rattle.crs_shape.specs.Expected.{ExpectedParts, may_come, Follows, ExpectedIn, ExpectedAmong, ExpectedAtRoot}

@@ -3,7 +3,7 @@ use Rattle.std.proofs.Common.{◌≡◌, ℕ, Bool, true, false, List, [], ◌�
 use Rattle.std.specs.List.{find}
 use Rattle.std.proofs.lemmas.Bool.{or_parts}
 use denote.Enum.Bare.{sameb}
-use Rattle.crs_text.specs.Prelude.{number, text, word, Item, leaf, node, Siblings, kind_of_item, raw_of, keyword_in, AreSpelled}
+use Rattle.crs_text.specs.inner.Prelude.{number, text, word, Item, leaf, node, Siblings, kind_of_item, raw_of, keyword_in, AreSpelled}
 use Rattle.crs_text.specs.declared.items.ItemKind.TheVariants.{Node}
 use Rattle.crs_shape.specs.contracts.class.Class.{the_type}
 use Rattle.crs_shape.specs.declared.class.Class.{Class}

@@ -9,7 +9,7 @@ use Rattle.std.proofs.lemmas.Map.Views.{any-filter_same}
 use Rattle.std.proofs.lemmas.Slice.Eq.{bytes_eq-Decides}
 use denote.Enum.Bare.{sameb, same_true}
 use Rattle.crs_text.specs.declared.keyword.Keyword.{Keyword}
-use Rattle.crs_text.specs.Prelude.{spelling_of, keyword_of, AreSpelled}
+use Rattle.crs_text.specs.inner.Prelude.{spelling_of, keyword_of, AreSpelled}
 use Rattle.crs_shape.specs.contracts.class.Class as classes
 use Rattle.crs_shape.specs.declared.class.Class.{Class}
 use Rattle.crs_shape.specs.Keywords.{keywords_of, has_keyword, is_one_of, is_keyword, first_named, is_known, every_class, root_classes, root_named}

@@ -9,7 +9,7 @@ use denote.Enum.Declared.{rowss, tag_of}
 use denote.Enum.Enum.{tag_below}
 use Rattle.crs_text.specs.contracts.keyword.Keyword as keywords
 use Rattle.crs_text.specs.declared.keyword.Keyword.{Keyword}
-use Rattle.crs_text.specs.Prelude.{spelling_of, every_keyword}
+use Rattle.crs_text.specs.inner.Prelude.{spelling_of, every_keyword}
 use Rattle.crs_shape.specs.contracts.class.Class as classes
 use Rattle.crs_shape.specs.declared.class.Class.{Class}
 use Rattle.crs_shape.specs.Keywords.{every_class, has_keyword, is_keyword, is_known, root_named}

@@ -7,7 +7,7 @@ use Rattle.crs_text.specs.contracts.items.ItemKind as kinds
 use Rattle.crs_text.specs.declared.items.ItemKind.{ItemKind}
 use Rattle.crs_text.specs.declared.items.ItemKind.TheVariants as kind
 use Rattle.crs_text.specs.declared.keyword.Keyword.{Keyword}
-use Rattle.crs_text.specs.Prelude.{Item, leaf, node, kind_of_item, keyword_in, keyword_of, AreSpelled, number, text, word}
+use Rattle.crs_text.specs.inner.Prelude.{Item, leaf, node, kind_of_item, keyword_in, keyword_of, AreSpelled, number, text, word}
 use Rattle.crs_shape.specs.contracts.class.Class.{the_type}
 use Rattle.crs_shape.specs.declared.class.Class.{Class}
 use Rattle.crs_shape.specs.declared.class.Class.TheVariants as class
@@ -16,7 +16,7 @@ use Rattle.crs_shape.specs.Keywords.{is_keyword, keywords_of}
 use Rattle.crs_shape.specs.inner.KeywordTable.{classes_of, classes_by, is_among, is_part, IsClear}
 use Rattle.crs_shape.specs.ShapeFault.{class_in}
 use Rattle.crs_shape.specs.Slots.{is_class}
-use Rattle.crs_shape.specs.Sought.{kind_for}
+use Rattle.crs_shape.specs.inner.SoughtKind.{kind_for}
 use Rattle.crs_shape.proofs.naming.ClassSetLemmas.{has_bit-word_of}
 use Rattle.crs_shape.proofs.naming.ItemLemmas.{class_in-node, not-among}
 use Rattle.crs_shape.proofs.naming.KeywordLemmas.{among-classes_of, class_named-table, is_keyword-table}

@@ -2,7 +2,7 @@
 use Rattle.std.proofs.Common.{◌≡◌, ℕ, ◌*◌, ◌^◌, ◌<◌, inl, inr, nat_le, Bool, true, List, [], ◌∷◌, refl, subst, arith, leb-true}
 use Rattle.std.specs.List.{list_all}
 use Rattle.std.proofs.lemmas.Bool.{and_parts}
-use Rattle.crs_decimal.specs.Prelude.{Number, SameNumber, whole_number, Value, exact}
+use Rattle.crs_decimal.specs.inner.Prelude.{Number, SameNumber, whole_number, Value, exact}
 use Rattle.crs_shape.specs.Choice.{OneIs}
 use Rattle.crs_shape.specs.declared.class.Class.{Class}
 use Rattle.crs_shape.specs.declared.system_type.SystemType.{SystemType}

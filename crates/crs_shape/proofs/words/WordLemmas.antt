@@ -5,7 +5,7 @@ use Rattle.std.proofs.lemmas.Slice.Eq.{bytes_eq-Decides}
 use denote.Enum.Declared.{rowss, tag_of}
 use denote.Enum.Enum.{tag_below}
 use Rattle.crs_text.specs.declared.keyword.Keyword.{Keyword}
-use Rattle.crs_text.specs.Prelude.{spelling_of, keyword_of, AreSpelled}
+use Rattle.crs_text.specs.inner.Prelude.{spelling_of, keyword_of, AreSpelled}
 use Rattle.crs_shape.specs.Words.{SpellsWord, every_direction}
 use Rattle.crs_shape.specs.contracts.direction.Direction.{the_type}
 use Rattle.crs_shape.specs.declared.direction.Direction.{Direction}

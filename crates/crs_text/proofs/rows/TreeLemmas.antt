@@ -4,7 +4,7 @@ use Rattle.std.proofs.Common.{◌≡◌, ℕ, suc, ◌+◌, ◌≤◌, ◌<◌, 
 use Rattle.std.proofs.lemmas.List.{map-append, get_or-map}
 use Rattle.std.proofs.lemmas.List.Elements.{All-nil, All-cons, All-append, All-get_or}
 use Rattle.std.specs.List.{All}
-use Rattle.crs_decimal.specs.Prelude.{IsInBounds, IsFault}
+use Rattle.crs_decimal.specs.inner.Prelude.{IsInBounds, IsFault}
 use Rattle.crs_decimal.specs.declared.fault.NumberFault.{NumberFault}
 use Rattle.crs_decimal.specs.declared.fault.NumberFault.TheVariants.{Malformed, Range}
 use Rattle.crs_text.specs.Tokens.{Kind, number, word, Token, single, comma, opening, closing, IsFormed}

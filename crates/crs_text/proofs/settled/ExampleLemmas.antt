@@ -6,7 +6,8 @@ use Rattle.crs_text.specs.Tokens.{Token, single, comma, opening, closing, is_whi
 use Rattle.crs_text.specs.inner.State.{State, start, step, run}
 use Rattle.crs_text.specs.TextFault.{IsTooDeep}
 use Rattle.crs_text.specs.declared.refusal.Reason.TheVariants.{BadCharacter, Unexpected}
-use Rattle.crs_text.specs.Settled.{FormsSettled, SettledFronts, IsSettledRefusal, IsTakenSoFar, begun}
+use Rattle.crs_text.specs.Settled.{FormsSettled, SettledFronts, IsSettledRefusal, IsTakenSoFar}
+use Rattle.crs_text.specs.inner.Examples.{begun}
 use Rattle.crs_text.proofs.tokens.FrontsLemmas.{at_once}
 use Rattle.crs_text.proofs.tokens.ViableLemmas.{viable_from_run}
 use Rattle.crs_text.proofs.tokens.AllowedLemmas.{not_viable_from_none}

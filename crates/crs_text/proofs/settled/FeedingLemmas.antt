@@ -7,11 +7,13 @@ use Rattle.std.specs.List.{list_all, prefix_len}
 use Rattle.std.proofs.lemmas.List.Folds.{list_all-append, list_all_at}
 use Rattle.std.proofs.lemmas.List.Sums.{prefix_len-le-length, prefix_len_stops}
 use Rattle.std.proofs.lemmas.Bool.{and_parts}
-use Rattle.crs_decimal.specs.Prelude.{is_run_byte, is_run_start}
+use Rattle.crs_decimal.specs.inner.Prelude.{is_run_byte, is_run_start}
 use Rattle.crs_text.specs.Tokens as tokens
 use Rattle.crs_text.specs.Tokens.{Kind, number, word, Token, single, comma, opening, closing, is_white, is_letter, is_word_byte, IsWord, Forms, IsAfterWhite}
-use Rattle.crs_text.specs.Quoted.{StopsAt, BeginsWith, doubled, IsInside, IsShut, IsShutAt}
-use Rattle.crs_text.specs.Utf8.{IsUtf8Front, IsValidTo}
+use Rattle.crs_text.specs.Quoted.{StopsAt, BeginsWith, doubled, IsInside, IsShut}
+use Rattle.crs_text.specs.inner.Lexing.{IsShutAt}
+use Rattle.crs_text.specs.Utf8.{IsUtf8Front}
+use Rattle.crs_text.specs.inner.Lexing.{IsValidTo}
 use Rattle.crs_text.specs.TextFault.{IsFlaw, IsStop, IsTextFault}
 use Rattle.crs_text.specs.Settled.{IsSettled, FormsSettled, SettledFronts, IsRunSettled, IsSettledStop, IsTakenSoFar}
 use Rattle.crs_text.specs.inner.Feeding.{IsFlawSettled, IsLexedSettled, IsUnsettled, IsSettledTo, IsUnsettledAt, IsSettledFault, IsPendingIn, IsPendingBefore, StaysPending, IsUnsettledIn, IsInsideTo, IsOpenTo, IsFedTo, IsFed, IsRefusalOf}

@@ -2,7 +2,7 @@
 use Rattle.std.proofs.Common.{◌≢◌, ℕ, ◌+◌, ◌-◌, ◌≤◌, List, [], ◌∷◌, length, refl, arith, inl, inr, ◌⊎◌}
 use Rattle.std.specs.List.{list_all}
 use Rattle.std.proofs.lemmas.Bool.{cases_Bool}
-use Rattle.crs_decimal.specs.Prelude.{is_run_byte}
+use Rattle.crs_decimal.specs.inner.Prelude.{is_run_byte}
 use Rattle.crs_text.specs.Tokens.{Token, single}
 use Rattle.crs_text.specs.inner.Table.{Flat}
 use Rattle.crs_text.specs.inner.Rows.{Shows}

@@ -4,7 +4,7 @@ use Rattle.std.specs.List.{list_all}
 use Rattle.std.proofs.lemmas.List.{append-nil, length-append}
 use Rattle.std.proofs.lemmas.List.Folds.{list_all-append}
 use Rattle.std.proofs.lemmas.Bool.{cases_lt}
-use Rattle.crs_decimal.specs.Prelude.{is_run_byte}
+use Rattle.crs_decimal.specs.inner.Prelude.{is_run_byte}
 use Rattle.crs_text.specs.Quoted.{StopsAt, is_quote, IsShut, Through}
 use Rattle.crs_text.specs.Utf8.{IsUtf8Front}
 use Rattle.crs_text.specs.Tokens.{Token, single, closing, is_white, takes_byte, Ends, IsPlaced, spelling, Forms, IsAfterWhite, Fronts}

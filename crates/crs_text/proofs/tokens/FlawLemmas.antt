@@ -2,7 +2,7 @@
 use Rattle.std.proofs.Common.{◌≡◌, ℕ, ◌+◌, false, List, [], ◌∷◌, ◌++◌, Option, Some, None, refl, sym, ap, subst, ◌∙◌, arith, inl, inr, IsTrue}
 use Rattle.std.specs.List.{list_all}
 use Rattle.std.proofs.lemmas.Bool.Decides.{nat_tests}
-use Rattle.crs_decimal.specs.Prelude.{is_run_byte, HasForm, IsInBounds}
+use Rattle.crs_decimal.specs.inner.Prelude.{is_run_byte, HasForm, IsInBounds}
 use Rattle.crs_text.specs.Quoted.{IsInside, StopsAt, Through}
 use Rattle.crs_text.specs.Utf8.{IsUtf8Front, IsLongestUtf8}
 use Rattle.crs_text.specs.Tokens.{number, text, Token, single, Forms}

@@ -2,7 +2,7 @@
 use Rattle.std.proofs.Common.{◌≡◌, ℕ, ◌<◌, true, false, List, [], ◌∷◌, ◌++◌, length, refl, sym, ap, subst, ◌∙◌, arith, inl, inr, ◌⊎◌}
 use Rattle.std.proofs.lemmas.Bool.Decides.{nat_tests}
 use Rattle.std.proofs.lemmas.List.{length-append}
-use Rattle.crs_decimal.specs.Prelude.{is_run_start}
+use Rattle.crs_decimal.specs.inner.Prelude.{is_run_start}
 use Rattle.crs_text.specs.Quoted.{StopsAt, BeginsWith}
 use Rattle.crs_text.specs.Tokens.{number, word, Token, single, is_white, is_letter, IsWord, IsFormed, Forms, IsAfterWhite, Fronts, spelling}
 use Rattle.crs_text.proofs.tokens.QuotedLemmas.{run_split}

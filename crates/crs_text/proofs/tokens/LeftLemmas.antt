@@ -5,7 +5,7 @@ use Rattle.std.specs.Str.{IsValidUpTo}
 use Rattle.std.specs.Str.Lossy.{utf8_valid_len, utf8_error_len}
 use Rattle.std.proofs.lemmas.Bool.{cases_Bool, eqb-true, or_from}
 use Rattle.bstr.proofs.lemmas.LossyLemmas.{utf8_valid_len-cases}
-use Rattle.crs_decimal.specs.Prelude.{is_run_byte, is_run_start, HasForm, IsInBounds}
+use Rattle.crs_decimal.specs.inner.Prelude.{is_run_byte, is_run_start, HasForm, IsInBounds}
 use Rattle.crs_text.specs.Quoted.{IsInside, IsShut, BeginsWith, is_quote, doubled}
 use Rattle.crs_text.specs.Utf8.{IsLongestUtf8}
 use Rattle.crs_text.specs.Tokens.{Kind, number, text, word, Token, single, comma, opening, closing, is_letter, is_word_byte, Forms}

@@ -8,7 +8,7 @@ use Rattle.crs_text.specs.Quoted.{BeginsWith, StopsAt, IsInside}
 use Rattle.crs_text.specs.Tokens.{Token, is_white, is_letter, is_word_byte}
 use Rattle.crs_text.specs.Settled.{FormsSettled, SettledFronts, IsRunSettled, IsSettledStop, IsSettledRefusal, IsTakenSoFar}
 use Rattle.crs_text.specs.inner.Table.{Flat}
-use Rattle.crs_text.specs.Utf8.{IsValidTo}
+use Rattle.crs_text.specs.inner.Lexing.{IsValidTo}
 use Rattle.crs_text.specs.inner.Rows.{Shows}
 use Rattle.crs_text.specs.Refusal.{RefusedAt}
 use Rattle.crs_text.specs.declared.refusal.Reason.{Reason}

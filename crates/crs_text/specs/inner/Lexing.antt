@@ -1,6 +1,6 @@
 -- A bridge: what begins what is left of a text: a token, or a flaw.
-use Rattle.std.specs.Prelude.{◌≡◌, ℕ, ◌+◌, ◌≤◌, List, ◌∷◌, ◌++◌, length, take, drop}
-use Rattle.crs_text.specs.Quoted.{StopsAt}
+use Rattle.std.specs.Prelude.{◌≡◌, ℕ, ◌+◌, ◌≤◌, List, ◌∷◌, ◌++◌, length, take, drop, ◌<◌, IsUtf8}
+use Rattle.crs_text.specs.Quoted.{StopsAt, IsShut}
 use Rattle.crs_text.specs.Tokens.{Kind, number, text, word, IsSingle, single_spelling, opening_byte}
 use Rattle.crs_text.specs.Tokens.{closing_byte}
 use Rattle.crs_text.specs.Tokens.{takes_byte}
@@ -8,6 +8,14 @@ use Rattle.crs_text.specs.TextFault.{IsFlaw}
 use Rattle.crs_text.specs.declared.lexing.Lexed.{Lexed}
 use Rattle.crs_text.specs.declared.lexing.Lexed.TheVariants.{Number, Text, Word, Comma, Opening}
 use Rattle.crs_text.specs.declared.lexing.Lexed.TheVariants.{Closing, Flaw}
+
+-- so many of the bytes are well-formed UTF-8
+abbrev pub IsValidTo : List ℕ → ℕ → Type 0
+IsValidTo bytes n = (n ≤ length bytes) × IsUtf8 (take n bytes)
+
+-- the inside has this length
+abbrev pub IsShutAt : List ℕ → ℕ → Type 0
+IsShutAt after n = IsShut after (take n after) (drop (n + 1) after) × (n < length after)
 
 -- what is left begins with a single token of these raw bytes, and the rest comes after it
 pub record StandsBefore (kind : Kind) (raw left rest : List ℕ) : Type 0 where

@@ -6,13 +6,19 @@ use Rattle.std.proofs.Common.{◌∙◌, ap, sym, append_assoc}
 use Rattle.crs_text.specs.Tokens.{number, text, word, Token, single, comma, opening, closing}
 use Rattle.crs_text.specs.Tokens.{IsFormed}
 use Rattle.crs_text.specs.Items.{Item, leaf, node, Siblings, End, More, tokens, arguments, count}
-use Rattle.crs_text.specs.Items.{first_of, skip, only}
+use Rattle.crs_text.specs.Items.{first_of, skip}
 use Rattle.crs_text.specs.Items.{kind_of_item, raw_of, place_of, IsNode}
 use Rattle.crs_text.specs.inner.Laid.{AreLaid}
 use Rattle.crs_text.specs.inner.Rows.{rows, square_of, close_place}
 use Rattle.crs_text.specs.declared.items.ItemKind.{ItemKind}
 use Rattle.crs_text.specs.declared.items.ItemKind.TheVariants.{Number, Text, Word, Node}
 use Rattle.crs_text.specs.declared.table.Row.{Row}
+
+-- the first items, as many as `n` says
+abbrev pub only : ℕ → Siblings → Siblings
+only zero items = End
+only (suc n) End = End
+only (suc n) (More item items) = More item (only n items)
 
 -- an item apart from its arguments, of which it has `count`
 pub record ItemPart : Type 0 where

@@ -1,13 +1,14 @@
 -- A check over the items of one class, one after another.
 use Rattle.std.proofs.Common.{◌≡◌, ℕ, length, true, false, Option, Some, None, take, drop, List, [], ◌∷◌, ◌++◌, sym, ◌∙◌, ap, subst, arith, append_assoc}
-use Rattle.crs_decimal.specs.Prelude.{Denotes, Value, IsNormal, exact}
-use Rattle.crs_text.specs.Prelude.{Item, arguments, rest_of, raw_of, here, RefusedAt}
+use Rattle.crs_decimal.specs.inner.Prelude.{Denotes, Value, IsNormal, exact}
+use Rattle.crs_text.specs.inner.Prelude.{Item, arguments, rest_of, raw_of, here, RefusedAt}
 use Rattle.crs_shape.specs.declared.class.Class.{Class}
-use Rattle.crs_shape.specs.Prelude.{Shaped}
+use Rattle.crs_shape.specs.inner.Prelude.{Shaped}
 use Rattle.crs_value.specs.Checks.{IsAboveZero, NotAbove, IsNegative, AnyOf, IsLeast}
 use Rattle.crs_value.specs.inner.FoundArguments.{from_found, AllShaped}
 use Rattle.crs_value.specs.inner.Least.{lesser}
-use Rattle.crs_value.specs.Reading.{item_at, those, Holds, IsFound, TakesOne}
+use Rattle.crs_value.specs.Reading.{those}
+use Rattle.crs_value.specs.inner.Arguments.{item_at, Holds, IsFound, TakesOne}
 use Rattle.crs_value.specs.Reads.{ReadsNumber}
 use Rattle.crs_value.proofs.found.ArgumentLemmas.{SlotsBound, arguments-few, found-is, found-holds, all-shaped, found-shaped, nothing}
 use Rattle.crs_value.proofs.checked.LeastLemmas.{least-more, least-single}

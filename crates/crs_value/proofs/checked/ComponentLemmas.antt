@@ -1,11 +1,12 @@
 -- A compound's horizontal part, and its dimension.
 use Rattle.std.proofs.Common.{◌≡◌, ℕ, Bool, true, false, not, Some, None, List, IsTrue, ◌↔◌, refl, sym, subst}
-use Rattle.crs_decimal.specs.Prelude.{SameNumber, whole_number, Value, exact}
-use Rattle.crs_text.specs.Prelude.{Item, arguments, RefusedAt}
+use Rattle.crs_decimal.specs.inner.Prelude.{SameNumber, whole_number, Value, exact}
+use Rattle.crs_text.specs.inner.Prelude.{Item, arguments, RefusedAt}
 use Rattle.crs_shape.specs.declared.class.Class.{Class}
 use Rattle.crs_shape.specs.declared.class.Class.TheVariants as class
 use Rattle.crs_value.specs.Checks.{IsNotPlane, IsNotHorizontal, BadComponent, at, FirstIs, IsLeast}
-use Rattle.crs_value.specs.Reading.{item_at, those, IsFound}
+use Rattle.crs_value.specs.Reading.{those}
+use Rattle.crs_value.specs.inner.Arguments.{item_at, IsFound}
 use Rattle.crs_value.specs.Reads.{HasDimension}
 use Rattle.crs_value.proofs.checked.CheckLemmas.{DenotesOne}
 use Rattle.crs_value.proofs.checked.LeastLemmas.{least-at}

@@ -1,9 +1,9 @@
 -- The checks of a CRS that has a coordinate system: those of its axes have the highest numbers.
 use Rattle.std.proofs.Common.{◌≡◌, ℕ, ◌<◌, ◌≤◌, ◌++◌, inl, inr, ◌⊎◌, ⊎_elim, Option, Some, List, [], ◌∷◌, subst, ap, arith}
-use Rattle.crs_text.specs.Prelude.{Item, arguments, RefusedAt}
+use Rattle.crs_text.specs.inner.Prelude.{Item, arguments, RefusedAt}
 use Rattle.crs_shape.specs.declared.class.Class.{Class}
 use Rattle.crs_shape.specs.declared.class.Class.TheVariants as class
-use Rattle.crs_shape.specs.Prelude.{dimensions_of}
+use Rattle.crs_shape.specs.inner.Prelude.{dimensions_of}
 use Rattle.crs_value.specs.Checks.{BadDynamic, IsUnsteady, BadOrders, BadOrder, LacksOrder, IsBadOrder, orders_in, BadOwnUnit, Misfits, HasOwnUnit, IsSuperfluous, BadUnit, units_in, at, AnyOf, IsLeast, OfAxes, OfHead, once, OfCrs, BreaksAmong, RepeatsAny}
 use Rattle.crs_value.specs.inner.Least.{lesser}
 use Rattle.crs_value.specs.Reading.{those}

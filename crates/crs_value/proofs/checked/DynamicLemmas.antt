@@ -1,6 +1,6 @@
 -- The check of dynamic parts beside ensembles.
 use Rattle.std.proofs.Common.{Option, None, Some}
-use Rattle.crs_text.specs.Prelude.{Item, arguments, RefusedAt}
+use Rattle.crs_text.specs.inner.Prelude.{Item, arguments, RefusedAt}
 use Rattle.crs_shape.specs.declared.class.Class.{Class}
 use Rattle.crs_shape.specs.declared.class.Class.TheVariants as class
 use Rattle.crs_value.specs.Checks.{BadDynamic, HasEnsemble, IsUnsteady, AnyOf, IsLeast}

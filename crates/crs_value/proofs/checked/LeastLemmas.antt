@@ -1,7 +1,7 @@
 -- The first fault of several sets of faults.
 use Rattle.std.proofs.Common.{◌≡◌, ℕ, ◌<◌, ◌≤◌, true, false, inl, inr, ◌⊎◌, ⊎_elim, ◌↔◌, Option, Some, None, List, [], ◌∷◌, ◌++◌, if◌then◌else◌, refl, sym, subst, arith, IsFalse}
 use Rattle.std.proofs.lemmas.Bool.Decides.{nat_tests}
-use Rattle.crs_text.specs.Prelude.{Item, RefusedAt, is_before}
+use Rattle.crs_text.specs.inner.Prelude.{Item, RefusedAt, is_before}
 use Rattle.crs_value.specs.Checks.{AnyOf, IsLeast}
 use Rattle.crs_value.specs.inner.Least.{lesser}
 

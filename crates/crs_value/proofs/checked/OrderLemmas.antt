@@ -2,15 +2,16 @@
 use Rattle.std.proofs.Common.{◌≡◌, ◌≢◌, ℕ, zero, suc, ◌+◌, ◌<◌, ◌≤◌, length, take, drop, Bool, IsTrue, ◌↔◌, inl, inr, ◌⊎◌, ⊎_elim, Option, Some, None, List, [], ◌∷◌, ◌++◌, refl, sym, ◌∙◌, ap, subst, append_assoc, length-append, arith}
 use Rattle.std.proofs.lemmas.List.{append-nil}
 use Rattle.std.proofs.Math.Seq.{take-append_seam}
-use Rattle.crs_decimal.specs.Prelude.{Number, SameNumber, whole_number, Value, exact}
-use Rattle.crs_text.specs.Prelude.{Item, arguments, rest_of, here, RefusedAt}
+use Rattle.crs_decimal.specs.inner.Prelude.{Number, SameNumber, whole_number, Value, exact}
+use Rattle.crs_text.specs.inner.Prelude.{Item, arguments, rest_of, here, RefusedAt}
 use Rattle.crs_shape.specs.declared.class.Class.{Class}
 use Rattle.crs_shape.specs.declared.class.Class.TheVariants as class
-use Rattle.crs_shape.specs.Prelude.{Shaped}
+use Rattle.crs_shape.specs.inner.Prelude.{Shaped}
 use Rattle.crs_value.specs.Checks.{orders_in, SomeHasOrder, AllHaveOrder, LacksOrder, ReadsOrder, IsPosition, HasThis, OneHas, IsWrongOrder, IsBadOrder, BadOrders, BadOrder, at, AnyOf, IsLeast}
 use Rattle.crs_value.specs.inner.FoundArguments.{from_found, AllShaped}
 use Rattle.crs_value.specs.inner.Least.{lesser}
-use Rattle.crs_value.specs.Reading.{OneIs, item_at, those, Holds, IsFound, ReadsFirst}
+use Rattle.crs_value.specs.Reading.{OneIs, those, ReadsFirst}
+use Rattle.crs_value.specs.inner.Arguments.{item_at, Holds, IsFound}
 use Rattle.crs_value.specs.Reads.{ReadsNumber}
 use Rattle.crs_value.proofs.found.ArgumentLemmas.{found-is, found-holds, found-shaped, all-shaped}
 use Rattle.crs_value.proofs.found.NodeLemmas.{drop-more, drop-short}

@@ -1,10 +1,11 @@
 -- The checks of a node's own, by its class.
 use Rattle.std.proofs.Common.{◌≡◌, inl, inr, ◌⊎◌, Option, sym, subst}
-use Rattle.crs_text.specs.Prelude.{Item, arguments, RefusedAt}
+use Rattle.crs_text.specs.inner.Prelude.{Item, arguments, RefusedAt}
 use Rattle.crs_shape.specs.declared.class.Class.{Class}
 use Rattle.crs_shape.specs.declared.class.Class.TheVariants as class
-use Rattle.crs_shape.specs.Prelude.{dimensions_of}
-use Rattle.crs_value.specs.Checks.{BadDynamic, RepeatsAny, UnknownType, UnknownDirection, AnyOf, IsLeast, anchors, OfCrs, OfCompound, OfUnit, HasSystem, Own, BreaksAmong}
+use Rattle.crs_shape.specs.inner.Prelude.{dimensions_of}
+use Rattle.crs_value.specs.Checks.{BadDynamic, RepeatsAny, UnknownType, UnknownDirection, AnyOf, IsLeast, anchors, OfCrs, OfCompound, OfUnit, Own, BreaksAmong}
+use Rattle.crs_value.specs.inner.Classes.{HasSystem}
 use Rattle.crs_value.proofs.checked.LeastLemmas.{least-beside}
 use Rattle.crs_value.specs.Reading.{those}
 

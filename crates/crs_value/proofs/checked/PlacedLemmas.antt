@@ -1,7 +1,7 @@
 -- Axes whose orders are the numbers from 1 on, one after another.
 use Rattle.std.proofs.Common.{◌≡◌, ℕ, ◌+◌, ◌<◌, ◌≤◌, length, inl, inr, ⊎_elim, None, List, [], ◌∷◌, ◌++◌, sym, ◌∙◌, subst, arith}
-use Rattle.crs_decimal.specs.Prelude.{Number, SameNumber, whole_number, Value, exact}
-use Rattle.crs_text.specs.Prelude.{Item, RefusedAt}
+use Rattle.crs_decimal.specs.inner.Prelude.{Number, SameNumber, whole_number, Value, exact}
+use Rattle.crs_text.specs.inner.Prelude.{Item, RefusedAt}
 use Rattle.crs_value.specs.Checks.{LacksOrder, ReadsOrder, HasThis, OneHas, IsBadOrder, BadOrders, BadOrder, AnyOf, IsLeast}
 use Rattle.crs_value.specs.inner.FoundArguments.{HasPlace, AreInOrder}
 use Rattle.crs_value.specs.Reading.{ReadsFirst}

@@ -6,8 +6,8 @@ use Rattle.std.proofs.lemmas.Bool.{and_parts}
 use Rattle.std.proofs.lemmas.Bool.Decides.{nat_tests}
 use Rattle.std.proofs.lemmas.List.Sums.{fold-append}
 use Rattle.std.proofs.lemmas.Option.{same_Some}
-use Rattle.crs_decimal.specs.Prelude.{number_of, is_minus, digits_value, Sign, unsigned, plus, minus, Exponent, sign_text, fraction_text, fraction_digits, exponent_text, parts_text, mantissa, IsExponent, Value, IsNormal, is_normal, is_power, exact}
-use Rattle.crs_text.specs.Prelude.{Item, raw_of}
+use Rattle.crs_decimal.specs.inner.Prelude.{number_of, is_minus, digits_value, Sign, unsigned, plus, minus, Exponent, sign_text, fraction_text, fraction_digits, exponent_text, parts_text, mantissa, IsExponent, Value, IsNormal, is_normal, is_power, exact}
+use Rattle.crs_text.specs.inner.Prelude.{Item, raw_of}
 use Rattle.crs_value.specs.Checks.{IsAboveZero, NotAbove, IsNegative, IsLeast}
 use Rattle.crs_value.specs.inner.FirstByte.{is_telling}
 use Rattle.crs_value.specs.Reads.{ReadsNumber}

@@ -1,11 +1,11 @@
 -- The checks of a coordinate system's type, dimension and number of axes.
 use Rattle.std.proofs.Common.{◌≡◌, ℕ, suc, ◌*◌, ◌≤◌, length, Bool, true, false, if◌then◌else◌, None, List, [], ◌∷◌, subst, arith}
-use Rattle.crs_decimal.specs.Prelude.{SameNumber, whole_number, Value, exact}
-use Rattle.crs_text.specs.Prelude.{Item, Siblings, End, More, count, arguments, raw_of}
+use Rattle.crs_decimal.specs.inner.Prelude.{SameNumber, whole_number, Value, exact}
+use Rattle.crs_text.specs.inner.Prelude.{Item, Siblings, End, More, count, arguments, raw_of}
 use Rattle.crs_shape.specs.declared.class.Class.{Class}
 use Rattle.crs_shape.specs.declared.class.Class.TheVariants as class
 use Rattle.crs_shape.specs.declared.system_type.SystemType.{SystemType}
-use Rattle.crs_shape.specs.Prelude.{IsOneOf}
+use Rattle.crs_shape.specs.inner.Prelude.{IsOneOf}
 use Rattle.crs_value.specs.Checks.{AxisCount, BadSystem, IsLeast}
 use Rattle.crs_value.specs.Reading.{is_a, those, ReadsFirst}
 use Rattle.crs_value.specs.Reads.{HasType, HasDimension, ReadsNumber, ReadsType}

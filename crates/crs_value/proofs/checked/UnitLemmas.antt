@@ -1,16 +1,17 @@
 -- The checks of the units of a coordinate system.
 use Rattle.std.proofs.Common.{◌≡◌, ℕ, inl, inr, ⊎_elim, Option, Some, None, List, [], ◌∷◌, refl, sym, ◌∙◌, ap, subst, arith}
-use Rattle.crs_text.specs.Prelude.{Item, leaf, node, arguments, keyword_in, raw_of, rest_of, here, number, text, word, keyword_of, RefusedAt}
+use Rattle.crs_text.specs.inner.Prelude.{Item, leaf, node, arguments, keyword_in, raw_of, rest_of, here, number, text, word, keyword_of, RefusedAt}
 use Rattle.crs_text.specs.declared.keyword.Keyword.{Keyword}
 use Rattle.crs_shape.specs.declared.class.Class.{Class}
 use Rattle.crs_shape.specs.declared.class.Class.TheVariants as class
 use Rattle.crs_shape.specs.declared.unit_kind.UnitKind.{UnitKind}
 use Rattle.crs_shape.specs.declared.unit_kind.UnitKind.TheVariants as kinds
-use Rattle.crs_shape.specs.Prelude.{asked_kind, SpellsWord, unit_word, Shaped}
+use Rattle.crs_shape.specs.inner.Prelude.{asked_kind, SpellsWord, unit_word, Shaped}
 use Rattle.crs_value.specs.Checks.{Asks, Fits, units_in, Misfits, BadOwnUnit, HasOwnUnit, BadShared, BadUnit, AllAsk, at, AnyOf, IsLeast}
 use Rattle.crs_value.specs.inner.FoundArguments.{from_found, AllShaped}
 use Rattle.crs_value.specs.inner.Least.{lesser}
-use Rattle.crs_value.specs.Reading.{item_at, those, Holds, IsFound, IsReading}
+use Rattle.crs_value.specs.Reading.{those, IsReading}
+use Rattle.crs_value.specs.inner.Arguments.{item_at, Holds, IsFound}
 use Rattle.crs_value.specs.Reads.{ReadsDirection, ReadsKind}
 use Rattle.crs_value.proofs.found.ArgumentLemmas.{SlotsBound, found-is, found-holds, found-shaped}
 use Rattle.crs_value.proofs.checked.CheckLemmas.{only-of}

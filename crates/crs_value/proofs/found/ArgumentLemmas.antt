@@ -1,15 +1,17 @@
 -- Arguments: those of a class, one after another, are sound where their node is, and as many as its slots require.
 use Rattle.std.proofs.Common.{◌≡◌, ◌≢◌, ℕ, zero, suc, ◌+◌, ◌<◌, ◌≤◌, length, drop, take, Bool, true, false, IsTrue, inl, inr, Option, Some, None, List, [], ◌∷◌, ◌++◌, if◌then◌else◌, refl, sym, ◌∙◌, ap, subst, arith, rules}
 use denote.Enum.Bare.{sameb, same_true}
-use Rattle.crs_text.specs.Prelude.{Item, leaf, node, Siblings, End, More, arguments, first_of, rest_of, kind_of_item, HasId, IsAt, RefusedAt, Kind, number, AreFormed, AreAllFormed}
+use Rattle.crs_text.specs.inner.Prelude.{Item, leaf, node, Siblings, End, More, arguments, first_of, rest_of, kind_of_item, HasId, IsAt, RefusedAt, Kind, number, AreFormed, AreAllFormed}
 use Rattle.crs_shape.specs.contracts.class.Class.{the_type}
 use Rattle.crs_text.specs.declared.items.ItemKind.TheVariants as kinds
 use Rattle.crs_shape.specs.declared.class.Class.{Class}
 use Rattle.crs_shape.specs.declared.class.Class.TheVariants as class
-use Rattle.crs_shape.specs.Prelude.{is_keyword, one_if, how_many, is_bounded, least, most, Allowed, Shaped, AreShaped, class_in, class_of_kind, SlotParts, slots_of, is_class}
+use Rattle.crs_shape.specs.inner.Prelude.{is_keyword, one_if, how_many, is_bounded, least, most, Allowed, Shaped, AreShaped, class_in, class_of_kind, SlotParts, slots_of, is_class}
 use Rattle.crs_value.specs.inner.FoundArguments.{from_found, AllShaped}
-use Rattle.crs_value.specs.Checks.{AtClass, Breaks, BreaksAmong, IsSound}
-use Rattle.crs_value.specs.Reading.{Each, item_at, is_same, is_a, those, ahead, Holds, IsFound}
+use Rattle.crs_value.specs.Checks.{AtClass, Breaks, BreaksAmong}
+use Rattle.crs_value.specs.inner.ReadOnce.{IsSound}
+use Rattle.crs_value.specs.Reading.{Each, is_same, is_a, those}
+use Rattle.crs_value.specs.inner.Arguments.{item_at, ahead, Holds, IsFound}
 
 pub ahead_at : (tree : Item) (items : Siblings) (at : Option ℕ) → IsAt tree items at → ahead tree at ≡ items
 ahead_at tree items None e = sym e

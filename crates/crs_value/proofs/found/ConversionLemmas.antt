@@ -1,6 +1,6 @@
 -- The search for the unit of a parameter among its classes.
 use Rattle.std.proofs.Common.{◌≡◌, ℕ, zero, suc, ◌<◌, ◌≤◌, length, drop, slice_index_or, Option, Some, None, List, [], ◌∷◌, sym, subst, arith}
-use Rattle.crs_text.specs.Prelude.{Item, arguments}
+use Rattle.crs_text.specs.inner.Prelude.{Item, arguments}
 use Rattle.crs_shape.specs.declared.class.Class.{Class}
 use Rattle.crs_shape.specs.declared.class.Class.TheVariants as class
 use Rattle.crs_value.specs.Reading.{those, ReadsElse}

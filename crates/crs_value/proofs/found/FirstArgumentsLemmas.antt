@@ -1,12 +1,13 @@
 -- The first arguments of a node of some classes, found in one walk.
 use Rattle.std.proofs.Common.{◌≡◌, ℕ, ◌+◌, ◌≤◌, length, map, Bool, true, false, List, [], ◌∷◌, Option, Some, None, sym, ◌∙◌, ap, subst, arith}
-use Rattle.crs_text.specs.Prelude.{Item, Siblings, rest_of, here, HasId, IsAt}
+use Rattle.crs_text.specs.inner.Prelude.{Item, Siblings, rest_of, here, HasId, IsAt}
 use Rattle.crs_shape.specs.declared.class.Class.{Class}
 use Rattle.crs_shape.specs.declared.class.Class.TheVariants as class
-use Rattle.crs_shape.specs.Prelude.{one_if, class_in, is_class}
+use Rattle.crs_shape.specs.inner.Prelude.{one_if, class_in, is_class}
 use Rattle.crs_value.specs.declared.reading.firsts.Firsts.{Firsts}
 use Rattle.crs_value.specs.inner.FirstArguments.{AreNoted, fields, first_with}
-use Rattle.crs_value.specs.Reading.{Each, item_at, is_same, is_a, those, ahead, Holds, IsFound}
+use Rattle.crs_value.specs.Reading.{Each, is_same, is_a, those}
+use Rattle.crs_value.specs.inner.Arguments.{item_at, ahead, Holds, IsFound}
 use Rattle.crs_value.proofs.found.ArgumentLemmas.{ahead_at, each-as, holds_at, those-first, those-later}
 
 -- the first of a class so far, where these are left

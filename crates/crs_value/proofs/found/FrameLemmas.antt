@@ -1,10 +1,11 @@
 -- A node whose slots require an argument of one of some classes has one.
 use Rattle.std.proofs.Common.{◌≡◌, ◌+◌, ◌≤◌, length, Bool, true, false, ◌||◌, List, [], ◌∷◌, refl, sym, subst, ap, arith}
 use Rattle.std.specs.List.{list_any}
-use Rattle.crs_text.specs.Prelude.{Item, leaf, node, More, arguments, Kind, number}
+use Rattle.crs_text.specs.inner.Prelude.{Item, leaf, node, More, arguments, Kind, number}
 use Rattle.crs_shape.specs.declared.class.Class.{Class}
-use Rattle.crs_shape.specs.Prelude.{one_if, how_many, Shaped, class_of_kind, slots_of}
-use Rattle.crs_value.specs.Reading.{is_same, those, RequiresOneOf}
+use Rattle.crs_shape.specs.inner.Prelude.{one_if, how_many, Shaped, class_of_kind, slots_of}
+use Rattle.crs_value.specs.Reading.{is_same, those}
+use Rattle.crs_value.specs.inner.Arguments.{RequiresOneOf}
 use Rattle.crs_value.proofs.found.ArgumentLemmas.{SlotsCount, those-many, same_class}
 
 -- the node has no argument of these classes

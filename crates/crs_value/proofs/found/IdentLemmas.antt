@@ -1,9 +1,9 @@
 -- The second argument of an identifier is no node.
 use Rattle.std.proofs.Common.{◌≡◌, ◌≢◌, ℕ, true, false, List, [], ◌∷◌, ◌++◌, refl, ◌∙◌, ap, subst, arith, IsTrue}
-use Rattle.crs_text.specs.Prelude.{Item, leaf, node, Siblings, End, More, arguments, skip, Kind, number}
+use Rattle.crs_text.specs.inner.Prelude.{Item, leaf, node, Siblings, End, More, arguments, skip, Kind, number}
 use Rattle.crs_shape.specs.declared.class.Class.{Class}
 use Rattle.crs_shape.specs.declared.class.Class.TheVariants as class
-use Rattle.crs_shape.specs.Prelude.{is_keyword, Fills, Allowed, joined, Shaped, AreShaped, SlotParts, slots_of, takes, one, one_of}
+use Rattle.crs_shape.specs.inner.Prelude.{is_keyword, Fills, Allowed, joined, Shaped, AreShaped, SlotParts, slots_of, takes, one, one_of}
 use Rattle.crs_value.specs.Reads.{single_of}
 
 abbrev code_slot : SlotParts

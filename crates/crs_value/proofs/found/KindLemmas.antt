@@ -1,6 +1,6 @@
 -- The kind of a CRS, from its class and the type of its system.
 use Rattle.std.proofs.Common.{◌≡◌, List, [], ◌∷◌, ap, subst}
-use Rattle.crs_text.specs.Prelude.{Item, arguments}
+use Rattle.crs_text.specs.inner.Prelude.{Item, arguments}
 use Rattle.crs_shape.specs.declared.class.Class.{Class}
 use Rattle.crs_shape.specs.declared.class.Class.TheVariants as class
 use Rattle.crs_shape.specs.declared.system_type.SystemType.{SystemType}

@@ -2,12 +2,13 @@
 use Rattle.std.proofs.Common.{◌≡◌, ℕ, zero, suc, ◌+◌, ◌<◌, ◌≤◌, length, drop, Option, Some, None, List, [], ◌∷◌, ◌++◌, refl, sym, subst, add-one, arith}
 use Rattle.std.proofs.lemmas.List.{append-nil}
 use Rattle.std.specs.Option.{IsSome}
-use Rattle.crs_text.specs.Prelude.{Item, arguments, rest_of, here}
+use Rattle.crs_text.specs.inner.Prelude.{Item, arguments, rest_of, here}
 use Rattle.crs_shape.specs.declared.class.Class.{Class}
-use Rattle.crs_shape.specs.Prelude.{least, slots_of, Shaped}
+use Rattle.crs_shape.specs.inner.Prelude.{least, slots_of, Shaped}
 use Rattle.crs_value.specs.inner.FoundArguments.{from_found}
-use Rattle.crs_value.specs.Checks.{IsSound}
-use Rattle.crs_value.specs.Reading.{item_at, is_same, those, Holds, IsFound, ReadsFirst, ReadsOptional, ReadsEach}
+use Rattle.crs_value.specs.inner.ReadOnce.{IsSound}
+use Rattle.crs_value.specs.Reading.{is_same, those, ReadsFirst, ReadsOptional, ReadsEach}
+use Rattle.crs_value.specs.inner.Arguments.{item_at, Holds, IsFound}
 use Rattle.crs_value.proofs.found.ArgumentLemmas.{AllSound, SlotsCount, arguments-many, found-is, found-holds, arguments-sound, each-drop, all-shaped, arguments-shaped}
 
 -- the list holds the values of those before; with the values of the rest it is that of all

@@ -1,6 +1,6 @@
 -- Uniqueness of coordinate reference systems: an item reads as at most one.
 use Rattle.std.proofs.Common.{◌≡◌, Some, None, List, [], ◌∷◌, refl, ap, subst}
-use Rattle.crs_text.specs.Prelude.{Item, arguments}
+use Rattle.crs_text.specs.inner.Prelude.{Item, arguments}
 use Rattle.crs_shape.specs.declared.class.Class.{Class}
 use Rattle.crs_shape.specs.declared.class.Class.TheVariants as class
 use Rattle.crs_value.specs.declared.values.compound.Horizontal.TheVariants as horizontals

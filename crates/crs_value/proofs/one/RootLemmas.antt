@@ -1,11 +1,12 @@
 -- From a root without a fault of shape to its shape.
 use Rattle.std.proofs.Common.{◌≡◌, ◌↔◌, ℕ, true, false, inl, inr, Some, List, [], ◌∷◌, if◌then◌else◌, sym, ◌∙◌, subst}
 use Rattle.std.proofs.lemmas.Option.{same_Some}
-use Rattle.crs_text.specs.Prelude.{Item, leaf, node, RefusedAt, AreFormed}
+use Rattle.crs_text.specs.inner.Prelude.{Item, leaf, node, RefusedAt, AreFormed}
 use Rattle.crs_shape.specs.declared.class.Class.{Class}
-use Rattle.crs_shape.specs.Prelude.{is_keyword, first_named, root_classes, root_named, Shaped, IsFree, Inside, AtRoot, class_of_root}
+use Rattle.crs_shape.specs.inner.Prelude.{is_keyword, first_named, root_classes, root_named, Shaped, IsFree, Inside, AtRoot, class_of_root}
 use Rattle.crs_value.specs.declared.values.crs.Crs.{Crs}
-use Rattle.crs_value.specs.Checks.{IsLeast, Breaks, IsSound}
+use Rattle.crs_value.specs.Checks.{IsLeast, Breaks}
+use Rattle.crs_value.specs.inner.ReadOnce.{IsSound}
 use Rattle.crs_value.specs.inner.FoundArguments.{IsAmong}
 use Rattle.crs_value.specs.ReadsCrs.{ReadsCrs}
 use Rattle.crs_value.specs.Spells.{SpellsCrs, BreaksFirst, RefusesCrs}

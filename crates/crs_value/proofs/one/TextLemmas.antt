@@ -1,7 +1,7 @@
 -- A text spells one value at most or is refused once at most, and never both.
 use Rattle.std.proofs.Common.{◌≡◌, ℕ, inl, inr, List, subst}
-use Rattle.crs_text.specs.Prelude.{Item, RefusedAt, SpellsNode, RefusesText}
-use Rattle.crs_shape.specs.Prelude.{AtRoot}
+use Rattle.crs_text.specs.inner.Prelude.{Item, RefusedAt, SpellsNode, RefusesText}
+use Rattle.crs_shape.specs.inner.Prelude.{AtRoot}
 use Rattle.crs_value.specs.declared.values.crs.Crs.{Crs}
 use Rattle.crs_value.specs.Spells.{SpellsCrs, RefusesCrs}
 use Rattle.crs_value.specs.SpellsText.{Spells, Refuses}

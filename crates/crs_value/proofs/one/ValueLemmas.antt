@@ -1,6 +1,6 @@
 -- Uniqueness: an item reads as at most one value, and of faults one is the first.
 use Rattle.std.proofs.Common.{◌≡◌, ℕ, drop, ⊎_elim, Option, Some, None, List, [], ◌∷◌, refl, sym, ◌∙◌, ap, IsSome}
-use Rattle.crs_text.specs.Prelude.{Item, arguments, raw_of, skip, RefusedAt}
+use Rattle.crs_text.specs.inner.Prelude.{Item, arguments, raw_of, skip, RefusedAt}
 use Rattle.crs_shape.specs.declared.class.Class.{Class}
 use Rattle.crs_shape.specs.declared.class.Class.TheVariants as class
 use Rattle.crs_value.specs.Checks.{IsLeast}

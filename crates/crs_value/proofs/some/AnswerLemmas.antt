@@ -1,8 +1,8 @@
 -- Each text is spelled or refused, with a number of a refusal at a place within it.
 use Rattle.std.proofs.Common.{◌≡◌, ℕ, ◌<◌, ◌≤◌, length, ◌⊎◌, ⊎_elim, inl, inr, Option, Some, None, List, refl, subst, arith}
-use Rattle.crs_text.specs.Prelude.{Item, RefusedAt, SpellsNode, RefusesText, AreFormed}
+use Rattle.crs_text.specs.inner.Prelude.{Item, RefusedAt, SpellsNode, RefusesText, AreFormed}
 use Rattle.crs_shape.specs.declared.class.Class.{Class}
-use Rattle.crs_shape.specs.Prelude.{IsFree, AtRoot, IsPlaceIn, IsShapeNumber, class_of_root, misplaced}
+use Rattle.crs_shape.specs.inner.Prelude.{IsFree, AtRoot, IsPlaceIn, IsShapeNumber, class_of_root, misplaced}
 use Rattle.crs_value.specs.declared.values.crs.Crs.{Crs}
 use Rattle.crs_value.specs.Checks.{IsLeast, Breaks}
 use Rattle.crs_value.specs.ReadsCrs.{ReadsCrs}

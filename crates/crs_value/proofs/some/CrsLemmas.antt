@@ -1,17 +1,19 @@
 -- What a coordinate reference system says, where it is sound and its tokens are well formed: there is a value.
 use Rattle.std.proofs.Common.{◌≡◌, inl, inr, Some, None, List, [], ◌∷◌, refl, sym, subst, arith}
-use Rattle.crs_text.specs.Prelude.{Item, arguments}
+use Rattle.crs_text.specs.inner.Prelude.{Item, arguments}
 use Rattle.crs_shape.specs.declared.class.Class.{Class}
 use Rattle.crs_shape.specs.declared.class.Class.TheVariants as class
-use Rattle.crs_shape.specs.Prelude.{root_classes}
+use Rattle.crs_shape.specs.inner.Prelude.{root_classes}
 use Rattle.crs_value.specs.declared.values.compound.Horizontal.{Horizontal}
 use Rattle.crs_value.specs.declared.values.compound.Horizontal.TheVariants as horizontals
 use Rattle.crs_value.specs.declared.values.crs.Crs.TheVariants as crs
 use Rattle.crs_value.specs.declared.values.frame.Frame.TheVariants as frames
-use Rattle.crs_value.specs.Checks.{IsSound}
+use Rattle.crs_value.specs.inner.ReadOnce.{IsSound}
 use Rattle.crs_value.specs.inner.FoundArguments.{IsAmong}
-use Rattle.crs_value.specs.Reading.{Each, those, Requires, RequiresOneOf, ReadsFirst, ReadsElse}
-use Rattle.crs_value.specs.Reads.{IsUnitClass, ReadsNumberOf, ReadsUnit, ReadsMeridian, ReadsAsUnit, ReadsUnitOf, parameter_units, ReadsParameter, ReadsConversion, ReadsDynamic}
+use Rattle.crs_value.specs.Reading.{Each, those, ReadsFirst, ReadsElse}
+use Rattle.crs_value.specs.inner.Arguments.{Requires, RequiresOneOf}
+use Rattle.crs_value.specs.Reads.{ReadsNumberOf, ReadsUnit, ReadsMeridian, ReadsAsUnit, ReadsUnitOf, parameter_units, ReadsParameter, ReadsConversion, ReadsDynamic}
+use Rattle.crs_value.specs.inner.Classes.{IsUnitClass}
 use Rattle.crs_value.specs.ReadsNamed.{ReadsNamed}
 use Rattle.crs_value.specs.ReadsCrs.{IsGeodeticClass, ReadsAsDatum, ReadsAsEnsemble, ReadsFrame, ReadsGeodetic, ReadsBase, ReadsProjected, ReadsVertical, ReadsAsHorizontal, ReadsHorizontal, ReadsCompound, ReadsCrs}
 use Rattle.crs_value.proofs.found.ArgumentLemmas.{SlotsCount, arguments-sound}

@@ -7,13 +7,13 @@ use Rattle.std.proofs.lemmas.Bool.Decides.{Decides-int_eq}
 use Rattle.std.specs.Bool.{beq}
 use Rattle.std.specs.Cmp.{booleans_Decides}
 use denote.Enum.Bare.{sameb, same_true, true_same}
-use Rattle.crs_decimal.specs.Prelude.{Number, SameNumber, whole_number, Value, exact}
+use Rattle.crs_decimal.specs.inner.Prelude.{Number, SameNumber, whole_number, Value, exact}
 use Rattle.crs_shape.specs.declared.system_type.SystemType.{SystemType}
 use Rattle.crs_shape.specs.declared.system_type.SystemType.TheVariants as types
 use Rattle.crs_shape.specs.contracts.unit_kind.UnitKind.{the_type}
 use Rattle.crs_shape.specs.declared.unit_kind.UnitKind.{UnitKind}
 use Rattle.crs_shape.specs.declared.unit_kind.UnitKind.TheVariants as kinds
-use Rattle.crs_shape.specs.Prelude.{IsOneOf, SpellsWord, direction_word, every_direction, every_type, system_word}
+use Rattle.crs_shape.specs.inner.Prelude.{IsOneOf, SpellsWord, direction_word, every_direction, every_type, system_word}
 use Rattle.crs_value.specs.Checks.{IsAboveZero, IsPosition}
 use Rattle.crs_value.specs.Reading.{OneIs}
 use Rattle.crs_value.specs.Sound.{Each, Suits}

@@ -1,11 +1,11 @@
 -- Items of their shape within a text, whose tokens are well formed: the same holds for their arguments, and
 -- their numbers have values.
 use Rattle.std.proofs.Common.{ℕ, inr, List, [], ◌∷◌}
-use Rattle.crs_decimal.specs.Prelude.{IsInBounds, Denotes, Value, IsNormal, exact}
-use Rattle.crs_text.specs.Prelude.{number, Item, leaf, node, Siblings, End, More, arguments, AreFormed, AreAllFormed}
+use Rattle.crs_decimal.specs.inner.Prelude.{IsInBounds, Denotes, Value, IsNormal, exact}
+use Rattle.crs_text.specs.inner.Prelude.{number, Item, leaf, node, Siblings, End, More, arguments, AreFormed, AreAllFormed}
 use Rattle.crs_shape.specs.declared.class.Class.{Class}
 use Rattle.crs_shape.specs.declared.class.Class.TheVariants as class
-use Rattle.crs_shape.specs.Prelude.{Shaped}
+use Rattle.crs_shape.specs.inner.Prelude.{Shaped}
 use Rattle.crs_value.specs.inner.FoundArguments.{AllShaped}
 use Rattle.crs_value.specs.Reading.{Each, is_a, those, ReadsFirst}
 use Rattle.crs_value.specs.Reads.{ReadsNumber}

@@ -1,10 +1,10 @@
 -- In an item of its shape some check is broken first, or none is.
 use Rattle.std.proofs.Common.{◌≡◌, ◌≢◌, ℕ, ◌⊎◌, ⊎_elim, inl, inr, length, take, drop, true, Option, Some, None, List, [], ◌∷◌, ◌++◌, refl, sym, subst, arith}
-use Rattle.crs_decimal.specs.Prelude.{SameNumber, whole_number, Value, exact}
-use Rattle.crs_text.specs.Prelude.{Item, leaf, node, Siblings, End, More, arguments, raw_of, RefusedAt, AreAllFormed}
+use Rattle.crs_decimal.specs.inner.Prelude.{SameNumber, whole_number, Value, exact}
+use Rattle.crs_text.specs.inner.Prelude.{Item, leaf, node, Siblings, End, More, arguments, raw_of, RefusedAt, AreAllFormed}
 use Rattle.crs_shape.specs.declared.class.Class.{Class}
 use Rattle.crs_shape.specs.declared.class.Class.TheVariants as class
-use Rattle.crs_shape.specs.Prelude.{AreShaped, class_in, IsOneOf, dimensions_of, asked_kind, unit_word}
+use Rattle.crs_shape.specs.inner.Prelude.{AreShaped, class_in, IsOneOf, dimensions_of, asked_kind, unit_word}
 use Rattle.crs_shape.specs.declared.system_type.SystemType.{SystemType}
 use Rattle.crs_shape.specs.declared.system_type.SystemType.TheVariants as types
 use Rattle.crs_shape.specs.declared.unit_kind.UnitKind.{UnitKind}

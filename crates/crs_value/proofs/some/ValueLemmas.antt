@@ -1,14 +1,16 @@
 -- What an item says, where it is sound and its tokens are well formed: there is a value.
 use Rattle.std.proofs.Common.{◌≡◌, ℕ, inl, inr, ⊎_elim, drop, Option, Some, None, List, [], ◌∷◌, refl, arith}
-use Rattle.crs_decimal.specs.Prelude.{Value}
-use Rattle.crs_text.specs.Prelude.{Item, arguments, raw_of, skip}
+use Rattle.crs_decimal.specs.inner.Prelude.{Value}
+use Rattle.crs_text.specs.inner.Prelude.{Item, arguments, raw_of, skip}
 use Rattle.crs_shape.specs.declared.class.Class.{Class}
 use Rattle.crs_shape.specs.declared.class.Class.TheVariants as class
 use Rattle.crs_shape.specs.declared.system_type.SystemType.{SystemType}
-use Rattle.crs_shape.specs.Prelude.{SpellsWord, unit_word}
-use Rattle.crs_value.specs.Checks.{IsSound}
-use Rattle.crs_value.specs.Reading.{those, Requires, ReadsFirst, ReadsOptional, ReadsEach, ReadsElse}
-use Rattle.crs_value.specs.Reads.{ReadsNumber, ReadsType, ReadsDirection, ReadsKind, ReadsNumberOf, ReadsNumberAt, IsUnitClass, ReadsUnit, ReadsAxisMeridian, ReadsAxis, ReadsHead, ReadsSystem, ReadsEllipsoid, ReadsMeridian, ReadsDatum, ReadsEnsemble, ReadsBox, ReadsExtent, ReadsUsage, ReadsBare, ReadsTail}
+use Rattle.crs_shape.specs.inner.Prelude.{SpellsWord, unit_word}
+use Rattle.crs_value.specs.inner.ReadOnce.{IsSound}
+use Rattle.crs_value.specs.Reading.{those, ReadsFirst, ReadsOptional, ReadsEach, ReadsElse}
+use Rattle.crs_value.specs.inner.Arguments.{Requires}
+use Rattle.crs_value.specs.Reads.{ReadsNumber, ReadsType, ReadsDirection, ReadsKind, ReadsNumberOf, ReadsNumberAt, ReadsUnit, ReadsAxisMeridian, ReadsAxis, ReadsHead, ReadsSystem, ReadsEllipsoid, ReadsMeridian, ReadsDatum, ReadsEnsemble, ReadsBox, ReadsExtent, ReadsUsage, ReadsBare, ReadsTail}
+use Rattle.crs_value.specs.inner.Classes.{IsUnitClass}
 use Rattle.crs_value.specs.ReadsNamed.{ReadsText, ReadsTextOf, single_of, ReadsIdent, ReadsIds, ReadsNamed}
 use Rattle.crs_value.specs.NamedValues.{IdentParts}
 use Rattle.crs_value.specs.Values.{AxisParts, UnitParts, SystemParts, BoxParts, ExtentParts}

@@ -1,5 +1,5 @@
 -- What sound axes say is sound.
-use Rattle.crs_decimal.specs.Prelude.{IsNormal}
+use Rattle.crs_decimal.specs.inner.Prelude.{IsNormal}
 use Rattle.crs_shape.specs.declared.class.Class.{Class}
 use Rattle.crs_shape.specs.declared.class.Class.TheVariants as class
 use Rattle.crs_shape.specs.declared.unit_kind.UnitKind.TheVariants as kinds

@@ -1,6 +1,6 @@
 -- What a sound compound CRS says is sound, and so what any sound text says.
 use Rattle.std.proofs.Common.{◌≡◌, inl, inr, List, [], ◌∷◌, refl}
-use Rattle.crs_text.specs.Prelude.{Item, arguments, RefusedAt, AreFormed}
+use Rattle.crs_text.specs.inner.Prelude.{Item, arguments, RefusedAt, AreFormed}
 use Rattle.crs_shape.specs.declared.class.Class.{Class}
 use Rattle.crs_shape.specs.declared.class.Class.TheVariants as class
 use Rattle.crs_shape.specs.declared.system_type.SystemType.TheVariants as types
@@ -8,7 +8,8 @@ use Rattle.crs_value.specs.declared.values.compound.Horizontal.{Horizontal}
 use Rattle.crs_value.specs.declared.values.compound.Horizontal.TheVariants as horizontal
 use Rattle.crs_value.specs.declared.values.crs.Crs.{Crs}
 use Rattle.crs_value.specs.declared.values.crs.Crs.TheVariants as crs
-use Rattle.crs_value.specs.Checks.{IsNotEllipsoidal, IsNotPlane, IsNotHorizontal, BadComponent, BadComponents, at, AnyOf, FirstIs, horizontal_classes, Own, IsSound}
+use Rattle.crs_value.specs.Checks.{IsNotEllipsoidal, IsNotPlane, IsNotHorizontal, BadComponent, BadComponents, at, AnyOf, FirstIs, horizontal_classes, Own}
+use Rattle.crs_value.specs.inner.ReadOnce.{IsSound}
 use Rattle.crs_value.specs.Reading.{Each, those, ReadsFirst}
 use Rattle.crs_value.specs.Reads.{ReadsHead}
 use Rattle.crs_value.specs.ReadsCrs.{IsGeodeticClass, ReadsVertical, ReadsProjected, ReadsAsHorizontal, ReadsCompound, ReadsCrs}

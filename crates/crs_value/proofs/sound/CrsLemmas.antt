@@ -1,17 +1,20 @@
 -- What sound geodetic, projected and vertical CRSs say is sound.
 use Rattle.std.proofs.Common.{◌≡◌, IsTrue, inl, inr, Option, refl, arith, IsSome, IsNone}
-use Rattle.crs_decimal.specs.Prelude.{Value}
-use Rattle.crs_text.specs.Prelude.{Item, arguments}
+use Rattle.crs_decimal.specs.inner.Prelude.{Value}
+use Rattle.crs_text.specs.inner.Prelude.{Item, arguments}
 use Rattle.crs_shape.specs.declared.class.Class.{Class}
 use Rattle.crs_shape.specs.declared.class.Class.TheVariants as class
 use Rattle.crs_shape.specs.declared.system_type.SystemType.{SystemType}
 use Rattle.crs_shape.specs.declared.system_type.SystemType.TheVariants as types
 use Rattle.crs_shape.specs.declared.unit_kind.UnitKind.TheVariants as kinds
-use Rattle.crs_shape.specs.Prelude.{most, is_bounded, slots_of, IsOneOf, dimensions_of}
+use Rattle.crs_shape.specs.inner.Prelude.{most, is_bounded, slots_of, IsOneOf, dimensions_of}
 use Rattle.crs_value.specs.declared.values.frame.Frame.{Frame}
 use Rattle.crs_value.specs.declared.values.frame.Frame.TheVariants as frames
-use Rattle.crs_value.specs.Checks.{HasSystem, IsSound, Own}
-use Rattle.crs_value.specs.Reading.{is_same, those, Requires, ReadsOptional, ReadsOne}
+use Rattle.crs_value.specs.Checks.{Own}
+use Rattle.crs_value.specs.inner.Classes.{HasSystem}
+use Rattle.crs_value.specs.inner.ReadOnce.{IsSound}
+use Rattle.crs_value.specs.Reading.{is_same, those, ReadsOptional, ReadsOne}
+use Rattle.crs_value.specs.inner.Arguments.{Requires}
 use Rattle.crs_value.specs.Reads.{ReadsUnit, ReadsEllipsoid, ReadsMeridian, ReadsDatum, ReadsEnsemble, ReadsSystem, ReadsConversion}
 use Rattle.crs_value.specs.ReadsNamed.{ReadsNamed}
 use Rattle.crs_value.specs.ReadsCrs.{ReadsAsDatum, ReadsAsEnsemble, ReadsFrame, ReadsGeodeticFrame, IsGeodeticClass, ReadsGeodetic, ReadsBase, ReadsProjected, ReadsVertical}

@@ -1,12 +1,13 @@
 -- What sound dynamic parts say is sound, and none is beside an ensemble.
 use Rattle.std.proofs.Common.{◌≢◌, inl, Option, Some, None, List, [], ◌∷◌, refl, IfSome}
-use Rattle.crs_decimal.specs.Prelude.{IsNormal}
-use Rattle.crs_text.specs.Prelude.{Item, arguments, RefusedAt}
+use Rattle.crs_decimal.specs.inner.Prelude.{IsNormal}
+use Rattle.crs_text.specs.inner.Prelude.{Item, arguments, RefusedAt}
 use Rattle.crs_shape.specs.declared.class.Class.{Class}
 use Rattle.crs_shape.specs.declared.class.Class.TheVariants as class
 use Rattle.crs_value.specs.declared.values.frame.Frame.{Frame}
 use Rattle.crs_value.specs.declared.values.frame.Frame.TheVariants as frames
-use Rattle.crs_value.specs.Checks.{BadDynamic, HasEnsemble, IsUnsteady, at, AnyOf, IsSound}
+use Rattle.crs_value.specs.Checks.{BadDynamic, HasEnsemble, IsUnsteady, at, AnyOf}
+use Rattle.crs_value.specs.inner.ReadOnce.{IsSound}
 use Rattle.crs_value.specs.Values.{DynamicParts}
 use Rattle.crs_value.specs.Reading.{those, ReadsElse, ReadsFirst, ReadsOptional}
 use Rattle.crs_value.specs.Reads.{ReadsNumberOf, ReadsDynamic}

@@ -1,13 +1,14 @@
 -- What sound ellipsoids, prime meridians, reference frames and ensembles say is sound.
 use Rattle.std.proofs.Common.{◌≡◌, false, inl, inr, take, drop, List, [], ◌∷◌, refl}
 use Rattle.std.proofs.lemmas.Bool.{false_from_ne_true}
-use Rattle.crs_decimal.specs.Prelude.{Value, IsNormal}
-use Rattle.crs_text.specs.Prelude.{Item, arguments, RefusedAt}
+use Rattle.crs_decimal.specs.inner.Prelude.{Value, IsNormal}
+use Rattle.crs_text.specs.inner.Prelude.{Item, arguments, RefusedAt}
 use Rattle.crs_shape.specs.declared.class.Class.{Class}
 use Rattle.crs_shape.specs.declared.class.Class.TheVariants as class
 use Rattle.crs_shape.specs.declared.unit_kind.UnitKind.TheVariants as kinds
 use Rattle.crs_value.specs.Checks.{IsAboveZero, NotAbove, IsNegative, at, AnyOf, Own}
-use Rattle.crs_value.specs.Reading.{those, Requires, ReadsFirst, ReadsEach}
+use Rattle.crs_value.specs.Reading.{those, ReadsFirst, ReadsEach}
+use Rattle.crs_value.specs.inner.Arguments.{Requires}
 use Rattle.crs_value.specs.Reads.{ReadsNumber, ReadsNumberOf, ReadsUnit, ReadsEllipsoid, ReadsMeridian, ReadsDatum, ReadsEnsemble}
 use Rattle.crs_value.specs.ReadsNamed.{ReadsNamed}
 use Rattle.crs_value.specs.Sound.{IsNamed, IsUnitOf}

@@ -4,17 +4,19 @@ use Rattle.std.proofs.lemmas.Bool.{or_cases}
 use Rattle.std.specs.Str.{str_eq_ignore_ascii_case, str_to_ascii_lowercase}
 use Rattle.std.proofs.lemmas.Slice.Eq.{bytes_eq-Decides}
 use Rattle.crs_text.specs.declared.keyword.Keyword.{Keyword}
-use Rattle.crs_text.specs.Prelude.{spelling_of, Item, leaf, node, arguments, raw_of, RefusedAt, Kind, number, text, word}
+use Rattle.crs_text.specs.inner.Prelude.{spelling_of, Item, leaf, node, arguments, raw_of, RefusedAt, Kind, number, text, word}
 use Rattle.crs_shape.specs.declared.class.Class.{Class}
 use Rattle.crs_shape.specs.declared.class.Class.TheVariants as class
-use Rattle.crs_shape.specs.Prelude.{is_keyword, is_one_of, keywords_of, Shaped, SpellsWord, unit_word}
+use Rattle.crs_shape.specs.inner.Prelude.{is_keyword, is_one_of, keywords_of, Shaped, SpellsWord, unit_word}
 use Rattle.crs_shape.specs.declared.direction.Direction.{Direction}
 use Rattle.crs_shape.specs.declared.system_type.SystemType.{SystemType}
 use Rattle.crs_shape.specs.declared.unit_kind.UnitKind.{UnitKind}
 use Rattle.crs_shape.specs.declared.unit_kind.UnitKind.TheVariants as kinds
-use Rattle.crs_value.specs.Checks.{at, Own, IsSound}
+use Rattle.crs_value.specs.Checks.{at, Own}
+use Rattle.crs_value.specs.inner.ReadOnce.{IsSound}
 use Rattle.crs_value.specs.Reading.{those}
-use Rattle.crs_value.specs.Reads.{ReadsType, ReadsDirection, ReadsKind, IsUnitClass}
+use Rattle.crs_value.specs.Reads.{ReadsType, ReadsDirection, ReadsKind}
+use Rattle.crs_value.specs.inner.Classes.{IsUnitClass}
 use Rattle.crs_value.proofs.found.ArgumentLemmas.{same_class}
 
 -- a number, a text or a word has no class of which this holds

@@ -5,16 +5,18 @@ use Rattle.std.proofs.lemmas.Bool.{and_parts, and_from}
 use Rattle.std.proofs.lemmas.Bool.Decides.{nat_tests}
 use Rattle.std.proofs.lemmas.Str.{IsUtf8-from_ascii}
 use Rattle.std.proofs.lemmas.Str.Ascii.{IsAscii-nil, IsAscii-cons}
-use Rattle.crs_decimal.specs.Prelude.{is_run_byte, Value, IsNormal}
-use Rattle.crs_text.specs.Prelude.{Item, leaf, node, Siblings, End, More, arguments, raw_of, skip, doubled, RefusedAt, Kind, number, text, word, IsSingle, IsWord, is_letter, is_word_byte, AreFormed, AreAllFormed}
+use Rattle.crs_decimal.specs.inner.Prelude.{is_run_byte, Value, IsNormal}
+use Rattle.crs_text.specs.inner.Prelude.{Item, leaf, node, Siblings, End, More, arguments, raw_of, skip, doubled, RefusedAt, Kind, number, text, word, IsSingle, IsWord, is_letter, is_word_byte, AreFormed, AreAllFormed}
 use Rattle.crs_shape.specs.declared.class.Class.{Class}
 use Rattle.crs_shape.specs.declared.class.Class.TheVariants as class
-use Rattle.crs_shape.specs.Prelude.{keywords_of, Shaped, SpellsWord, unit_word}
+use Rattle.crs_shape.specs.inner.Prelude.{keywords_of, Shaped, SpellsWord, unit_word}
 use Rattle.crs_shape.specs.declared.unit_kind.UnitKind.{UnitKind}
 use Rattle.crs_shape.specs.declared.unit_kind.UnitKind.TheVariants as kinds
-use Rattle.crs_value.specs.Checks.{IsAboveZero, NotAbove, at, AnyOf, OfUnit, Own, IsSound}
+use Rattle.crs_value.specs.Checks.{IsAboveZero, NotAbove, at, AnyOf, OfUnit, Own}
+use Rattle.crs_value.specs.inner.ReadOnce.{IsSound}
 use Rattle.crs_value.specs.Reading.{those, ReadsFirst, ReadsOptional, ReadsElse, ReadsEach}
-use Rattle.crs_value.specs.Reads.{ReadsNumber, ReadsKind, ReadsNumberOf, IsUnitClass, ReadsUnit}
+use Rattle.crs_value.specs.Reads.{ReadsNumber, ReadsKind, ReadsNumberOf, ReadsUnit}
+use Rattle.crs_value.specs.inner.Classes.{IsUnitClass}
 use Rattle.crs_value.specs.ReadsNamed.{ReadsText, ReadsTextOf, single_of, ReadsIdent, ReadsIds, ReadsNamed}
 use Rattle.crs_value.specs.Sound.{Each, IsText, IsIdent, IsNamed, IsUnit, Suits, IsUnitOf, IsAxisUnit}
 use Rattle.crs_value.specs.NamedValues.{IdentParts}

@@ -1,15 +1,18 @@
 -- What the nodes of a sound coordinate system say is sound: its count, its orders and its units.
 use Rattle.std.proofs.Common.{◌≡◌, ◌≢◌, ℕ, suc, length, inl, inr, ◌⊎◌, Option, Some, None, List, [], ◌∷◌, ◌++◌, refl, ap, subst, IsSomeAnd}
-use Rattle.crs_decimal.specs.Prelude.{SameNumber, whole_number, Value, IsNormal, exact}
-use Rattle.crs_text.specs.Prelude.{Item, arguments, raw_of, RefusedAt}
+use Rattle.crs_decimal.specs.inner.Prelude.{SameNumber, whole_number, Value, IsNormal, exact}
+use Rattle.crs_text.specs.inner.Prelude.{Item, arguments, raw_of, RefusedAt}
 use Rattle.crs_shape.specs.declared.class.Class.{Class}
 use Rattle.crs_shape.specs.declared.class.Class.TheVariants as class
 use Rattle.crs_shape.specs.declared.system_type.SystemType.{SystemType}
 use Rattle.crs_shape.specs.declared.unit_kind.UnitKind.{UnitKind}
 use Rattle.crs_shape.specs.declared.unit_kind.UnitKind.TheVariants as kinds
-use Rattle.crs_shape.specs.Prelude.{IsOneOf, dimensions_of, asked_kind}
-use Rattle.crs_value.specs.Checks.{IsPosition, orders_in, SomeHasOrder, AllHaveOrder, LacksOrder, OneHas, ReadsOrder, IsBadOrder, BadOrders, BadOrder, Asks, Fits, units_in, Misfits, BadOwnUnit, IsSuperfluous, HasOwnUnit, AllAsk, SharedFits, BadUnit, at, AnyOf, OfHead, BadSystems, HasSystem, IsSound}
-use Rattle.crs_value.specs.Reading.{OneIs, those, Requires, ReadsFirst, ReadsOptional, ReadsEach}
+use Rattle.crs_shape.specs.inner.Prelude.{IsOneOf, dimensions_of, asked_kind}
+use Rattle.crs_value.specs.Checks.{IsPosition, orders_in, SomeHasOrder, AllHaveOrder, LacksOrder, OneHas, ReadsOrder, IsBadOrder, BadOrders, BadOrder, Asks, Fits, units_in, Misfits, BadOwnUnit, IsSuperfluous, HasOwnUnit, AllAsk, SharedFits, BadUnit, at, AnyOf, OfHead, BadSystems}
+use Rattle.crs_value.specs.inner.Classes.{HasSystem}
+use Rattle.crs_value.specs.inner.ReadOnce.{IsSound}
+use Rattle.crs_value.specs.Reading.{OneIs, those, ReadsFirst, ReadsOptional, ReadsEach}
+use Rattle.crs_value.specs.inner.Arguments.{Requires}
 use Rattle.crs_value.specs.Reads.{HasType, ReadsKind, ReadsNumberOf, ReadsUnit, ReadsAxis, ReadsHead, ReadsSystem}
 use Rattle.crs_value.specs.Sound.{Each, IsIdent, Suits, IsAxisUnit, IsAxis, AreOrders, AreDistinct, HasOrders, SuitsAxis, SuitsAll, HasUnits, IsSystem}
 use Rattle.crs_value.specs.Values.{UnitParts, AxisParts, SystemParts}

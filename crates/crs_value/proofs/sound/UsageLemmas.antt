@@ -1,14 +1,14 @@
 -- What sound usages and ends of CRSs say is sound.
 use Rattle.std.proofs.Common.{◌≡◌, ◌≢◌, ℕ, ◌+◌, ◌≤◌, Bool, true, false, ◌||◌, not, IsTrue, drop, Option, Some, None, List, [], ◌∷◌, refl, ◌∙◌, ap, arith, IfSome, IsSome}
-use Rattle.crs_text.specs.Prelude.{Item, leaf, node, More, arguments}
+use Rattle.crs_text.specs.inner.Prelude.{Item, leaf, node, More, arguments}
 use Rattle.crs_shape.specs.declared.class.Class.{Class}
 use Rattle.crs_shape.specs.declared.class.Class.TheVariants as class
-use Rattle.crs_shape.specs.Prelude.{one_if, how_many, most, is_bounded, Allowed, Shaped, slots_of, is_class}
+use Rattle.crs_shape.specs.inner.Prelude.{one_if, how_many, most, is_bounded, Allowed, Shaped, slots_of, is_class}
 use Rattle.crs_shape.specs.declared.unit_kind.UnitKind.TheVariants as kinds
 use Rattle.crs_value.specs.Reading.{is_same, those}
 use Rattle.crs_value.specs.Reads.{ReadsTextOf, ReadsUnit, LacksUsage, ReadsBare, ReadsBox, ReadsExtent, ReadsUsage, ReadsTail}
 use Rattle.crs_value.specs.Sound.{IsUnitOf, IsBox, IsExtent, IsUsage, IsTail}
-use Rattle.crs_value.specs.Checks.{IsSound}
+use Rattle.crs_value.specs.inner.ReadOnce.{IsSound}
 use Rattle.crs_value.specs.Values.{UsageParts, SaysSome}
 use Rattle.crs_value.proofs.found.ArgumentLemmas.{SlotsBound, arguments-few, nothing, those-first}
 use Rattle.crs_value.proofs.sound.KnownWordLemmas.{not-leaf}

@@ -1,12 +1,13 @@
 -- What is seen of an axis: its direction, its order and its unit.
 use Rattle.std.proofs.Common.{◌≡◌, ℕ, ◌≤◌, length, true, false, Option, Some, None, ◌∷◌, IsTrue, refl, sym, ◌∙◌, ap, arith}
-use Rattle.crs_text.specs.Prelude.{Item, arguments, rest_of, here, IsAt}
+use Rattle.crs_text.specs.inner.Prelude.{Item, arguments, rest_of, here, IsAt}
 use Rattle.crs_shape.specs.declared.class.Class.{Class}
 use Rattle.crs_shape.specs.declared.class.Class.TheVariants as class
-use Rattle.crs_shape.specs.Prelude.{is_bounded, most, Shaped, class_in, slots_of, is_class}
+use Rattle.crs_shape.specs.inner.Prelude.{is_bounded, most, Shaped, class_in, slots_of, is_class}
 use Rattle.crs_value.specs.declared.judging.quick_checks.AxisFacts.{AxisFacts}
 use Rattle.crs_value.specs.Checks.{orders_in, units_in}
-use Rattle.crs_value.specs.Reading.{item_at, is_a, is_same, those, IsFound}
+use Rattle.crs_value.specs.Reading.{is_a, is_same, those}
+use Rattle.crs_value.specs.inner.Arguments.{item_at, IsFound}
 use Rattle.crs_value.specs.Reads.{ReadsDirection}
 use Rattle.crs_value.specs.inner.QuickChecks.{the_one, HasFacts, IsBehindName, IsShaped}
 use Rattle.crs_value.proofs.found.ArgumentLemmas.{SlotsBound, arguments-few, nothing, first-shaped, class-is, those-first, those-later}

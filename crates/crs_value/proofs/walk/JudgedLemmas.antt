@@ -4,14 +4,14 @@ use Rattle.std.proofs.Math.Bool.{or-true}
 use Rattle.std.proofs.lemmas.List.Folds.{list_any-append}
 use Rattle.std.proofs.lemmas.Option.{same_Some}
 use denote.Enum.Bare.{sameb, true_same, same_false, false_same}
-use Rattle.crs_text.specs.Prelude.{Item, leaf, node, Siblings, End, More, arguments, first_of, rest_of, close_of, here, HasId, IsAt, RefusedAt}
+use Rattle.crs_text.specs.inner.Prelude.{Item, leaf, node, Siblings, End, More, arguments, first_of, rest_of, close_of, here, HasId, IsAt, RefusedAt}
 use Rattle.crs_shape.specs.contracts.class.Class.{the_type}
 use Rattle.crs_shape.specs.declared.class.Class.{Class}
-use Rattle.crs_shape.specs.Prelude.{or_later, fault_by, step_as, first_inside, first_in_arguments, Shaped, class_in, is_of, misplaced, missing, SlotParts, is_class, takes, slots_of, again, any_of, one_of, some_of}
+use Rattle.crs_shape.specs.inner.Prelude.{or_later, fault_by, step_as, first_inside, first_in_arguments, Shaped, class_in, is_of, misplaced, missing, SlotParts, is_class, takes, slots_of, again, any_of, one_of, some_of}
 use Rattle.crs_value.specs.Checks.{IsLeast, AtClass, Own, Breaks, BreaksAmong}
 use Rattle.crs_value.specs.inner.Judged.{is_in, Gives, Judged, Walked, Passed, Answers}
 use Rattle.crs_value.specs.inner.Least.{lesser}
-use Rattle.crs_value.specs.Reading.{item_at, ahead}
+use Rattle.crs_value.specs.inner.Arguments.{item_at, ahead}
 use Rattle.crs_value.proofs.found.ArgumentLemmas.{ahead_at, class-is}
 use Rattle.crs_value.proofs.checked.LeastLemmas.{IsFirst, first-self, first-trans, least-either, least-same, least-beside}
 

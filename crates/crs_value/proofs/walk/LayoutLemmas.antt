@@ -4,18 +4,19 @@ use Rattle.std.specs.List.{list_any}
 use Rattle.std.proofs.lemmas.Bool.{and_parts, not-true, or_parts}
 use Rattle.std.proofs.lemmas.List.{append-nil}
 use Rattle.std.proofs.Math.Bool.{or-false}
-use Rattle.crs_text.specs.Prelude.{Item, Siblings, End, More, arguments, rest_of, here, HasId, IsAt, RefusedAt}
+use Rattle.crs_text.specs.inner.Prelude.{Item, Siblings, End, More, arguments, rest_of, here, HasId, IsAt, RefusedAt}
 use Rattle.crs_shape.specs.declared.class.Class.{Class}
 use Rattle.crs_shape.specs.declared.class.Class.TheVariants as class
 use Rattle.crs_shape.specs.declared.system_type.SystemType.{SystemType}
-use Rattle.crs_shape.specs.Prelude.{dimensions_of, first_in_arguments, Shaped, SlotParts, takes, one, some, optional}
+use Rattle.crs_shape.specs.inner.Prelude.{dimensions_of, first_in_arguments, Shaped, SlotParts, takes, one, some, optional}
 use Rattle.crs_value.specs.declared.judging.quick_checks.Layout.{Layout}
 use Rattle.crs_value.specs.declared.judging.quick_checks.AxesFacts.{AxesFacts}
 use Rattle.crs_value.specs.declared.judging.quick_checks.AxisFacts.{AxisFacts}
 use Rattle.crs_value.specs.Checks.{IsLeast, once, BreaksAmong, OfHead, RepeatsAny}
 use Rattle.crs_value.specs.inner.FoundArguments.{AllShaped}
 use Rattle.crs_value.specs.inner.Judged.{AllLeave, Gives, Leaves, Walked}
-use Rattle.crs_value.specs.Reading.{Each, item_at, is_a, ahead, those, Holds}
+use Rattle.crs_value.specs.Reading.{Each, is_a, those}
+use Rattle.crs_value.specs.inner.Arguments.{item_at, ahead, Holds}
 use Rattle.crs_value.specs.Reads.{HasType}
 use Rattle.crs_value.specs.inner.QuickChecks.{are_free, is_head, is_tail, the_one, AreOrdered, HasFacts, IsLaid, IsNoted, PassesButDynamic, HaveFacts, UnitsFit}
 use Rattle.crs_value.proofs.found.ArgumentLemmas.{ahead_at, all-shaped, arguments-shaped, each-both, holds_at, those-first}

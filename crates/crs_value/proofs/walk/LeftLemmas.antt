@@ -3,12 +3,13 @@ use Rattle.std.proofs.Common.{◌≡◌, ℕ, Bool, true, false, Option, Some, N
 use Rattle.std.specs.List.{list_any}
 use Rattle.std.proofs.lemmas.Bool.{or_parts}
 use denote.Enum.Bare.{sameb, false_same}
-use Rattle.crs_text.specs.Prelude.{Item, rest_of, here, HasId, IsAt, RefusedAt}
+use Rattle.crs_text.specs.inner.Prelude.{Item, rest_of, here, HasId, IsAt, RefusedAt}
 use Rattle.crs_shape.specs.contracts.class.Class.{the_type}
 use Rattle.crs_shape.specs.declared.class.Class.{Class}
-use Rattle.crs_shape.specs.Prelude.{SlotParts, is_class, takes, again}
+use Rattle.crs_shape.specs.inner.Prelude.{SlotParts, is_class, takes, again}
 use Rattle.crs_value.specs.inner.Judged.{AllLeave, AllPassed, Answers, Leaves, Passed}
-use Rattle.crs_value.specs.Reading.{item_at, is_a, those}
+use Rattle.crs_value.specs.Reading.{is_a, those}
+use Rattle.crs_value.specs.inner.Arguments.{item_at}
 use Rattle.crs_value.proofs.found.ArgumentLemmas.{ahead_at, those-later}
 
 pub leaves-none : (tree : Item) (c : Class) (slot : SlotParts) (at : Option ℕ) → Leaves tree c slot at at

@@ -1,18 +1,20 @@
 -- What is checked of a CRS as a whole: orders, units, dimensions and repeated parts.
 use Rattle.std.proofs.Common.{◌≡◌, ℕ, ◌+◌, ◌<◌, ◌≤◌, length, drop, Bool, true, false, inl, inr, ◌⊎◌, ⊎_elim, Option, Some, None, List, [], ◌∷◌, ◌++◌, refl, sym, ◌∙◌, ap, subst, arith}
 use Rattle.std.proofs.lemmas.Option.{same_Some}
-use Rattle.crs_decimal.specs.Prelude.{SameNumber, whole_number, Value, exact}
-use Rattle.crs_text.specs.Prelude.{Item, Siblings, arguments, rest_of, here, HasId, IsAt, RefusedAt}
+use Rattle.crs_decimal.specs.inner.Prelude.{SameNumber, whole_number, Value, exact}
+use Rattle.crs_text.specs.inner.Prelude.{Item, Siblings, arguments, rest_of, here, HasId, IsAt, RefusedAt}
 use Rattle.crs_shape.specs.declared.class.Class.{Class}
 use Rattle.crs_shape.specs.declared.class.Class.TheVariants as class
 use Rattle.crs_shape.specs.declared.system_type.SystemType.{SystemType}
 use Rattle.crs_shape.specs.declared.unit_kind.UnitKind.{UnitKind}
 use Rattle.crs_shape.specs.declared.unit_kind.UnitKind.TheVariants as kinds
-use Rattle.crs_shape.specs.Prelude.{IsOneOf, class_in}
+use Rattle.crs_shape.specs.inner.Prelude.{IsOneOf, class_in}
 use Rattle.crs_value.specs.declared.judging.quick_checks.AxesFacts.{AxesFacts}
-use Rattle.crs_value.specs.Checks.{BadDynamic, orders_in, SomeHasOrder, IsBadOrder, BadOrders, BadOrder, Asks, AllAsk, IsSuperfluous, HasOwnUnit, BadOwnUnit, BadUnit, AnyOf, IsLeast, BreaksAmong, HasSystem, OfHead, BadSystems, Own, IsRepeated, RepeatsAny}
+use Rattle.crs_value.specs.Checks.{BadDynamic, orders_in, SomeHasOrder, IsBadOrder, BadOrders, BadOrder, Asks, AllAsk, IsSuperfluous, HasOwnUnit, BadOwnUnit, BadUnit, AnyOf, IsLeast, BreaksAmong, OfHead, BadSystems, Own, IsRepeated, RepeatsAny}
+use Rattle.crs_value.specs.inner.Classes.{HasSystem}
 use Rattle.crs_value.specs.inner.Least.{lesser}
-use Rattle.crs_value.specs.Reading.{Each, OneIs, item_at, is_a, ahead, those}
+use Rattle.crs_value.specs.Reading.{Each, OneIs, is_a, those}
+use Rattle.crs_value.specs.inner.Arguments.{item_at, ahead}
 use Rattle.crs_value.specs.Reads.{HasType}
 use Rattle.crs_value.specs.inner.QuickChecks.{the_one, AreOrdered, HaveFacts, UnitsFit, PassesButDynamic, rank, Climbs}
 use Rattle.crs_value.specs.inner.WholeNumbers.{IsWholeOf}

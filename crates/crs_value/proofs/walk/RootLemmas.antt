@@ -1,9 +1,9 @@
 -- The judge of a whole text: what it answers of the root.
 use Rattle.std.proofs.Common.{◌≡◌, Bool, true, false, inl, inr, Option, Some, None, refl, sym, ◌∙◌, subst}
 use Rattle.std.proofs.lemmas.Option.{same_Some}
-use Rattle.crs_text.specs.Prelude.{Item, RefusedAt}
+use Rattle.crs_text.specs.inner.Prelude.{Item, RefusedAt}
 use Rattle.crs_shape.specs.declared.class.Class.{Class}
-use Rattle.crs_shape.specs.Prelude.{first_inside, Shaped, class_of_root, misplaced, AtRoot, Inside, IsFree, IsOnly}
+use Rattle.crs_shape.specs.inner.Prelude.{first_inside, Shaped, class_of_root, misplaced, AtRoot, Inside, IsFree, IsOnly}
 use Rattle.crs_value.specs.Checks.{IsLeast, Breaks}
 use Rattle.crs_value.specs.inner.Judged.{Gives, Judged}
 use Rattle.crs_value.specs.Spells.{RefusesCrs}

@@ -1,6 +1,6 @@
 -- Axes one after another, with what is seen of them.
 use Rattle.std.proofs.Common.{◌≡◌, ℕ, ◌+◌, length, true, false, Option, Some, None, List, [], ◌∷◌, ◌++◌, refl, sym, ◌∙◌, ap, subst, length-append, arith}
-use Rattle.crs_text.specs.Prelude.{Item}
+use Rattle.crs_text.specs.inner.Prelude.{Item}
 use Rattle.crs_shape.specs.declared.system_type.SystemType.{SystemType}
 use Rattle.crs_shape.specs.declared.unit_kind.UnitKind.TheVariants as kinds
 use Rattle.crs_value.specs.declared.judging.quick_checks.AxesFacts.{AxesFacts}

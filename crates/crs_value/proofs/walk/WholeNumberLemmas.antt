@@ -1,11 +1,12 @@
 -- Whole numbers that are read: of one digit at sight, and others as decimals.
 use Rattle.std.proofs.lemmas.Bool.Decides.{nat_tests}
 use Rattle.std.proofs.Common.{◌≡◌, ◌==◌, true, ◌⊎◌, ⊎_elim, ap, ℕ, ◌+◌, ◌-◌, ◌*◌, ◌<◌, ◌≤◌, Option, Some, None, List, [], ◌∷◌, length, refl, sym, subst, arith, IfSome}
-use Rattle.crs_decimal.specs.Prelude.{IsBounded, IsInBounds, Denotes, number_of, Number, SameNumber, whole_number, Sign, unsigned, plus, Parts, IsForm, SpellsNumber, AreDigits, Value, IsNormal, exact}
-use Rattle.crs_text.specs.Prelude.{Item, arguments, raw_of}
+use Rattle.crs_decimal.specs.inner.Prelude.{IsBounded, IsInBounds, Denotes, number_of, Number, SameNumber, whole_number, Sign, unsigned, plus, Parts, IsForm, SpellsNumber, AreDigits, Value, IsNormal, exact}
+use Rattle.crs_text.specs.inner.Prelude.{Item, arguments, raw_of}
 use Rattle.crs_shape.specs.declared.class.Class.{Class}
 use Rattle.crs_shape.specs.declared.class.Class.TheVariants as class
-use Rattle.crs_value.specs.Reading.{item_at, those, IsFound, ReadsFirst}
+use Rattle.crs_value.specs.Reading.{those, ReadsFirst}
+use Rattle.crs_value.specs.inner.Arguments.{item_at, IsFound}
 use Rattle.crs_value.specs.Reads.{ReadsNumber}
 use Rattle.crs_value.specs.inner.WholeNumbers.{IsWhole, IsWholeOf}
 use Rattle.crs_value.proofs.checked.PlacedLemmas.{Symmetric}

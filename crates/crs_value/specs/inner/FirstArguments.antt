@@ -6,7 +6,8 @@ use Rattle.crs_shape.specs.declared.class.Class.{Class}
 use Rattle.crs_shape.specs.declared.class.Class.TheVariants as class
 use Rattle.crs_shape.specs.inner.Counts.{one_if}
 use Rattle.crs_value.specs.declared.reading.firsts.Firsts.{Firsts}
-use Rattle.crs_value.specs.Reading.{is_same, those, IsFound}
+use Rattle.crs_value.specs.Reading.{is_same, those}
+use Rattle.crs_value.specs.inner.Arguments.{IsFound}
 
 -- the first one of a class, with one argument more, which is of the class or not
 abbrev pub first_with : Bool → Option ℕ → ℕ → Option ℕ

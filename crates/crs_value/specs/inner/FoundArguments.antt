@@ -6,7 +6,8 @@ use Rattle.crs_text.specs.Items.{Item, rest_of, here}
 use Rattle.crs_shape.specs.declared.class.Class.{Class}
 use Rattle.crs_shape.specs.Shaped.{Shaped}
 use Rattle.crs_value.specs.Checks.{orders_in, ReadsOrder}
-use Rattle.crs_value.specs.Reading.{Each, OneIs, item_at, those}
+use Rattle.crs_value.specs.Reading.{Each, OneIs, those}
+use Rattle.crs_value.specs.inner.Arguments.{item_at}
 
 -- the arguments of a class from a found one on; none where none is found
 abbrev pub from_found : Item → Class → Class → Option ℕ → List Item

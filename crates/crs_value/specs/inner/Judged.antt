@@ -14,7 +14,8 @@ use Rattle.crs_shape.specs.Keywords.{every_class}
 use Rattle.crs_shape.specs.ShapeFault.{class_in}
 use Rattle.crs_shape.specs.Slots.{SlotParts, takes}
 use Rattle.crs_value.specs.Checks.{IsLeast, Breaks, BreaksAmong}
-use Rattle.crs_value.specs.Reading.{ahead, those}
+use Rattle.crs_value.specs.Reading.{those}
+use Rattle.crs_value.specs.inner.Arguments.{ahead}
 
 -- the class at a place among all
 abbrev pub class_at : ℕ → Class

@@ -3,7 +3,16 @@
 use Rattle.std.specs.Prelude.{◌≡◌}
 use Rattle.crs_text.specs.Items.{Item}
 use Rattle.crs_shape.specs.declared.class.Class.{Class}
-use Rattle.crs_value.specs.Checks.{IsSound}
+use Rattle.crs_text.specs.Refusal.{RefusedAt}
+use Rattle.crs_text.specs.Written.{AreFormed}
+use Rattle.crs_shape.specs.Shaped.{Shaped}
+use Rattle.crs_value.specs.Checks.{Breaks}
+
+-- a well-formed item of the shape of its class that breaks no check
+pub record IsSound (c : Class) (item : Item) : Type 0 where
+  pub formed : AreFormed item
+  pub shaped : Shaped c item
+  pub unbroken : (fault : RefusedAt) → ¬ (Breaks c item fault)
 
 -- an item of a class is read as one value at most
 abbrev pub IsReadOnce : {V : Type 0} → (Class → Item → V → Type 0) → Type 0

@@ -4,10 +4,12 @@ ghost use Rattle.std.specs.List.{find};
 ghost use Rattle.crs_text.specs.Items.{HasId, arguments};
 ghost use Rattle.crs_shape.specs.declared.class.Class.TheVariants as classes;
 ghost use Rattle.crs_shape.specs.Shaped.{Shaped};
-ghost use Rattle.crs_value.specs.Checks.{IsAboveZero, NotAbove, IsNegative, IsNotEllipsoidal, IsNotPlane, IsNotHorizontal, BadComponent, AnyOf, IsLeast, HasSystem, OfCompound, OfEllipsoid, once, Own, RepeatsAny};
-ghost use Rattle.crs_value.specs.Cursor.{args, item};
+ghost use Rattle.crs_value.specs.Checks.{IsAboveZero, NotAbove, IsNegative, IsNotEllipsoidal, IsNotPlane, IsNotHorizontal, BadComponent, AnyOf, IsLeast, OfCompound, OfEllipsoid, once, Own, RepeatsAny};
+ghost use Rattle.crs_value.specs.inner.Classes.{HasSystem};
+ghost use Rattle.crs_value.specs.inner.Cursor.{args, item};
 ghost use Rattle.crs_value.specs.inner.FirstByte.{is_telling};
-ghost use Rattle.crs_value.specs.Reading.{item_at, those, Requires, TakesOne};
+ghost use Rattle.crs_value.specs.Reading.{those};
+ghost use Rattle.crs_value.specs.inner.Arguments.{item_at, Requires, TakesOne};
 
 use crate::checks::crs::{bad_dynamic, repeated_anchors, repeats_once, type_of};
 use crate::checks::{Check, any_from, lesser, only_of, refusal_at};

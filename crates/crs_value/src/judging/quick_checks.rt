@@ -7,7 +7,8 @@ ghost use Rattle.crs_shape.specs.Dimensions.{dimensions_of};
 ghost use Rattle.crs_shape.specs.Shaped.{Shaped};
 ghost use Rattle.crs_value.specs.Checks.{orders_in, units_in, once, Asks, BadOwnUnit, Fits, IsLeast, OfHead, RepeatsAny};
 ghost use Rattle.crs_value.specs.inner.FoundArguments.{AllShaped, HasPlace};
-ghost use Rattle.crs_value.specs.Reading.{item_at, is_a, ahead, those, Holds};
+ghost use Rattle.crs_value.specs.Reading.{is_a, those};
+ghost use Rattle.crs_value.specs.inner.Arguments.{item_at, ahead, Holds};
 ghost use Rattle.crs_value.specs.Reads.{HasType};
 ghost use Rattle.crs_value.specs.inner.QuickChecks.{rank, the_one, AreOrdered, Climbs, HasFacts, IsBehindName, IsHeld, IsLaid, IsNoted, PassesButDynamic, HaveFacts, IsShaped, UnitsFit};
 

@@ -5,7 +5,7 @@ ghost use Rattle.crs_shape.specs.declared.class.Class.{Class};
 ghost use Rattle.crs_shape.specs.ShapeFault.{misplaced, missing};
 ghost use Rattle.crs_shape.specs.Slots.{SlotParts, one_of, optional_of, any_of, some_of};
 ghost use Rattle.crs_value.specs.inner.Judged.{AllLeave, AllPassed, Answers, Leaves, Passed, Walked};
-ghost use Rattle.crs_value.specs.Reading.{item_at, Holds};
+ghost use Rattle.crs_value.specs.inner.Arguments.{item_at, Holds};
 
 use crs_shape::{Class, misplaced};
 use crs_text::{ItemId, Items, Refusal};

@@ -2,7 +2,8 @@
 //! is asked of its kind.
 ghost use Rattle.crs_shape.specs.declared.class.Class.{Class};
 ghost use Rattle.crs_shape.specs.declared.class.Class.TheVariants as class;
-ghost use Rattle.crs_value.specs.Reads.{IsUnitClass, ReadsAxis, ReadsAxisMeridian, ReadsBox, ReadsDatum, ReadsEllipsoid, ReadsEnsemble, ReadsExtent, ReadsIdent, ReadsMember, ReadsMeridian, ReadsUnit, ReadsUsage, ReadsConversion, ReadsGeoidModel, ReadsMethod, ReadsParameter, ReadsDeformationModel, ReadsDynamic};
+ghost use Rattle.crs_value.specs.Reads.{ReadsAxis, ReadsAxisMeridian, ReadsBox, ReadsDatum, ReadsEllipsoid, ReadsEnsemble, ReadsExtent, ReadsIdent, ReadsMember, ReadsMeridian, ReadsUnit, ReadsUsage, ReadsConversion, ReadsGeoidModel, ReadsMethod, ReadsParameter, ReadsDeformationModel, ReadsDynamic};
+ghost use Rattle.crs_value.specs.inner.Classes.{IsUnitClass};
 ghost use Rattle.crs_value.specs.ReadsCrs.{IsGeodeticClass, ReadsBase, ReadsCompound, ReadsGeodetic, ReadsProjected};
 ghost use Rattle.crs_value.specs.SoundDynamic.{IsDeformationModel, IsDynamic};
 ghost use Rattle.crs_value.specs.ReadsCrs.{ReadsVertical};

@@ -1,7 +1,8 @@
 //! The arguments of a node, by their class.
 ghost use Rattle.std.specs.Prelude.{◌≡◌, IsTrue, []};
 ghost use Rattle.crs_text.specs.Items.{arguments, rest_of, here, HasId};
-ghost use Rattle.crs_value.specs.Reading.{item_at, ahead, Holds, those, IsFound};
+ghost use Rattle.crs_value.specs.Reading.{those};
+ghost use Rattle.crs_value.specs.inner.Arguments.{item_at, ahead, Holds, IsFound};
 
 use crs_shape::{Class, Sought};
 use crs_text::{ItemId, Items};

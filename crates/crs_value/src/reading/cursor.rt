@@ -24,9 +24,10 @@ impl<'i, 'a> Cursor<'i, 'a> {
     ghost use Rattle.std.specs.Option.{option_copied};
     ghost use Rattle.crs_shape.specs.declared.class.Class.TheVariants as classes;
     ghost use Rattle.crs_shape.specs.Shaped.{Shaped};
-    ghost use Rattle.crs_value.specs.Checks.{IsSound};
-    ghost use Rattle.crs_value.specs.Cursor.{args, item};
-    ghost use Rattle.crs_value.specs.Reading.{IsFound, ReadsAll, ReadsIfAny, ReadsOne, Requires};
+    ghost use Rattle.crs_value.specs.inner.ReadOnce.{IsSound};
+    ghost use Rattle.crs_value.specs.inner.Cursor.{args, item};
+    ghost use Rattle.crs_value.specs.Reading.{ReadsAll, ReadsIfAny, ReadsOne};
+    ghost use Rattle.crs_value.specs.inner.Arguments.{IsFound, Requires};
     ghost use Rattle.crs_value.specs.Reads.{ReadsNumberAt, ReadsNumberOf, ReadsTextOf};
 
     // The methods by which identifiers are read are inlined: a cursor that is lent to a call goes through memory.

@@ -2,7 +2,8 @@
 ghost use Rattle.std.specs.Prelude.{◌+◌, ◌^◌, ◌<◌, IsTrue};
 ghost use Rattle.crs_text.specs.Items.{HasId, arguments};
 ghost use Rattle.crs_value.specs.inner.FirstArguments.{AreFirsts, AreNoted};
-ghost use Rattle.crs_value.specs.Reading.{is_same, item_at};
+ghost use Rattle.crs_value.specs.Reading.{is_same};
+ghost use Rattle.crs_value.specs.inner.Arguments.{item_at};
 
 use crs_shape::{Class, class_in};
 use crs_text::{ItemId, Items};

@@ -4,9 +4,10 @@ ghost use Rattle.crs_text.specs.Items.{Item, arguments, HasId};
 ghost use Rattle.crs_shape.specs.declared.class.Class.{Class};
 ghost use Rattle.crs_shape.specs.declared.class.Class.TheVariants as classes;
 ghost use Rattle.crs_shape.specs.Shaped.{Shaped};
-ghost use Rattle.crs_value.specs.Checks.{IsSound};
-ghost use Rattle.crs_value.specs.Cursor.{item};
-ghost use Rattle.crs_value.specs.Reading.{item_at, Requires, those, IsFound};
+ghost use Rattle.crs_value.specs.inner.ReadOnce.{IsSound};
+ghost use Rattle.crs_value.specs.inner.Cursor.{item};
+ghost use Rattle.crs_value.specs.Reading.{those};
+ghost use Rattle.crs_value.specs.inner.Arguments.{item_at, Requires, IsFound};
 ghost use Rattle.crs_value.specs.Reads.{ReadsNumber, ReadsNumberOf};
 ghost use Rattle.crs_value.specs.inner.WholeNumbers.{IsWhole, IsWholeOf};
 

@@ -1,8 +1,8 @@
 //! Compound CRSs.
 ghost use Rattle.std.specs.Prelude.{◌≡◌, IfOk};
 ghost use Rattle.crs_shape.specs.declared.class.Class.TheVariants as classes;
-ghost use Rattle.crs_value.specs.Cursor.{item};
-ghost use Rattle.crs_value.specs.Checks.{IsSound};
+ghost use Rattle.crs_value.specs.inner.Cursor.{item};
+ghost use Rattle.crs_value.specs.inner.ReadOnce.{IsSound};
 ghost use Rattle.crs_value.specs.ReadsCrs.{ReadsCompound, ReadsHorizontal};
 
 use crate::reading::arguments::first;

@@ -1,8 +1,8 @@
 //! Conversions, with their parameters.
 ghost use Rattle.std.specs.Prelude.{IfOk, ◌≡◌};
 ghost use Rattle.crs_shape.specs.declared.class.Class.TheVariants as classes;
-ghost use Rattle.crs_value.specs.Cursor.{item};
-ghost use Rattle.crs_value.specs.Checks.{IsSound};
+ghost use Rattle.crs_value.specs.inner.Cursor.{item};
+ghost use Rattle.crs_value.specs.inner.ReadOnce.{IsSound};
 ghost use Rattle.crs_value.specs.Reads.{ReadsUnitOf, parameter_units, ReadsConversion, ReadsParameter};
 ghost use Rattle.crs_value.specs.Values.{ConversionParts, ParameterParts};
 ghost use Rattle.crs_value.specs.SoundConversion.{IsConversion, IsParameter};

@@ -1,9 +1,9 @@
 //! Reference frames and datum ensembles.
 ghost use Rattle.std.specs.Prelude.{◌≡◌, [], ◌∷◌, IfOk};
-ghost use Rattle.crs_value.specs.Reading.{Requires, RequiresOneOf};
+ghost use Rattle.crs_value.specs.inner.Arguments.{Requires, RequiresOneOf};
 ghost use Rattle.crs_value.specs.EnsembleFrames.{datum_of};
-ghost use Rattle.crs_value.specs.Checks.{IsSound};
-ghost use Rattle.crs_value.specs.Cursor.{item};
+ghost use Rattle.crs_value.specs.inner.ReadOnce.{IsSound};
+ghost use Rattle.crs_value.specs.inner.Cursor.{item};
 ghost use Rattle.crs_value.specs.Reads.{ReadsDatum, ReadsEnsemble};
 ghost use Rattle.crs_value.specs.ReadsCrs.{ReadsFrame};
 ghost use Rattle.crs_shape.specs.declared.class.Class.TheVariants as classes;

@@ -3,7 +3,7 @@ ghost use Rattle.std.specs.Prelude.{◌≡◌};
 ghost use Rattle.crs_value.specs.SoundFrames.{IsEllipsoid, IsMeridian};
 ghost use Rattle.crs_value.specs.Values.{EllipsoidParts, MeridianParts, DynamicParts};
 ghost use Rattle.crs_value.specs.Reads.{ReadsEllipsoid, ReadsMeridian, ReadsDynamic};
-ghost use Rattle.crs_value.specs.Reading.{Requires};
+ghost use Rattle.crs_value.specs.inner.Arguments.{Requires};
 ghost use Rattle.crs_value.specs.SoundDynamic.{IsDynamic};
 ghost use Rattle.crs_shape.specs.declared.class.Class.TheVariants as classes;
 

@@ -1,10 +1,13 @@
 //! Units, axes and coordinate systems.
-ghost use Rattle.crs_value.specs.Cursor.{item};
-ghost use Rattle.crs_value.specs.Checks.{IsSound, HasSystem};
-ghost use Rattle.crs_value.specs.Reads.{ReadsKind, IsUnitClass, ReadsUnit, ReadsDirection, ReadsAxisMeridian, ReadsAxis, HasType, ReadsType, ReadsSystem};
+ghost use Rattle.crs_value.specs.inner.Cursor.{item};
+ghost use Rattle.crs_value.specs.inner.ReadOnce.{IsSound};
+ghost use Rattle.crs_value.specs.inner.Classes.{HasSystem};
+ghost use Rattle.crs_value.specs.Reads.{ReadsKind, ReadsUnit, ReadsDirection, ReadsAxisMeridian, ReadsAxis, HasType, ReadsType, ReadsSystem};
+ghost use Rattle.crs_value.specs.inner.Classes.{IsUnitClass};
 ghost use Rattle.crs_value.specs.Sound.{IsUnit, IsAxis, IsAxisMeridian, own_or, IsSystem};
 ghost use Rattle.crs_value.specs.Values.{UnitParts, AxisParts, AxisMeridianParts, SystemParts};
-ghost use Rattle.crs_value.specs.Reading.{Requires, those, ReadsFirst, item_at};
+ghost use Rattle.crs_value.specs.Reading.{those, ReadsFirst};
+ghost use Rattle.crs_value.specs.inner.Arguments.{Requires, item_at};
 ghost use Rattle.std.specs.Prelude.{◌≡◌, IfOk};
 ghost use Rattle.crs_text.specs.Items.{arguments, HasId};
 ghost use Rattle.std.specs.Option.{option_copied};

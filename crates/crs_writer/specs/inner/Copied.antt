@@ -9,7 +9,7 @@ use Rattle.crs_shape.specs.Words.{SpellsWord, direction_word, unit_word}
 use Rattle.crs_shape.specs.declared.direction.Direction.{Direction}
 use Rattle.crs_shape.specs.declared.unit_kind.UnitKind.{UnitKind}
 use Rattle.crs_shape.specs.declared.unit_kind.UnitKind.TheVariants as kinds
-use Rattle.crs_value.specs.Reading.{Holds, ahead, item_at}
+use Rattle.crs_value.specs.inner.Arguments.{Holds, ahead, item_at}
 use Rattle.crs_value.specs.declared.values.level.Level.{Level}
 use Rattle.crs_value.specs.declared.values.level.Level.TheVariants as levels
 use Rattle.crs_normal.specs.inner.SpelledItems.{is_short, whole_value}

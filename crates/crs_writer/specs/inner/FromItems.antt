@@ -2,7 +2,7 @@
 use Rattle.std.specs.Prelude.{◌≡◌, ℕ, List, ◌++◌, Option, Some, None}
 use Rattle.crs_text.specs.Items.{Item}
 use Rattle.crs_shape.specs.declared.class.Class.{Class}
-use Rattle.crs_value.specs.Reading.{item_at}
+use Rattle.crs_value.specs.inner.Arguments.{item_at}
 
 -- the text of whatever is read is appended
 pub record Writes {V : Type 0} (Reads : V → Type 0) (text : V → List ℕ) (old new : List ℕ) : Type 0 where

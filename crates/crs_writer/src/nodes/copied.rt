@@ -4,7 +4,7 @@ ghost use Rattle.std.specs.Prelude.{◌≡◌, IfSome, IsFalse, IsTrue, codes};
 ghost use Rattle.crs_text.specs.Items.{End, HasId, Item};
 ghost use Rattle.crs_text.specs.Written.{item_text};
 ghost use Rattle.crs_value.specs.Values.{MethodParts, ParameterParts, AxisParts, DatumParts, IdentParts, SystemParts, UsageParts};
-ghost use Rattle.crs_value.specs.Reading.{Holds, ahead, item_at};
+ghost use Rattle.crs_value.specs.inner.Arguments.{Holds, ahead, item_at};
 ghost use Rattle.crs_value.specs.Reads.{ReadsAxis, ReadsDatum, ReadsIdent, ReadsUsage, ReadsMethod, ReadsParameter};
 ghost use Rattle.crs_value.specs.declared.values.level.Level.TheVariants as levels;
 ghost use Rattle.crs_normal.specs.inner.PartTexts.{method_text, parameter_text, usage_text};

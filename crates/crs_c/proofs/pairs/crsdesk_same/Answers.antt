@@ -1,5 +1,5 @@
 use Rattle.std.proofs.Common.{◌↔◌, IsTrue, refl, rules}
-use Rattle.crs_same.specs.Prelude.{SameCrs}
+use Rattle.crs_same.specs.inner.Prelude.{SameCrs}
 use Rattle.crs_c.specs.Same.{TellsSame}
 use Rattle.crs_c.specs.Pairs.{IsPairAnswer}
 use Rattle.crs_c.proofs.PairLemmas.{at-level, pair-fault, pair-made}

@@ -1,5 +1,5 @@
 use Rattle.std.proofs.Common.{◌≡◌, rules, subst, sym}
-use Rattle.crs_writer.specs.Prelude.{CanonicalText, IsCanonicalText, crs_text}
+use Rattle.crs_writer.specs.inner.Prelude.{CanonicalText, IsCanonicalText, crs_text}
 use Rattle.crs_canon.proofs.answer.canon_of.Goals as goal
 
 pub returns-clause-text : goal.returns-clause-text

@@ -1,7 +1,7 @@
 use Rattle.std.proofs.Common.{◌≡◌, ap, rules, sym}
-use Rattle.crs_text.specs.Prelude.{item_text}
+use Rattle.crs_text.specs.inner.Prelude.{item_text}
 use Rattle.crs_same.specs.declared.content.Content.TheVariants as content
-use Rattle.crs_normal.specs.Prelude.{unit_text, item_unit, norm_unit}
+use Rattle.crs_normal.specs.inner.Prelude.{unit_text, item_unit, norm_unit}
 use Rattle.crs_canon.specs.ContentText.{IsContentText}
 use Rattle.crs_canon.proofs.ContentLemmas.{as_asked, asked-alone, asked-is, spelled-asked}
 use Rattle.crs_canon.proofs.SpellingLemmas.{extended, whole}

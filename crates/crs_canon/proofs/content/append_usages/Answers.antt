@@ -1,5 +1,5 @@
 use Rattle.std.proofs.Common.{rules}
-use Rattle.crs_normal.specs.Prelude.{IsSpelledUsage}
+use Rattle.crs_normal.specs.inner.Prelude.{IsSpelledUsage}
 use Rattle.crs_canon.proofs.LackingLemmas.{lacking-appended}
 use Rattle.crs_canon.proofs.content.append_usages.Goals as goal
 

@@ -1,7 +1,7 @@
 use Rattle.std.proofs.Common.{◌≡◌, ◌∷◌, ◌∙◌, ap, map, refl, rules, subst}
 use Rattle.std.proofs.lemmas.Result.{on_ok_weaker}
-use Rattle.crs_normal.specs.Prelude.{put_all, IsSpelledUsage, usage_text}
-use Rattle.crs_writer.specs.Prelude.{AreSpellingsOf}
+use Rattle.crs_normal.specs.inner.Prelude.{put_all, IsSpelledUsage, usage_text}
+use Rattle.crs_writer.specs.inner.Prelude.{AreSpellingsOf}
 use Rattle.crs_canon.proofs.SetTextLemmas.{only-spelling}
 use Rattle.crs_canon.proofs.content.gather_usages.Goals as goal
 

@@ -1,5 +1,5 @@
 use Rattle.std.proofs.Common.{◌≡◌, ◌++◌, ◌∙◌, ℕ, List, ap, rules}
-use Rattle.crs_writer.specs.Prelude.{lacking, spellings, commas}
+use Rattle.crs_writer.specs.inner.Prelude.{lacking, spellings, commas}
 use Rattle.crs_canon.proofs.LackingLemmas.{lacking-spelled}
 use Rattle.crs_canon.proofs.lacking.append_lacking.Goals as goal
 

@@ -1,5 +1,5 @@
 use Rattle.std.proofs.Common.{◌≡◌, ◌++◌}
-use Rattle.crs_writer.specs.Prelude.{lacking, spellings, commas}
+use Rattle.crs_writer.specs.inner.Prelude.{lacking, spellings, commas}
 use Rattle.crs_canon.proofs.lacking.append_lacking.Given as goal
 
 abbrev pub invariant-loop-bytes : goal.invariant-loop-bytes

@@ -1,4 +1,4 @@
-use Rattle.crs_writer.specs.Prelude.{canons-decide, canons-hash}
+use Rattle.crs_writer.specs.inner.Prelude.{canons-decide, canons-hash}
 use Rattle.crs_canon.proofs.laws.equal_canons_are_one.Goals as goal
 
 pub returns-clause-equal : goal.returns-clause-equal

@@ -1,5 +1,5 @@
 use Rattle.std.proofs.Common.{subst}
-use Rattle.crs_normal.specs.Prelude.{IsClosed}
+use Rattle.crs_normal.specs.inner.Prelude.{IsClosed}
 use Rattle.crs_canon.proofs.SetSameLemmas.{closed-some}
 use Rattle.crs_canon.proofs.laws.spellings_stand_alone.Goals as goal
 

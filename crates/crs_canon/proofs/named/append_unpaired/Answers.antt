@@ -1,5 +1,5 @@
 use Rattle.std.proofs.Common.{rules}
-use Rattle.crs_normal.specs.Prelude.{IsSpelledParameter}
+use Rattle.crs_normal.specs.inner.Prelude.{IsSpelledParameter}
 use Rattle.crs_canon.specs.Named.{unpaired}
 use Rattle.crs_canon.proofs.LackingLemmas.{lacking-appended}
 use Rattle.crs_canon.proofs.NamedLemmas.{put-unpaired}

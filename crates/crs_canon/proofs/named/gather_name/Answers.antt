@@ -1,6 +1,6 @@
 use Rattle.std.proofs.Common.{◌∙◌, ap}
-use Rattle.crs_normal.specs.Prelude.{put}
-use Rattle.crs_writer.specs.Prelude.{spellings}
+use Rattle.crs_normal.specs.inner.Prelude.{put}
+use Rattle.crs_writer.specs.inner.Prelude.{spellings}
 use Rattle.crs_canon.proofs.LackingLemmas.{spellings-insert}
 use Rattle.crs_canon.proofs.named.gather_name.Goals as goal
 

@@ -1,7 +1,7 @@
 use Rattle.std.proofs.Common.{◌≡◌, ◌∷◌, ◌+◌, arith, drop, refl}
 use Rattle.std.proofs.lemmas.Grind.{common_steps}
-use Rattle.crs_normal.specs.Prelude.{parameter_text, put}
-use Rattle.crs_writer.specs.Prelude.{spellings}
+use Rattle.crs_normal.specs.inner.Prelude.{parameter_text, put}
+use Rattle.crs_writer.specs.inner.Prelude.{spellings}
 use Rattle.crs_canon.proofs.named.gather_unpaired.Goals as goal
 use Rattle.crs_canon.proofs.named.gather_unpaired.Goals.{then-not-is_paired+in_ok-gather, else-not-is_paired}
 

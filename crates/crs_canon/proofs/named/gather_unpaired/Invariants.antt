@@ -1,6 +1,6 @@
 use Rattle.std.proofs.Common.{◌≡◌, filter, not, map, drop}
-use Rattle.crs_normal.specs.Prelude.{put_all, parameter_text}
-use Rattle.crs_writer.specs.Prelude.{spellings}
+use Rattle.crs_normal.specs.inner.Prelude.{put_all, parameter_text}
+use Rattle.crs_writer.specs.inner.Prelude.{spellings}
 use Rattle.crs_canon.specs.Named.{is_paired, unpaired}
 use Rattle.crs_canon.proofs.named.gather_unpaired.Given as goal
 

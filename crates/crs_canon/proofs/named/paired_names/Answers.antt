@@ -1,7 +1,7 @@
 use Rattle.std.proofs.Common.{◌≡◌, [], ap, arith, refl, rules}
 use Rattle.std.proofs.lemmas.Grind.{common_steps}
-use Rattle.crs_normal.specs.Prelude.{put_all}
-use Rattle.crs_writer.specs.Prelude.{spellings}
+use Rattle.crs_normal.specs.inner.Prelude.{put_all}
+use Rattle.crs_writer.specs.inner.Prelude.{spellings}
 use Rattle.crs_canon.proofs.NamedLemmas.{names-known, names_paired}
 use Rattle.crs_canon.proofs.named.paired_names.Goals as goal
 

@@ -1,6 +1,6 @@
 use Rattle.std.proofs.Common.{◌≡◌, [], filter, map, drop}
-use Rattle.crs_normal.specs.Prelude.{put_all}
-use Rattle.crs_writer.specs.Prelude.{spellings}
+use Rattle.crs_normal.specs.inner.Prelude.{put_all}
+use Rattle.crs_writer.specs.inner.Prelude.{spellings}
 use Rattle.crs_canon.specs.Named.{is_paired}
 use Rattle.crs_canon.proofs.NamedLemmas.{names_paired}
 use Rattle.crs_canon.proofs.named.paired_names.Given as goal

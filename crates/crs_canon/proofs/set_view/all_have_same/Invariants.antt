@@ -1,5 +1,5 @@
 use Rattle.std.proofs.Common.{◌↔◌, drop}
-use Rattle.crs_same.specs.Prelude.{AllHaveSame}
+use Rattle.crs_same.specs.inner.Prelude.{AllHaveSame}
 use Rattle.crs_canon.proofs.set_view.all_have_same.Given as goal
 
 abbrev pub invariant-loop-member : goal.invariant-loop-member

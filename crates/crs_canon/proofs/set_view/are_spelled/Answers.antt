@@ -1,7 +1,7 @@
 use Rattle.std.proofs.Common.{◌≡◌, ◌∷◌, ◌+◌, arith, drop, map, subst, sym}
 use Rattle.std.proofs.lemmas.Grind.{common_steps}
 use Rattle.crs_value.specs.Sound.{Each}
-use Rattle.crs_writer.specs.Prelude.{AreSpellingsOf}
+use Rattle.crs_writer.specs.inner.Prelude.{AreSpellingsOf}
 use Rattle.crs_canon.proofs.SetTextLemmas.{only-spelling}
 use Rattle.crs_canon.proofs.set_view.are_spelled.Goals as goal
 

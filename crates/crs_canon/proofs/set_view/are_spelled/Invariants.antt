@@ -1,7 +1,7 @@
 use Rattle.std.proofs.Common.{drop, map}
 use Rattle.crs_value.specs.Sound.{Each}
 use Rattle.crs_value.specs.declared.values.level.Level.{Level}
-use Rattle.crs_writer.specs.Prelude.{AreSpellingsOf}
+use Rattle.crs_writer.specs.inner.Prelude.{AreSpellingsOf}
 use Rattle.crs_canon.proofs.set_view.are_spelled.Given as goal
 
 abbrev pub invariant-loop-member : goal.invariant-loop-member

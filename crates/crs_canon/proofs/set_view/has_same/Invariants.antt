@@ -1,5 +1,5 @@
 use Rattle.std.proofs.Common.{◌↔◌, drop}
-use Rattle.crs_same.specs.Prelude.{HasSame}
+use Rattle.crs_same.specs.inner.Prelude.{HasSame}
 use Rattle.crs_canon.proofs.set_view.has_same.Given as goal
 
 abbrev pub invariant-loop-other : goal.invariant-loop-other

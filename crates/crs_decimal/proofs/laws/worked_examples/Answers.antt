@@ -3,7 +3,7 @@ use Rattle.std.specs.Fmt.{digits}
 use Rattle.crs_decimal.specs.Spelling.{IsBounded, IsInBounds, number_of, Denotes, HasForm}
 use Rattle.crs_decimal.specs.Value.{SameNumber, Value, exact, zero}
 use Rattle.crs_decimal.specs.inner.Split.{IsCutWhole, parts_of}
-use Rattle.crs_decimal.specs.Examples.{value}
+use Rattle.crs_decimal.specs.inner.Examples.{value}
 use Rattle.crs_decimal.specs.declared.mantissa.Mantissa.{Mantissa}
 use Rattle.crs_decimal.proofs.BoundLemmas.{far_unbounded}
 use Rattle.crs_decimal.proofs.SplitLemmas.{spells_parts, parts_only, form_whole}

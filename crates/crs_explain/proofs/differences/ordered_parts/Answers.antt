@@ -1,7 +1,7 @@
 use Rattle.std.proofs.Common.{◌≡◌, ◌∙◌, ◌++◌, List, ap, rules, subst, sym}
 use Rattle.std.proofs.lemmas.Fn.{always_returns_same}
 use Rattle.std.proofs.lemmas.List.Sorted.{IsNonDecreasingBy-from_sort_by_key}
-use Rattle.crs_same.specs.Prelude.{DifferencesInCrs}
+use Rattle.crs_same.specs.inner.Prelude.{DifferencesInCrs}
 use Rattle.crs_explain.specs.Differing.{AreTexts, PartTexts}
 use Rattle.crs_explain.specs.InOrder.{rank}
 use Rattle.crs_explain.proofs.OrderLemmas.{where-none, where-some}

@@ -1,7 +1,7 @@
 use Rattle.std.proofs.Common.{◌<◌, ◌≤◌, ℕ, inl, inr, subst, arith}
 use Rattle.std.proofs.lemmas.Bool.{cases_eq}
 use Rattle.std.proofs.lemmas.Result.{IfOk-weaker}
-use Rattle.crs_shape.specs.Prelude.{IsShapeNumber}
+use Rattle.crs_shape.specs.inner.Prelude.{IsShapeNumber}
 use Rattle.crs_explain.specs.Expected.{IsShapeExpected}
 use Rattle.crs_explain.proofs.expected.in_items.Goals as goal
 

@@ -1,5 +1,5 @@
 use Rattle.crs_shape.specs.declared.unit_kind.UnitKind.TheVariants as kinds
-use Rattle.crs_same.specs.Prelude.{optional}
+use Rattle.crs_same.specs.inner.Prelude.{optional}
 use Rattle.crs_explain.proofs.TurnedLemmas.{set-of}
 use Rattle.crs_explain.proofs.laws.exchanged_parameters_are_told_alike.Goals as goal
 

@@ -1,5 +1,5 @@
 use Rattle.std.proofs.Common.{◌≡◌, ◌++◌, drop}
-use Rattle.crs_streams.specs.Prelude.{json_more, json_text}
+use Rattle.crs_streams.specs.inner.Prelude.{json_more, json_text}
 use Rattle.crs_explain.proofs.names.append_more.Given as goal
 
 abbrev pub invariant-loop-name : goal.invariant-loop-name

@@ -1,6 +1,6 @@
 use Rattle.std.proofs.Common.{◌≡◌, ℕ, List, length, false}
 use Rattle.crs_group.specs.inner.GroupReading.{IsCutTo}
-use Rattle.crs_streams.specs.Prelude.{HasGiven}
+use Rattle.crs_streams.specs.inner.Prelude.{HasGiven}
 use Rattle.crs_group.proofs.running.read_into.Given as goal
 
 abbrev pub invariant-loop-turn : goal.invariant-loop-turn

@@ -1,6 +1,6 @@
 use Rattle.std.proofs.Common.{ap, subst, ◌∙◌}
-use Rattle.crs_decimal.specs.Prelude.{IsNormal}
-use Rattle.crs_value.specs.Prelude.{UnitParts}
+use Rattle.crs_decimal.specs.inner.Prelude.{IsNormal}
+use Rattle.crs_value.specs.inner.Prelude.{UnitParts}
 use Rattle.crs_rules.specs.inner.Firsts.{place_of, unit_digest}
 use Rattle.crs_rules.specs.Rules.{is_unit_alias}
 use Rattle.crs_rules.proofs.FirstsLemmas.{from-first, none-there}

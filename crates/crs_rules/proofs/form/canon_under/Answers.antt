@@ -1,5 +1,5 @@
 use Rattle.crs_value.specs.declared.values.level.Level.TheVariants as levels
-use Rattle.crs_normal.specs.Prelude.{axis_text}
+use Rattle.crs_normal.specs.inner.Prelude.{axis_text}
 use Rattle.crs_rules.proofs.TextLemmas.{texts-of-axes}
 use Rattle.crs_rules.proofs.form.canon_under.Goals as goal
 

@@ -1,6 +1,6 @@
 use Rattle.std.proofs.Common.{◌≡◌, ap, ◌∙◌}
 use Rattle.crs_value.specs.declared.values.level.Level.TheVariants as levels
-use Rattle.crs_normal.specs.Prelude.{axis_text}
+use Rattle.crs_normal.specs.inner.Prelude.{axis_text}
 use Rattle.crs_rules.specs.Rewritten.{rewritten}
 use Rattle.crs_rules.specs.Rules.{meaning}
 use Rattle.crs_rules.proofs.AliasLemmas.{sound-meaning}

@@ -1,5 +1,5 @@
 use Rattle.std.proofs.Common.{subst}
-use Rattle.crs_value.specs.Prelude.{IsCompound}
+use Rattle.crs_value.specs.inner.Prelude.{IsCompound}
 use Rattle.crs_same.proofs.AllSameLemmas.{walked-same}
 use Rattle.crs_same.proofs.EachPartLemmas.{compound}
 use Rattle.crs_same.proofs.SettledLemmas.{are-sound, of-systems}

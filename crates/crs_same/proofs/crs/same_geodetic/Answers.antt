@@ -1,5 +1,5 @@
 use Rattle.std.proofs.Common.{subst}
-use Rattle.crs_value.specs.Prelude.{IsGeodetic}
+use Rattle.crs_value.specs.inner.Prelude.{IsGeodetic}
 use Rattle.crs_same.proofs.AllSameLemmas.{walked-same}
 use Rattle.crs_same.proofs.EachPartLemmas.{geodetic}
 use Rattle.crs_same.proofs.SettledLemmas.{of-systems}

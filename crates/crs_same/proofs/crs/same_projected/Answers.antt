@@ -1,5 +1,5 @@
 use Rattle.std.proofs.Common.{subst}
-use Rattle.crs_value.specs.Prelude.{IsProjected}
+use Rattle.crs_value.specs.inner.Prelude.{IsProjected}
 use Rattle.crs_same.proofs.AllSameLemmas.{walked-same}
 use Rattle.crs_same.proofs.EachPartLemmas.{projected}
 use Rattle.crs_same.proofs.SettledLemmas.{of-systems}

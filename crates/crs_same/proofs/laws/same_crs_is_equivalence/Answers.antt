@@ -1,4 +1,4 @@
-use Rattle.crs_same.specs.Prelude.{agree-as-of, same-as-of}
+use Rattle.crs_same.specs.inner.Prelude.{agree-as-of, same-as-of}
 use Rattle.crs_same.proofs.SamenessOfCrsLemmas.{crs-of}
 use Rattle.crs_same.proofs.laws.same_crs_is_equivalence.Goals as goal
 

@@ -1,4 +1,4 @@
-use Rattle.crs_text.specs.Prelude.{first_of, here, size_of, sizes}
+use Rattle.crs_text.specs.inner.Prelude.{first_of, here, size_of, sizes}
 use Rattle.crs_shape.specs.inner.Walk.{left_of}
 use Rattle.crs_shape.proofs.faults.FitLemmas as fit
 use Rattle.crs_shape.proofs.faults.FitLemmas.{from}

@@ -1,5 +1,5 @@
 use Rattle.std.proofs.Common.{arith, rules}
-use Rattle.crs_decimal.specs.Prelude.{is_run_byte}
+use Rattle.crs_decimal.specs.inner.Prelude.{is_run_byte}
 use Rattle.crs_text.specs.Tokens.{is_word_byte}
 use Rattle.crs_text.proofs.settled.FeedingLemmas.{all_full}
 use Rattle.crs_text.proofs.feeding.pending_of.Goals as goal

@@ -2,7 +2,7 @@ use Rattle.std.proofs.Common.{◌≡◌, ◌+◌, ◌<◌, length, drop, arith, 
 use Rattle.std.specs.List.{prefix_len}
 use Rattle.std.proofs.lemmas.List.{length-drop}
 use Rattle.std.proofs.lemmas.List.Sums.{prefix_len-le-length}
-use Rattle.crs_text.specs.Quoted.{is_plain}
+use Rattle.crs_text.specs.inner.Runs.{is_plain}
 use Rattle.crs_text.proofs.tokens.QuotedLemmas.{open_at, shut_at, past_doubled, plain_first, within_at}
 use Rattle.crs_text.proofs.lexing.closing_quote.Goals as goal
 

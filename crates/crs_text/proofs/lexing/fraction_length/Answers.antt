@@ -1,6 +1,6 @@
 use Rattle.std.proofs.Common.{None, refl, ap, ◌∙◌, rules}
 use Rattle.std.specs.List.{prefix_len}
-use Rattle.crs_decimal.specs.Prelude.{is_digit}
+use Rattle.crs_decimal.specs.inner.Prelude.{is_digit}
 use Rattle.crs_text.proofs.tokens.PlainNumberLemmas.{fraction_front}
 use Rattle.crs_text.proofs.lexing.fraction_length.Goals as goal
 

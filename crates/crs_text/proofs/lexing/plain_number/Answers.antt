@@ -1,6 +1,6 @@
 use Rattle.std.proofs.Common.{ap, ◌∙◌, drop, arith}
 use Rattle.std.specs.List.{prefix_len}
-use Rattle.crs_decimal.specs.Prelude.{is_digit}
+use Rattle.crs_decimal.specs.inner.Prelude.{is_digit}
 use Rattle.crs_text.proofs.tokens.PlainNumberLemmas.{plain_lexed, one_digit_lexed}
 use Rattle.crs_text.proofs.lexing.plain_number.Goals as goal
 

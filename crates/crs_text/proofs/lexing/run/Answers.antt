@@ -1,6 +1,6 @@
 use Rattle.std.proofs.Common.{arith}
 use Rattle.std.proofs.lemmas.List.Sums.{prefix_len-le-length}
-use Rattle.crs_decimal.specs.Prelude.{is_run_byte}
+use Rattle.crs_decimal.specs.inner.Prelude.{is_run_byte}
 use Rattle.crs_text.proofs.tokens.LexedLemmas.{lexed_number, flawed_number, flawed_range}
 use Rattle.crs_text.proofs.lexing.run.Goals as goal
 

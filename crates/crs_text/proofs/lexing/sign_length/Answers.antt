@@ -1,5 +1,5 @@
 use Rattle.std.proofs.Common.{refl, rules}
-use Rattle.crs_decimal.specs.Prelude.{unsigned, plus, minus}
+use Rattle.crs_decimal.specs.inner.Prelude.{unsigned, plus, minus}
 use Rattle.crs_text.proofs.lexing.sign_length.Goals as goal
 
 pub returns-in-45-clause-signed : goal.returns-in-45-clause-signed

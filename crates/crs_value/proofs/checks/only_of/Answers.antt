@@ -1,4 +1,4 @@
-use Rattle.crs_value.specs.Cursor.{item}
+use Rattle.crs_value.specs.inner.Cursor.{item}
 use Rattle.crs_value.proofs.found.ArgumentLemmas.{first-shaped}
 use Rattle.crs_value.proofs.checked.CheckLemmas.{only-of}
 use Rattle.crs_value.proofs.checks.only_of.Goals as goal

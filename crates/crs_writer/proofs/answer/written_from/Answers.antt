@@ -1,7 +1,7 @@
 use Rattle.std.proofs.Common.{◌≡◌, [], ap, subst, ◌∙◌, rules}
-use Rattle.crs_text.specs.Prelude.{first_of, AreFormed}
-use Rattle.crs_value.specs.Prelude.{item_at}
-use Rattle.crs_writer.specs.Prelude.{crs_text}
+use Rattle.crs_text.specs.inner.Prelude.{first_of, AreFormed}
+use Rattle.crs_value.specs.inner.Prelude.{item_at}
+use Rattle.crs_writer.specs.inner.Prelude.{crs_text}
 use Rattle.crs_writer.proofs.AnswerLemmas.{from-items, spelled-read}
 use Rattle.crs_writer.proofs.answer.written_from.Goals as goal
 

@@ -1,7 +1,7 @@
 use Rattle.std.proofs.Common.{rules, arith}
-use Rattle.crs_text.specs.Prelude.{arguments}
+use Rattle.crs_text.specs.inner.Prelude.{arguments}
 use Rattle.crs_shape.specs.declared.class.Class.TheVariants as class
-use Rattle.crs_value.specs.Prelude.{item_at}
+use Rattle.crs_value.specs.inner.Prelude.{item_at}
 use Rattle.crs_writer.proofs.CountedAxisLemmas.{counting-end, counting-first, counting-less, counting-on}
 use Rattle.crs_writer.proofs.axes.axis_count.Goals as goal
 

@@ -1,7 +1,7 @@
 use Rattle.std.proofs.Common.{length}
-use Rattle.crs_text.specs.Prelude.{arguments}
+use Rattle.crs_text.specs.inner.Prelude.{arguments}
 use Rattle.crs_shape.specs.declared.class.Class.TheVariants as class
-use Rattle.crs_value.specs.Prelude.{from_found, item_at, those}
+use Rattle.crs_value.specs.inner.Prelude.{from_found, item_at, those}
 use Rattle.crs_writer.proofs.CountedAxisLemmas.{Counting}
 use Rattle.crs_writer.proofs.axes.axis_count.Given as goal
 

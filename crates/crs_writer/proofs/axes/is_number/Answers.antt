@@ -1,5 +1,5 @@
 use Rattle.std.proofs.lemmas.Bool.Decides.{same_from_decides}
-use Rattle.crs_normal.specs.Prelude.{is_number}
+use Rattle.crs_normal.specs.inner.Prelude.{is_number}
 use Rattle.crs_writer.proofs.axes.is_number.Goals as goal
 
 pub returns : goal.returns

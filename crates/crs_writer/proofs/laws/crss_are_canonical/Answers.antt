@@ -1,8 +1,8 @@
 use Rattle.std.proofs.Common.{◌≡◌, ◌↔◌, ℕ, List, subst, sym}
-use Rattle.crs_value.specs.Prelude.{IsCrs}
+use Rattle.crs_value.specs.inner.Prelude.{IsCrs}
 use Rattle.crs_value.specs.declared.values.crs.Crs.{Crs}
-use Rattle.crs_same.specs.Prelude.{SameCrs}
-use Rattle.crs_normal.specs.Prelude.{norm_crs}
+use Rattle.crs_same.specs.inner.Prelude.{SameCrs}
+use Rattle.crs_normal.specs.inner.Prelude.{norm_crs}
 use Rattle.crs_writer.specs.Canonical.{IsCanonicalText}
 use Rattle.crs_writer.specs.inner.CrsText.{crs_text}
 use Rattle.crs_writer.proofs.laws.crss_are_canonical.Goals as goal

@@ -1,6 +1,6 @@
 use Rattle.std.proofs.Common.{◌++◌, ℕ, List, ap, ◌∙◌}
 use Rattle.std.proofs.lemmas.Result.{on_ok_weaker}
-use Rattle.crs_decimal.specs.Prelude.{exact}
+use Rattle.crs_decimal.specs.inner.Prelude.{exact}
 use Rattle.crs_writer.proofs.numbers.write_raw.Goals as goal
 
 pub returns-in-Some : goal.returns-in-Some

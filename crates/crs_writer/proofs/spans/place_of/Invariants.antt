@@ -1,5 +1,5 @@
 use Rattle.std.proofs.Common.{◌≡◌, ◌≤◌, ◌∷◌, length, drop}
-use Rattle.crs_normal.specs.Prelude.{put}
+use Rattle.crs_normal.specs.inner.Prelude.{put}
 use Rattle.crs_writer.specs.inner.Spans.{texts_at}
 use Rattle.crs_writer.proofs.spans.place_of.Given as goal
 

@@ -1,5 +1,5 @@
 use Rattle.std.proofs.Common.{subst}
-use Rattle.crs_writer.specs.Prelude.{HaveOneTextWhereSame}
+use Rattle.crs_writer.specs.inner.Prelude.{HaveOneTextWhereSame}
 use Rattle.crs_canon.proofs.SetSameLemmas.{by-members}
 use Rattle.crs_canon.proofs.set_view.Set.laws.Goals as goal
 

@@ -1,7 +1,7 @@
 use Rattle.std.proofs.Common.{map, refl, subst}
 use Rattle.std.proofs.lemmas.Result.{MatchResult-weaker}
-use Rattle.crs_normal.specs.Prelude.{in_order}
-use Rattle.crs_writer.specs.Prelude.{AppendsSpelling, IsSetText, commas, set_text}
+use Rattle.crs_normal.specs.inner.Prelude.{in_order}
+use Rattle.crs_writer.specs.inner.Prelude.{AppendsSpelling, IsSetText, commas, set_text}
 use Rattle.crs_canon.proofs.SetTextLemmas.{set-text}
 use Rattle.crs_canon.proofs.SpellingLemmas.{whole}
 use Rattle.crs_canon.proofs.set_view.Set.write.Goals as goal

@@ -1,5 +1,5 @@
 use Rattle.std.proofs.Common.{◌≡◌, rules, subst, sym, IfErr, IfOk}
-use Rattle.crs_desk.specs.FileAnswers.{IsAnswerSent, IsFileFault}
+use Rattle.crs_desk.specs.inner.FileAnswers.{IsAnswerSent, IsFileFault}
 use Rattle.crs_desk.specs.FilesRun.{IsTaskFront, IsTaskOutput}
 use Rattle.crs_desk.specs.declared.runs.files.FileTask.{FileTask}
 use Rattle.crs_desk.specs.declared.runs.files.FileTask.TheVariants as task

@@ -1,7 +1,7 @@
 use Rattle.std.proofs.Common.{◌≡◌, ◌+◌, ◌++◌, ◌∷◌, [], arith, drop, rules, subst, sym, List, ℕ, max}
 use Rattle.std.specs.Io.KnownBytes.{Appends}
 use Rattle.std.proofs.lemmas.Grind.{common_steps}
-use Rattle.crs_desk.specs.FileAnswers.{IsFileSent}
+use Rattle.crs_desk.specs.inner.FileAnswers.{IsFileSent}
 use Rattle.crs_desk.specs.FilesRun.{AreFileOutputs, name_prefix}
 use Rattle.crs_desk.specs.Prefixed.{PrefixParts}
 use Rattle.crs_desk.proofs.FileLemmas.{file-more, files-done}

@@ -1,5 +1,5 @@
 use Rattle.std.proofs.Common.{◌≡◌, ◌≤◌, ℕ, List, length, false}
-use Rattle.crs_streams.specs.Prelude.{HasGiven}
+use Rattle.crs_streams.specs.inner.Prelude.{HasGiven}
 use Rattle.crs_desk.specs.inner.Pieces.{IsHeld}
 use Rattle.crs_desk.proofs.runs.reading.read_pieces.Given as goal
 

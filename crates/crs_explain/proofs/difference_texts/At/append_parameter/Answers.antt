@@ -2,8 +2,8 @@ use Rattle.std.proofs.Common.{◌≡◌, ◌∷◌, [], OnOk, rules, subst}
 use Rattle.std.proofs.lemmas.Result.{on_ok_weaker}
 use Rattle.std.specs.Option.{option_copied}
 use Rattle.crs_shape.specs.declared.unit_kind.UnitKind.TheVariants as kinds
-use Rattle.crs_value.specs.Prelude.{ParameterParts}
-use Rattle.crs_same.specs.Prelude.{◌⨾◌, identifiers, numbers, units}
+use Rattle.crs_value.specs.inner.Prelude.{ParameterParts}
+use Rattle.crs_same.specs.inner.Prelude.{◌⨾◌, identifiers, numbers, units}
 use Rattle.crs_same.specs.declared.step.Step.TheVariants as step
 use Rattle.crs_explain.specs.inner.Appended.{AppendsTexts}
 use Rattle.crs_explain.specs.Differing.{AreTextsOfParts, parts_of_parameter}

@@ -1,5 +1,5 @@
-use Rattle.crs_text.specs.Prelude.{count}
-use Rattle.crs_value.specs.Prelude.{Holds, ahead}
+use Rattle.crs_text.specs.inner.Prelude.{count}
+use Rattle.crs_value.specs.inner.Prelude.{Holds, ahead}
 use Rattle.crs_explain.proofs.units.InCrs.append_of_all.Given as goal
 
 abbrev pub invariant-loop-at : goal.invariant-loop-at

@@ -1,5 +1,5 @@
 use Rattle.std.proofs.Common.{refl, sym, ◌∙◌}
-use Rattle.crs_writer.specs.Prelude.{IsCanonicalOf}
+use Rattle.crs_writer.specs.inner.Prelude.{IsCanonicalOf}
 use Rattle.crs_group.specs.declared.placed.Placed.TheVariants.{Blank}
 use Rattle.crs_group.proofs.CatalogueLemmas.{blank-added, canonical-forms, is-black, lines-added, lines-result, put-result, refuse-result}
 use Rattle.crs_group.proofs.KnownLemmas.{joined-put}

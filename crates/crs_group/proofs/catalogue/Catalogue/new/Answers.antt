@@ -1,5 +1,5 @@
 use Rattle.std.proofs.Common.{[], refl}
-use Rattle.crs_writer.specs.Prelude.{IsCanonicalOf}
+use Rattle.crs_writer.specs.inner.Prelude.{IsCanonicalOf}
 use Rattle.crs_rules.specs.Rewritten.{IsForm}
 use Rattle.crs_group.specs.Catalogue.{CatalogueParts, canons}
 use Rattle.crs_group.specs.GroupTexts.{ShareWhereSame}

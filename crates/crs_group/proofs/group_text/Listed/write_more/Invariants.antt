@@ -1,5 +1,5 @@
 use Rattle.std.proofs.Common.{◌≡◌, ◌++◌, drop}
-use Rattle.crs_streams.specs.Prelude.{json_more}
+use Rattle.crs_streams.specs.inner.Prelude.{json_more}
 use Rattle.crs_group.specs.GroupObjects.{json_line}
 use Rattle.crs_group.proofs.group_text.Listed.write_more.Given as goal
 

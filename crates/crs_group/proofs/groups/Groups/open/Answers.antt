@@ -1,6 +1,6 @@
 use Rattle.std.proofs.Common.{◌++◌, ◌∷◌, [], ◌∙◌, ap, subst, sym}
 use Rattle.indexmap.proofs.CallerLemmas.{insert_entry-new}
-use Rattle.crs_writer.specs.Prelude.{canons_equal}
+use Rattle.crs_writer.specs.inner.Prelude.{canons_equal}
 use Rattle.crs_group.specs.inner.Entries.{groups_of}
 use Rattle.crs_group.specs.inner.Putting.{IsNew, group_of}
 use Rattle.crs_group.proofs.EntryLemmas.{new-key, opened}

@@ -1,6 +1,6 @@
 use Rattle.std.proofs.Common.{◌++◌, ◌∷◌, [], ℕ, List, ap, append-nil, arith, length, length-append, refl, rules}
 use Rattle.std.proofs.lemmas.Result.{IfErr-weaker, IfOk-weaker}
-use Rattle.crs_streams.specs.Prelude.{HasNoFeed}
+use Rattle.crs_streams.specs.inner.Prelude.{HasNoFeed}
 use Rattle.crs_group.specs.inner.GroupReading.{IsCutFault, IsCutTo}
 use Rattle.crs_group.proofs.FaultLemmas.{handed-on}
 use Rattle.crs_group.proofs.GroupCutLemmas.{keep-fault, piece-end-fault, piece-fault, piece-kept, piece-step}

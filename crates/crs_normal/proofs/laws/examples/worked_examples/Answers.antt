@@ -1,13 +1,13 @@
 use Rattle.std.proofs.Common.{◌≡◌, ℕ, List, refl}
 use Rattle.std.specs.Fmt.{digits}
-use Rattle.crs_shape.specs.Prelude.{is_keyword, root_named, class_named, every_direction, every_type}
+use Rattle.crs_shape.specs.inner.Prelude.{is_keyword, root_named, class_named, every_direction, every_type}
 use Rattle.crs_shape.specs.declared.class.Class.{Class}
 use Rattle.crs_shape.specs.declared.class.Class.TheVariants as class
-use Rattle.crs_value.specs.Prelude.{ReadsCrs}
+use Rattle.crs_value.specs.inner.Prelude.{ReadsCrs}
 use Rattle.crs_value.specs.declared.values.crs.Crs.{Crs}
 use Rattle.crs_value.specs.declared.values.crs.Crs.TheVariants as crs
 use Rattle.crs_value.specs.declared.values.level.Level.TheVariants as levels
-use Rattle.crs_normal.specs.Examples as example
+use Rattle.crs_normal.specs.inner.Examples as example
 use Rattle.crs_normal.specs.inner.LowerLaws.{LowerLaws}
 use Rattle.crs_normal.proofs.verdicts.ExampleLemmas.{IsRead, is-normal, is-otherwise, placed, read-here}
 use Rattle.crs_normal.proofs.verdicts.NormalVerdict.{normal_in}

@@ -1,5 +1,5 @@
 use Rattle.crs_shape.specs.declared.class.Class.TheVariants as class
-use Rattle.crs_value.specs.Prelude.{ReadsAxis, IsAxis}
+use Rattle.crs_value.specs.inner.Prelude.{ReadsAxis, IsAxis}
 use Rattle.crs_normal.specs.AxisAlone.{IsNormalAxis}
 use Rattle.crs_normal.specs.inner.PartTexts.{norm_axis_alone}
 use Rattle.crs_normal.specs.inner.SpelledSystems.{item_axis}

@@ -1,6 +1,6 @@
 use Rattle.std.proofs.Common.{arith}
 use Rattle.crs_shape.specs.declared.class.Class.TheVariants as class
-use Rattle.crs_value.specs.Prelude.{ReadsDatum, ReadsEnsemble}
+use Rattle.crs_value.specs.inner.Prelude.{ReadsDatum, ReadsEnsemble}
 use Rattle.crs_normal.specs.inner.PartTexts.{item_own_datum}
 use Rattle.crs_normal.specs.inner.SpelledFrames.{item_ensemble}
 use Rattle.crs_normal.proofs.parts.PartFrameLemmas.{datum-back, datum-in-one, datum-made, datum-own, datum-sound, ensemble-back, ensemble-in-one, ensemble-made, ensemble-own, ensemble-sound}

@@ -1,8 +1,8 @@
 use Rattle.std.proofs.Common.{arith}
 use Rattle.crs_shape.specs.declared.class.Class.TheVariants as class
 use Rattle.crs_shape.specs.declared.unit_kind.UnitKind.TheVariants as kinds
-use Rattle.crs_value.specs.Prelude.{ReadsUnit}
-use Rattle.crs_same.specs.Prelude.{kind_as}
+use Rattle.crs_value.specs.inner.Prelude.{ReadsUnit}
+use Rattle.crs_same.specs.inner.Prelude.{kind_as}
 use Rattle.crs_normal.specs.PartSpellings.{unit_class}
 use Rattle.crs_normal.specs.inner.SpelledItems.{item_unit, norm_unit}
 use Rattle.crs_normal.proofs.made.UnitLemmas.{unit-made}

@@ -2,11 +2,11 @@ use Rattle.std.proofs.Common.{◌≡◌, Bool, List, [], ◌∷◌, true, map, r
 use Rattle.std.proofs.lemmas.Bool.{and_parts}
 use Rattle.std.proofs.lemmas.Bool.Decides.{same_from_decides}
 use Rattle.std.specs.List.{list_all}
-use Rattle.crs_text.specs.Prelude.{item_text}
-use Rattle.crs_value.specs.Prelude.{IsParameter, ParameterParts}
+use Rattle.crs_text.specs.inner.Prelude.{item_text}
+use Rattle.crs_value.specs.inner.Prelude.{IsParameter, ParameterParts}
 use Rattle.crs_value.specs.Sound.{Each}
-use Rattle.crs_same.specs.Prelude.{SameParameter}
-use Rattle.crs_normal.specs.Prelude.{in_order, item_parameter, norm_parameter, set_parameters}
+use Rattle.crs_same.specs.inner.Prelude.{SameParameter}
+use Rattle.crs_normal.specs.inner.Prelude.{in_order, item_parameter, norm_parameter, set_parameters}
 use Rattle.crs_normal.proofs.members.AgreeLemmas.{parameter-told}
 use Rattle.crs_normal.proofs.members.SetLemmas.{each-has, each-in_order, each-of, set-has}
 use Rattle.crs_normal.proofs.laws.sets.sets_of_parameters_have_each.Goals as goal

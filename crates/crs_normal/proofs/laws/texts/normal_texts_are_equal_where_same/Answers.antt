@@ -1,7 +1,7 @@
 use Rattle.std.proofs.Common.{◌∙◌, ap, subst, sym}
-use Rattle.crs_text.specs.Prelude.{item_text}
-use Rattle.crs_value.specs.Prelude.{Spells}
-use Rattle.crs_same.specs.Prelude.{SameCrs}
+use Rattle.crs_text.specs.inner.Prelude.{item_text}
+use Rattle.crs_value.specs.inner.Prelude.{Spells}
+use Rattle.crs_same.specs.inner.Prelude.{SameCrs}
 use Rattle.crs_normal.specs.inner.SpelledCrs.{item_crs}
 use Rattle.crs_normal.proofs.laws.texts.normal_texts_are_equal_where_same.Goals as goal
 

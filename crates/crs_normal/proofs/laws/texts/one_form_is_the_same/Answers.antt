@@ -1,7 +1,7 @@
 use Rattle.std.proofs.Common.{◌≡◌, subst, sym}
-use Rattle.crs_text.specs.Prelude.{item_text}
+use Rattle.crs_text.specs.inner.Prelude.{item_text}
 use Rattle.crs_value.specs.declared.values.crs.Crs.{Crs}
-use Rattle.crs_value.specs.Prelude.{Spells}
+use Rattle.crs_value.specs.inner.Prelude.{Spells}
 use Rattle.crs_normal.specs.inner.SpelledCrs.{item_crs, norm_crs}
 use Rattle.crs_normal.proofs.laws.texts.one_form_is_the_same.Goals as goal
 

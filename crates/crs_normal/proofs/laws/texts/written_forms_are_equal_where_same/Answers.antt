@@ -1,6 +1,6 @@
 use Rattle.std.proofs.Common.{ap, subst}
-use Rattle.crs_text.specs.Prelude.{item_text}
-use Rattle.crs_value.specs.Prelude.{Spells}
+use Rattle.crs_text.specs.inner.Prelude.{item_text}
+use Rattle.crs_value.specs.inner.Prelude.{Spells}
 use Rattle.crs_normal.specs.inner.SpelledCrs.{item_crs, norm_crs}
 use Rattle.crs_normal.proofs.laws.texts.written_forms_are_equal_where_same.Goals as goal
 

@@ -1,4 +1,4 @@
-use Rattle.crs_text.specs.Prelude.{here}
+use Rattle.crs_text.specs.inner.Prelude.{here}
 use Rattle.crs_shape.specs.declared.unit_kind.UnitKind.TheVariants as unit_kind
 use Rattle.crs_rules.proofs.MemberLemmas.{false-true, no-factor}
 use Rattle.crs_rules.proofs.file.member.factor_at.Goals as goal

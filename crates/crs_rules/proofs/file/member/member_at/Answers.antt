@@ -1,5 +1,5 @@
 use Rattle.std.proofs.Common.{subst, sym}
-use Rattle.crs_text.specs.Prelude.{here}
+use Rattle.crs_text.specs.inner.Prelude.{here}
 use Rattle.crs_rules.specs.Members.{SaysName}
 use Rattle.crs_rules.proofs.MemberLemmas.{no-text, not-text}
 use Rattle.crs_rules.proofs.file.member.member_at.Goals as goal

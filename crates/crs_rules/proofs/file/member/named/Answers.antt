@@ -1,6 +1,6 @@
 use Rattle.std.proofs.Common.{subst, sym}
-use Rattle.crs_text.specs.Prelude.{here, rest_of}
-use Rattle.crs_value.specs.Prelude.{IsReading, item_at, IsText}
+use Rattle.crs_text.specs.inner.Prelude.{here, rest_of}
+use Rattle.crs_value.specs.inner.Prelude.{IsReading, item_at, IsText}
 use Rattle.crs_rules.specs.Members.{kind_of}
 use Rattle.crs_rules.specs.inner.Named.{SaysNamed}
 use Rattle.crs_rules.proofs.MemberLemmas.{is-factor, is-text, no-name}

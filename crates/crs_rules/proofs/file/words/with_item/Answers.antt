@@ -1,5 +1,5 @@
 use Rattle.std.proofs.Common.{◌∙◌, ap, sym}
-use Rattle.crs_value.specs.Prelude.{item_at}
+use Rattle.crs_value.specs.inner.Prelude.{item_at}
 use Rattle.crs_rules.specs.Statements.{with_word}
 use Rattle.crs_rules.proofs.ReaderLemmas.{word-item}
 use Rattle.crs_rules.proofs.file.words.with_item.Goals as goal

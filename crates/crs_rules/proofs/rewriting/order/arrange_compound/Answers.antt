@@ -1,6 +1,6 @@
-use Rattle.crs_value.specs.Prelude.{IsHorizontal, IsVertical}
+use Rattle.crs_value.specs.inner.Prelude.{IsHorizontal, IsVertical}
 use Rattle.crs_value.specs.declared.values.level.Level.TheVariants as levels
-use Rattle.crs_normal.specs.Prelude.{axis_text}
+use Rattle.crs_normal.specs.inner.Prelude.{axis_text}
 use Rattle.crs_rules.proofs.CrsLemmas.{across-arranged, either-way, vertical-arranged}
 use Rattle.crs_rules.proofs.rewriting.order.arrange_compound.Goals as goal
 

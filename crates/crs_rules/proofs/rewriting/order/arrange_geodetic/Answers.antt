@@ -1,6 +1,6 @@
-use Rattle.crs_value.specs.Prelude.{GeodeticParts, IsGeodetic}
+use Rattle.crs_value.specs.inner.Prelude.{GeodeticParts, IsGeodetic}
 use Rattle.crs_value.specs.declared.values.level.Level.TheVariants as levels
-use Rattle.crs_normal.specs.Prelude.{axis_text}
+use Rattle.crs_normal.specs.inner.Prelude.{axis_text}
 use Rattle.crs_rules.proofs.CrsLemmas.{either-way, geodetic-arranged}
 use Rattle.crs_rules.proofs.rewriting.order.arrange_geodetic.Goals as goal
 

@@ -1,6 +1,6 @@
-use Rattle.crs_value.specs.Prelude.{ProjectedParts, IsProjected}
+use Rattle.crs_value.specs.inner.Prelude.{ProjectedParts, IsProjected}
 use Rattle.crs_value.specs.declared.values.level.Level.TheVariants as levels
-use Rattle.crs_normal.specs.Prelude.{axis_text}
+use Rattle.crs_normal.specs.inner.Prelude.{axis_text}
 use Rattle.crs_rules.proofs.CrsLemmas.{either-way, projected-arranged}
 use Rattle.crs_rules.proofs.rewriting.order.arrange_projected.Goals as goal
 

@@ -1,6 +1,6 @@
-use Rattle.crs_value.specs.Prelude.{VerticalParts, IsVertical}
+use Rattle.crs_value.specs.inner.Prelude.{VerticalParts, IsVertical}
 use Rattle.crs_value.specs.declared.values.level.Level.TheVariants as levels
-use Rattle.crs_normal.specs.Prelude.{axis_text}
+use Rattle.crs_normal.specs.inner.Prelude.{axis_text}
 use Rattle.crs_rules.proofs.CrsLemmas.{either-way, vertical-arranged}
 use Rattle.crs_rules.proofs.rewriting.order.arrange_vertical.Goals as goal
 

@@ -1,7 +1,7 @@
 use Rattle.std.proofs.Common.{◌+◌, ap, map, sym, ◌∙◌}
 use Rattle.std.specs.List.{swap}
 use Rattle.crs_value.specs.declared.values.level.Level.TheVariants as levels
-use Rattle.crs_normal.specs.Prelude.{axis_text}
+use Rattle.crs_normal.specs.inner.Prelude.{axis_text}
 use Rattle.indexmap.proofs.ReorderLemmas.{map-swap}
 use Rattle.crs_rules.proofs.rewriting.order.exchange.Goals as goal
 

@@ -1,6 +1,6 @@
 use Rattle.std.proofs.Common.{◌+◌, ◌-◌, ◌<◌, arith, length, refl}
 use Rattle.crs_value.specs.declared.values.level.Level.TheVariants as levels
-use Rattle.crs_normal.specs.Prelude.{axis_text}
+use Rattle.crs_normal.specs.inner.Prelude.{axis_text}
 use Rattle.crs_rules.proofs.SortLemmas.{sinks-end, sinks-next, sinks-on}
 use Rattle.crs_rules.proofs.rewriting.order.sink.Goals as goal
 

@@ -1,5 +1,5 @@
 use Rattle.crs_value.specs.declared.values.level.Level.TheVariants as levels
-use Rattle.crs_normal.specs.Prelude.{axis_text}
+use Rattle.crs_normal.specs.inner.Prelude.{axis_text}
 use Rattle.crs_rules.proofs.SortLemmas.{SortsFrom}
 use Rattle.crs_rules.proofs.rewriting.order.sort.Given as goal
 

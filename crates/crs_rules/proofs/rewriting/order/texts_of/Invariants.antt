@@ -1,6 +1,6 @@
 use Rattle.std.proofs.Common.{◌≡◌, ◌++◌, drop, map}
 use Rattle.crs_value.specs.declared.values.level.Level.TheVariants as level
-use Rattle.crs_normal.specs.Prelude.{axis_text}
+use Rattle.crs_normal.specs.inner.Prelude.{axis_text}
 use Rattle.crs_rules.proofs.rewriting.order.texts_of.Given as goal
 
 abbrev pub invariant-loop-axis : goal.invariant-loop-axis

@@ -1,4 +1,4 @@
-use Rattle.crs_value.specs.Prelude.{kept}
+use Rattle.crs_value.specs.inner.Prelude.{kept}
 use Rattle.crs_same.specs.inner.SamenessLaws.{by, set}
 use Rattle.crs_same.proofs.laws.parts.same_idents_is_equivalence.Goals as goal
 

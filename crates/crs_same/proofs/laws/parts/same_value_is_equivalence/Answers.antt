@@ -1,4 +1,4 @@
-use Rattle.crs_decimal.specs.Prelude.{SameNumber, exact}
+use Rattle.crs_decimal.specs.inner.Prelude.{SameNumber, exact}
 use Rattle.crs_same.specs.SameParts.{SameValue}
 use Rattle.crs_same.specs.inner.SamenessLaws.{by}
 use Rattle.crs_same.proofs.laws.parts.same_value_is_equivalence.Goals as goal

@@ -1,6 +1,6 @@
 use Rattle.std.proofs.Common.{◌≡◌, ◌∙◌, Ok, Err, MatchResult, rules, subst, sym}
 use Rattle.std.specs.Result.{result_ok}
-use Rattle.crs_decimal.specs.Prelude.{Denotes, IsFault, IsInBounds, IsNormal, exact}
+use Rattle.crs_decimal.specs.inner.Prelude.{Denotes, IsFault, IsInBounds, IsNormal, exact}
 use Rattle.crs_text.specs.Items.{IsNumberOf, first_of, here, kind_of_item}
 use Rattle.crs_text.specs.declared.items.ItemKind.TheVariants.{Number}
 use Rattle.crs_text.proofs.rows.TreeLemmas.{bounded, no_fault}

@@ -1,6 +1,6 @@
 use Rattle.std.proofs.Common.{ℕ, leb, cond, refl}
 use Rattle.std.proofs.lemmas.Simd.{zip2_splat, zip2_of_maps, splat_is_map}
-use Rattle.crs_decimal.specs.Prelude.{is_digit}
+use Rattle.crs_decimal.specs.inner.Prelude.{is_digit}
 use Rattle.crs_text.proofs.tokens.RunLemmas.{counted}
 use Rattle.crs_text.proofs.runs.DigitsByteKind.lanes.Goals as goal
 

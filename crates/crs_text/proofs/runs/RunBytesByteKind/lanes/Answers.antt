@@ -1,6 +1,6 @@
 use Rattle.std.proofs.Common.{ℕ, leb, cond, bit_and, refl}
 use Rattle.std.proofs.lemmas.Simd.{zip2_splat, zip2_of_maps, splat_is_map}
-use Rattle.crs_decimal.specs.Prelude.{is_run_byte}
+use Rattle.crs_decimal.specs.inner.Prelude.{is_run_byte}
 use Rattle.crs_text.proofs.tokens.RunLemmas.{counted}
 use Rattle.crs_text.proofs.runs.RunBytesByteKind.lanes.Goals as goal
 

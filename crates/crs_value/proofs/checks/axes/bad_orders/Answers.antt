@@ -1,7 +1,7 @@
 use Rattle.std.proofs.Common.{arith}
-use Rattle.crs_text.specs.Prelude.{arguments}
+use Rattle.crs_text.specs.inner.Prelude.{arguments}
 use Rattle.crs_shape.specs.declared.class.Class.TheVariants as class
-use Rattle.crs_value.specs.Cursor.{item}
+use Rattle.crs_value.specs.inner.Cursor.{item}
 use Rattle.crs_value.proofs.checked.OrderLemmas.{more-are-left, ordering-first, ordering-on}
 use Rattle.crs_value.proofs.checked.SystemLemmas.{those-few}
 use Rattle.crs_value.proofs.checks.axes.bad_orders.Goals as goal

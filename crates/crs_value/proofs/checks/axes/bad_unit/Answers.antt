@@ -1,8 +1,8 @@
 use Rattle.std.proofs.Common.{Some, None, refl, sym}
 use Rattle.crs_shape.specs.declared.class.Class.TheVariants as class
 use Rattle.crs_value.specs.Checks.{BadOwnUnit, BadUnit, HasOwnUnit, SharedFits, at}
-use Rattle.crs_value.specs.Cursor.{args, item}
-use Rattle.crs_value.specs.Reading.{item_at}
+use Rattle.crs_value.specs.inner.Cursor.{args, item}
+use Rattle.crs_value.specs.inner.Arguments.{item_at}
 use Rattle.crs_value.proofs.found.ArgumentLemmas.{first-shaped, found-shaped}
 use Rattle.crs_value.proofs.checked.CheckLemmas.{found-any, none-of, only-of}
 use Rattle.crs_value.proofs.checked.LeastLemmas.{least-at, lesser-none}

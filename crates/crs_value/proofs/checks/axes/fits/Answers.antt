@@ -1,6 +1,6 @@
 use Rattle.std.proofs.Common.{refl}
-use Rattle.crs_text.specs.Prelude.{raw_of}
-use Rattle.crs_value.specs.Reading.{item_at}
+use Rattle.crs_text.specs.inner.Prelude.{raw_of}
+use Rattle.crs_value.specs.inner.Arguments.{item_at}
 use Rattle.crs_value.proofs.checked.UnitLemmas.{fits-none}
 use Rattle.crs_value.proofs.checks.axes.fits.Goals as goal
 

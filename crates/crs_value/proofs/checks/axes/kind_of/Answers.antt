@@ -1,5 +1,5 @@
-use Rattle.crs_text.specs.Prelude.{raw_of}
-use Rattle.crs_value.specs.Reading.{item_at}
+use Rattle.crs_text.specs.inner.Prelude.{raw_of}
+use Rattle.crs_value.specs.inner.Arguments.{item_at}
 use Rattle.crs_value.proofs.checked.UnitLemmas.{keyword-raw, kind-read}
 use Rattle.crs_value.proofs.checks.axes.kind_of.Goals as goal
 

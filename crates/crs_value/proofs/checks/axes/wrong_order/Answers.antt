@@ -1,8 +1,8 @@
 use Rattle.std.proofs.Common.{take, inl, Some, None, refl, arith}
 use Rattle.crs_shape.specs.declared.class.Class.TheVariants as class
 use Rattle.crs_value.specs.Checks.{IsBadOrder, IsWrongOrder, at}
-use Rattle.crs_value.specs.Cursor.{args}
-use Rattle.crs_value.specs.Reading.{item_at}
+use Rattle.crs_value.specs.inner.Cursor.{args}
+use Rattle.crs_value.specs.inner.Arguments.{item_at}
 use Rattle.crs_value.proofs.found.ArgumentLemmas.{first-shaped, found-holds, found-is, found-shaped}
 use Rattle.crs_value.proofs.checked.CheckLemmas.{none-of, only-of}
 use Rattle.crs_value.proofs.checked.LeastLemmas.{least-at}

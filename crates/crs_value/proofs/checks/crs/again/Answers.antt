@@ -1,5 +1,5 @@
 use Rattle.std.proofs.Common.{List, Some, sym, subst, drop}
-use Rattle.crs_text.specs.Prelude.{Item}
+use Rattle.crs_text.specs.inner.Prelude.{Item}
 use Rattle.crs_value.specs.Checks.{AnyOf, IsLeast, IsRepeated}
 use Rattle.crs_value.proofs.found.ArgumentLemmas.{found-shaped}
 use Rattle.crs_value.proofs.checks.crs.again.Goals as goal

@@ -1,5 +1,5 @@
 use Rattle.std.proofs.Common.{refl}
-use Rattle.crs_value.specs.Reading.{item_at}
+use Rattle.crs_value.specs.inner.Arguments.{item_at}
 use Rattle.crs_value.proofs.checked.SystemLemmas.{count-none}
 use Rattle.crs_value.proofs.checks.crs.bad_count.Goals as goal
 

@@ -3,7 +3,7 @@ use Rattle.crs_value.specs.Checks.{IsUnsteady}
 use Rattle.crs_value.proofs.found.ArgumentLemmas.{found-shaped}
 use Rattle.crs_value.proofs.checked.CheckLemmas.{found-any}
 use Rattle.crs_value.proofs.checked.DynamicLemmas.{bad-beside}
-use Rattle.crs_value.specs.Cursor.{item}
+use Rattle.crs_value.specs.inner.Cursor.{item}
 use Rattle.crs_value.proofs.checks.crs.bad_dynamic.Goals as goal
 
 pub any_from-requires-clause-shaped : goal.any_from-requires-clause-shaped

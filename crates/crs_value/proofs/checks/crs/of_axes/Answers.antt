@@ -1,6 +1,6 @@
-use Rattle.crs_text.specs.Prelude.{arguments}
+use Rattle.crs_text.specs.inner.Prelude.{arguments}
 use Rattle.crs_shape.specs.declared.class.Class.TheVariants as class
-use Rattle.crs_value.specs.Cursor.{item}
+use Rattle.crs_value.specs.inner.Cursor.{item}
 use Rattle.crs_value.specs.Checks.{BadDynamic, BadOrder, BadUnit, AnyOf, OfAxes}
 use Rattle.crs_value.specs.Reading.{those}
 use Rattle.crs_value.proofs.checked.LeastLemmas.{either-is}

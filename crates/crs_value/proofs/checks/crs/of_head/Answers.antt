@@ -1,10 +1,11 @@
 use Rattle.std.proofs.Common.{ℕ, ◌⊎◌, sym, subst}
-use Rattle.crs_text.specs.Prelude.{arguments}
+use Rattle.crs_text.specs.inner.Prelude.{arguments}
 use Rattle.crs_shape.specs.declared.class.Class.TheVariants as class
-use Rattle.crs_shape.specs.Prelude.{dimensions_of}
-use Rattle.crs_value.specs.Cursor.{item}
+use Rattle.crs_shape.specs.inner.Prelude.{dimensions_of}
+use Rattle.crs_value.specs.inner.Cursor.{item}
 use Rattle.crs_value.specs.Checks.{AxisCount, BadSystem, AnyOf, IsLeast, OfHead, once, RepeatsAny}
-use Rattle.crs_value.specs.Reading.{item_at, those}
+use Rattle.crs_value.specs.Reading.{those}
+use Rattle.crs_value.specs.inner.Arguments.{item_at}
 use Rattle.crs_value.proofs.found.ArgumentLemmas.{first-shaped}
 use Rattle.crs_value.proofs.checked.CheckLemmas.{none-of, only-of}
 use Rattle.crs_value.proofs.checked.LeastLemmas.{either-is, lesser-none}

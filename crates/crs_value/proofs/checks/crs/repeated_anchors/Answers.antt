@@ -1,7 +1,7 @@
 use Rattle.std.proofs.Common.{[], ◌∷◌, None, sym}
-use Rattle.crs_text.specs.Prelude.{arguments}
+use Rattle.crs_text.specs.inner.Prelude.{arguments}
 use Rattle.crs_shape.specs.declared.class.Class.TheVariants as class
-use Rattle.crs_value.specs.Cursor.{item}
+use Rattle.crs_value.specs.inner.Cursor.{item}
 use Rattle.crs_value.specs.Checks.{Repeats, RepeatsAny}
 use Rattle.crs_value.proofs.checked.LeastLemmas.{either-is, lesser-none}
 use Rattle.crs_value.proofs.checks.crs.repeated_anchors.Goals as goal

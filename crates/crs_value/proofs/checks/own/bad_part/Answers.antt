@@ -1,7 +1,7 @@
 use Rattle.std.proofs.Common.{Some, None, refl}
 use Rattle.crs_value.specs.Checks.{BadComponent}
-use Rattle.crs_value.specs.Cursor.{item}
-use Rattle.crs_value.specs.Reading.{item_at}
+use Rattle.crs_value.specs.inner.Cursor.{item}
+use Rattle.crs_value.specs.inner.Arguments.{item_at}
 use Rattle.crs_value.proofs.found.ArgumentLemmas.{first-shaped}
 use Rattle.crs_value.proofs.checked.CheckLemmas.{none-of, only-of}
 use Rattle.crs_value.proofs.checked.ComponentLemmas.{part-bad, part-fine}

@@ -1,7 +1,7 @@
 use Rattle.std.proofs.Common.{◌∙◌, ap, sym}
 use Rattle.std.specs.List.{find}
 use Rattle.crs_value.specs.inner.FirstByte.{is_telling}
-use Rattle.crs_value.specs.Reading.{item_at}
+use Rattle.crs_value.specs.inner.Arguments.{item_at}
 use Rattle.crs_value.proofs.checked.SignLemmas.{above-sure}
 use Rattle.crs_value.proofs.checks.own.begins_above_zero.Goals as goal
 

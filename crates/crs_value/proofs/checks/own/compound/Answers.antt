@@ -1,9 +1,10 @@
 use Rattle.std.proofs.Common.{[], ◌∷◌, None, sym}
-use Rattle.crs_text.specs.Prelude.{arguments, RefusedAt}
+use Rattle.crs_text.specs.inner.Prelude.{arguments, RefusedAt}
 use Rattle.crs_shape.specs.declared.class.Class.{Class}
 use Rattle.crs_shape.specs.declared.class.Class.TheVariants as class
 use Rattle.crs_value.specs.Checks.{BadComponent, BadComponents, AnyOf, horizontal_classes, once, RepeatsAny}
-use Rattle.crs_value.specs.Reading.{item_at, those}
+use Rattle.crs_value.specs.Reading.{those}
+use Rattle.crs_value.specs.inner.Arguments.{item_at}
 use Rattle.crs_value.proofs.checked.LeastLemmas.{either-is, lesser-none}
 use Rattle.crs_value.proofs.checks.own.compound.Goals as goal
 

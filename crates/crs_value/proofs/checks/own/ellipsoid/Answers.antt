@@ -1,8 +1,9 @@
 use Rattle.std.proofs.Common.{take, drop}
-use Rattle.crs_text.specs.Prelude.{arguments}
+use Rattle.crs_text.specs.inner.Prelude.{arguments}
 use Rattle.crs_shape.specs.declared.class.Class.TheVariants as class
 use Rattle.crs_value.specs.Checks.{NotAbove, IsNegative, AnyOf}
-use Rattle.crs_value.specs.Reading.{item_at, those}
+use Rattle.crs_value.specs.Reading.{those}
+use Rattle.crs_value.specs.inner.Arguments.{item_at}
 use Rattle.crs_value.proofs.found.ArgumentLemmas.{first-shaped}
 use Rattle.crs_value.proofs.checked.CheckLemmas.{later-shaped, any-first, any-later}
 use Rattle.crs_value.proofs.checked.LeastLemmas.{either-is}

@@ -1,4 +1,4 @@
-use Rattle.crs_value.specs.Reading.{item_at}
+use Rattle.crs_value.specs.inner.Arguments.{item_at}
 use Rattle.crs_value.proofs.checked.ComponentLemmas.{plane-test}
 use Rattle.crs_value.proofs.checks.own.is_not_plane.Goals as goal
 

@@ -1,5 +1,5 @@
 use Rattle.std.proofs.Common.{None, subst}
-use Rattle.crs_text.specs.Prelude.{Siblings}
+use Rattle.crs_text.specs.inner.Prelude.{Siblings}
 use Rattle.crs_value.specs.Checks.{IsLeast, once, RepeatsAny}
 use Rattle.crs_value.proofs.found.ArgumentLemmas.{ahead_at, holds_at}
 use Rattle.crs_value.proofs.checks.own.repeated.Goals as goal

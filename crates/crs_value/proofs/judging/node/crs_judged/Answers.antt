@@ -1,5 +1,5 @@
 use Rattle.std.proofs.Common.{refl, sym}
-use Rattle.crs_value.specs.Reading.{item_at}
+use Rattle.crs_value.specs.inner.Arguments.{item_at}
 use Rattle.crs_value.proofs.checked.OwnLemmas.{own-crs}
 use Rattle.crs_value.proofs.found.ArgumentLemmas.{holds_at}
 use Rattle.crs_value.proofs.walk.JudgedLemmas.{inside-least, leaf-judged, shaped-by, walked-all, with-fault, with-whole}

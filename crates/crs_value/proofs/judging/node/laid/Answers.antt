@@ -1,5 +1,5 @@
 use Rattle.std.proofs.Common.{[], true, false}
-use Rattle.crs_shape.specs.Prelude.{any_of}
+use Rattle.crs_shape.specs.inner.Prelude.{any_of}
 use Rattle.crs_value.specs.inner.QuickChecks.{rest_slots}
 use Rattle.crs_value.proofs.walk.LayoutLemmas.{laid-parts, walked-as, walked-end}
 use Rattle.crs_value.proofs.judging.node.laid.Goals as goal

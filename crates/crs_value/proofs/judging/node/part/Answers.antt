@@ -1,5 +1,5 @@
 use Rattle.std.proofs.Common.{sym, ◌∙◌}
-use Rattle.crs_value.specs.Reading.{item_at}
+use Rattle.crs_value.specs.inner.Arguments.{item_at}
 use Rattle.crs_value.proofs.walk.JudgedLemmas.{leaf-judged, named-of, single-is, single-not}
 use Rattle.crs_value.proofs.judging.node.part.Goals as goal
 

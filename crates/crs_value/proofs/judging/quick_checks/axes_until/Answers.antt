@@ -1,6 +1,7 @@
 use Rattle.std.proofs.Common.{sym, ◌∙◌, ap}
 use Rattle.crs_shape.specs.declared.class.Class.TheVariants as class
-use Rattle.crs_value.specs.Reading.{ahead, those}
+use Rattle.crs_value.specs.Reading.{those}
+use Rattle.crs_value.specs.inner.Arguments.{ahead}
 use Rattle.crs_value.proofs.found.ArgumentLemmas.{has-some}
 use Rattle.crs_value.proofs.walk.LayoutLemmas.{noted-end, noted-first, noted-on, noted-shaped}
 use Rattle.crs_value.proofs.walk.RunLemmas.{nothing-seen}

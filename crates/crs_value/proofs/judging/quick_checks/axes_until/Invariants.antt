@@ -1,5 +1,5 @@
-use Rattle.crs_text.specs.Prelude.{count}
-use Rattle.crs_value.specs.Reading.{ahead}
+use Rattle.crs_text.specs.inner.Prelude.{count}
+use Rattle.crs_value.specs.inner.Arguments.{ahead}
 use Rattle.crs_value.proofs.walk.LayoutLemmas.{Noted}
 use Rattle.crs_value.proofs.judging.quick_checks.axes_until.Given as goal
 

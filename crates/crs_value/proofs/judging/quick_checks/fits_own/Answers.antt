@@ -1,4 +1,4 @@
-use Rattle.crs_value.specs.Reading.{item_at}
+use Rattle.crs_value.specs.inner.Arguments.{item_at}
 use Rattle.crs_value.proofs.checked.UnitLemmas.{own-fits}
 use Rattle.crs_value.proofs.judging.quick_checks.fits_own.Goals as goal
 

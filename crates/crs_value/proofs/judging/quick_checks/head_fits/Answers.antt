@@ -1,6 +1,6 @@
 use Rattle.std.proofs.Common.{refl}
-use Rattle.crs_shape.specs.Prelude.{dimensions_of}
-use Rattle.crs_value.specs.Reading.{item_at}
+use Rattle.crs_shape.specs.inner.Prelude.{dimensions_of}
+use Rattle.crs_value.specs.inner.Arguments.{item_at}
 use Rattle.crs_value.proofs.walk.RestLemmas.{head-none}
 use Rattle.crs_value.proofs.judging.quick_checks.head_fits.Goals as goal
 

@@ -1,4 +1,4 @@
-use Rattle.crs_value.specs.Reading.{ahead}
+use Rattle.crs_value.specs.inner.Arguments.{ahead}
 use Rattle.crs_value.proofs.found.ArgumentLemmas.{has-some, holds_at}
 use Rattle.crs_value.proofs.walk.RestLemmas.{climbing-first, climbing-on}
 use Rattle.crs_value.proofs.judging.quick_checks.is_ascending.Goals as goal

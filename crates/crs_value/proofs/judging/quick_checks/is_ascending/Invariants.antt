@@ -1,5 +1,5 @@
-use Rattle.crs_text.specs.Prelude.{count}
-use Rattle.crs_value.specs.Reading.{ahead, Holds}
+use Rattle.crs_text.specs.inner.Prelude.{count}
+use Rattle.crs_value.specs.inner.Arguments.{ahead, Holds}
 use Rattle.crs_value.proofs.walk.RestLemmas.{Climbing}
 use Rattle.crs_value.proofs.judging.quick_checks.is_ascending.Given as goal
 

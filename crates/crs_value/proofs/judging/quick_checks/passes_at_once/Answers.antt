@@ -1,4 +1,4 @@
-use Rattle.crs_value.specs.Reading.{item_at}
+use Rattle.crs_value.specs.inner.Arguments.{item_at}
 use Rattle.crs_value.proofs.walk.LayoutLemmas.{axes-shaped, laid-passes, system-shaped}
 use Rattle.crs_value.proofs.judging.quick_checks.passes_at_once.Goals as goal
 

@@ -1,6 +1,6 @@
 use Rattle.std.proofs.Common.{sym, ◌∙◌}
 use Rattle.crs_shape.specs.declared.class.Class.TheVariants as class
-use Rattle.crs_value.specs.Reading.{item_at}
+use Rattle.crs_value.specs.inner.Arguments.{item_at}
 use Rattle.crs_value.proofs.walk.RestLemmas.{once-none, once-some}
 use Rattle.crs_value.proofs.judging.quick_checks.rank_of.Goals as goal
 

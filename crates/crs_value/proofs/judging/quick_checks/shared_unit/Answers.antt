@@ -1,6 +1,7 @@
 use Rattle.std.proofs.Common.{◌∙◌, ap}
 use Rattle.crs_shape.specs.declared.class.Class.TheVariants as class
-use Rattle.crs_value.specs.Reading.{ahead, those}
+use Rattle.crs_value.specs.Reading.{those}
+use Rattle.crs_value.specs.inner.Arguments.{ahead}
 use Rattle.crs_value.proofs.judging.quick_checks.shared_unit.Goals as goal
 
 pub returns-then-same_place-clause-unit : goal.returns-then-same_place-clause-unit

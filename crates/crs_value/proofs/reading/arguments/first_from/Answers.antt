@@ -1,5 +1,6 @@
 use Rattle.std.proofs.Common.{sym, ◌∙◌, ap}
-use Rattle.crs_value.specs.Reading.{ahead, those}
+use Rattle.crs_value.specs.Reading.{those}
+use Rattle.crs_value.specs.inner.Arguments.{ahead}
 use Rattle.crs_value.proofs.reading.arguments.first_from.Goals as goal
 
 pub returns-then-same_place : goal.returns-then-same_place

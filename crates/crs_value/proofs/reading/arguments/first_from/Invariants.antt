@@ -1,6 +1,7 @@
 use Rattle.std.proofs.Common.{◌≡◌}
-use Rattle.crs_text.specs.Prelude.{count}
-use Rattle.crs_value.specs.Reading.{ahead, Holds, those}
+use Rattle.crs_text.specs.inner.Prelude.{count}
+use Rattle.crs_value.specs.Reading.{those}
+use Rattle.crs_value.specs.inner.Arguments.{ahead, Holds}
 use Rattle.crs_value.proofs.reading.arguments.first_from.Given as goal
 
 abbrev pub invariant-loop-at : goal.invariant-loop-at

@@ -1,7 +1,7 @@
 use Rattle.std.proofs.Common.{sym, ◌∙◌, arith}
-use Rattle.crs_text.specs.Prelude.{arguments}
+use Rattle.crs_text.specs.inner.Prelude.{arguments}
 use Rattle.crs_shape.specs.declared.class.Class.TheVariants as class
-use Rattle.crs_value.specs.Reading.{item_at}
+use Rattle.crs_value.specs.inner.Arguments.{item_at}
 use Rattle.crs_value.proofs.found.FirstArgumentsLemmas.{axis-among, seen-on, seen-past}
 use Rattle.crs_value.proofs.checked.SystemLemmas.{those-few}
 use Rattle.crs_value.proofs.reading.firsts.firsts_of.Goals as goal

@@ -1,5 +1,5 @@
-use Rattle.crs_text.specs.Prelude.{arguments, count}
-use Rattle.crs_value.specs.Reading.{item_at, ahead}
+use Rattle.crs_text.specs.inner.Prelude.{arguments, count}
+use Rattle.crs_value.specs.inner.Arguments.{item_at, ahead}
 use Rattle.crs_value.proofs.found.FirstArgumentsLemmas.{Seen}
 use Rattle.crs_value.proofs.reading.firsts.firsts_of.Given as goal
 

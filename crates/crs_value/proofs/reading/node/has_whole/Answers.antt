@@ -1,5 +1,5 @@
 use Rattle.std.proofs.Common.{subst}
-use Rattle.crs_value.specs.Reading.{item_at}
+use Rattle.crs_value.specs.inner.Arguments.{item_at}
 use Rattle.crs_value.specs.inner.WholeNumbers.{IsWhole}
 use Rattle.crs_value.proofs.walk.WholeNumberLemmas.{first-whole, same-whole}
 use Rattle.crs_value.proofs.reading.node.has_whole.Goals as goal

@@ -1,7 +1,7 @@
 use Rattle.std.proofs.Common.{sym, ap, ◌∙◌}
-use Rattle.crs_text.specs.Prelude.{first_of}
-use Rattle.crs_shape.specs.Prelude.{class_of_root}
-use Rattle.crs_value.specs.Reading.{item_at}
+use Rattle.crs_text.specs.inner.Prelude.{first_of}
+use Rattle.crs_shape.specs.inner.Prelude.{class_of_root}
+use Rattle.crs_value.specs.inner.Arguments.{item_at}
 use Rattle.crs_value.proofs.some.AnswerLemmas.{judged-spells}
 use Rattle.crs_value.proofs.walk.RootLemmas.{root-misplaced, root-unbroken, root-broken}
 use Rattle.crs_value.proofs.one.RootLemmas.{root-among}

@@ -1,5 +1,5 @@
 use Rattle.std.proofs.Common.{ap}
-use Rattle.crs_text.specs.Prelude.{first_of}
+use Rattle.crs_text.specs.inner.Prelude.{first_of}
 use Rattle.crs_value.proofs.one.RootLemmas.{root-among, spelled-sound}
 use Rattle.crs_value.proofs.reading.value.kind_of.Goals as goal
 

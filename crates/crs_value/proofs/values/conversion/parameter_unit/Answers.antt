@@ -1,6 +1,6 @@
 use Rattle.crs_shape.specs.declared.class.Class.TheVariants as class
-use Rattle.crs_value.specs.Cursor.{item}
-use Rattle.crs_value.specs.Reading.{item_at}
+use Rattle.crs_value.specs.inner.Cursor.{item}
+use Rattle.crs_value.specs.inner.Arguments.{item_at}
 use Rattle.crs_value.proofs.found.ArgumentLemmas.{first-sound}
 use Rattle.crs_value.proofs.found.ConversionLemmas.{chosen, none-chosen}
 use Rattle.crs_value.proofs.values.conversion.parameter_unit.Goals as goal

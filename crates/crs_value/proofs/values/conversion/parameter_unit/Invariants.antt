@@ -1,4 +1,4 @@
-use Rattle.crs_value.specs.Cursor.{item}
+use Rattle.crs_value.specs.inner.Cursor.{item}
 use Rattle.crs_value.proofs.found.ConversionLemmas.{Choosing}
 use Rattle.crs_value.proofs.values.conversion.parameter_unit.Given as goal
 

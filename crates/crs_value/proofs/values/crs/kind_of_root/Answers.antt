@@ -1,5 +1,5 @@
 use Rattle.std.proofs.Common.{rules, ◌∙◌}
-use Rattle.crs_value.specs.Cursor.{item}
+use Rattle.crs_value.specs.inner.Cursor.{item}
 use Rattle.crs_value.specs.ReadsCrs.{IsGeodeticClass}
 use Rattle.crs_value.proofs.found.KindLemmas.{geodetic-kind}
 use Rattle.crs_value.proofs.values.crs.kind_of_root.Goals as goal

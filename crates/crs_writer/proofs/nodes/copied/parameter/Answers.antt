@@ -2,7 +2,7 @@ use Rattle.std.proofs.Common.{◌≡◌, ◌∙◌, rules, subst}
 use Rattle.std.proofs.lemmas.Option.{IfSome_then}
 use Rattle.crs_text.specs.declared.items.ItemKind.TheVariants as items
 use Rattle.crs_shape.specs.declared.class.Class.TheVariants as class
-use Rattle.crs_value.specs.Prelude.{ahead, item_at, ReadsParameter}
+use Rattle.crs_value.specs.inner.Prelude.{ahead, item_at, ReadsParameter}
 use Rattle.crs_writer.specs.inner.Copied.{IsNext}
 use Rattle.crs_writer.specs.inner.Node.{item}
 use Rattle.crs_writer.proofs.CopiedLemmas.{IsPlainParameter, parameter-copied}

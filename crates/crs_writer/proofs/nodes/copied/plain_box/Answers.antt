@@ -1,6 +1,6 @@
 use Rattle.std.proofs.Common.{rules}
 use Rattle.crs_text.specs.declared.items.ItemKind.TheVariants as items
-use Rattle.crs_value.specs.Prelude.{item_at}
+use Rattle.crs_value.specs.inner.Prelude.{item_at}
 use Rattle.crs_writer.specs.inner.Copied.{IsNext}
 use Rattle.crs_writer.proofs.nodes.copied.plain_box.Goals as goal
 

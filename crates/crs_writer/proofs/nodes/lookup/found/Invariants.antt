@@ -1,6 +1,6 @@
 use Rattle.std.proofs.Common.{◌≡◌}
-use Rattle.crs_text.specs.Prelude.{count}
-use Rattle.crs_value.specs.Prelude.{ahead, Holds, those}
+use Rattle.crs_text.specs.inner.Prelude.{count}
+use Rattle.crs_value.specs.inner.Prelude.{ahead, Holds, those}
 use Rattle.crs_writer.proofs.nodes.lookup.found.Given as goal
 
 abbrev pub invariant-loop-at : goal.invariant-loop-at

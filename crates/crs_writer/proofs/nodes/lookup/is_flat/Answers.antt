@@ -1,5 +1,5 @@
 use Rattle.std.proofs.Common.{rules}
-use Rattle.crs_value.specs.Prelude.{item_at}
+use Rattle.crs_value.specs.inner.Prelude.{item_at}
 use Rattle.crs_writer.proofs.FlatNodeLemmas.{leaves-by}
 use Rattle.crs_writer.proofs.nodes.lookup.is_flat.Goals as goal
 

@@ -1,8 +1,8 @@
 use Rattle.std.proofs.Common.{ap, drop, length, length-drop, arith, sym, ◌∙◌}
 use Rattle.std.proofs.Math.ListN.{drop_of_length-le}
 use Rattle.std.proofs.lemmas.List.{drop-drop}
-use Rattle.crs_text.specs.Prelude.{arguments}
-use Rattle.crs_value.specs.Prelude.{item_at, those}
+use Rattle.crs_text.specs.inner.Prelude.{arguments}
+use Rattle.crs_value.specs.inner.Prelude.{item_at, those}
 use Rattle.crs_writer.proofs.nodes.lookup.nth.Goals as goal
 
 pub loop-step-preserved : goal.loop-step-preserved

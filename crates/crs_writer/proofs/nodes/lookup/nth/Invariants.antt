@@ -1,6 +1,6 @@
 use Rattle.std.proofs.Common.{◌≡◌, drop}
-use Rattle.crs_text.specs.Prelude.{arguments}
-use Rattle.crs_value.specs.Prelude.{from_found, item_at, those, Holds}
+use Rattle.crs_text.specs.inner.Prelude.{arguments}
+use Rattle.crs_value.specs.inner.Prelude.{from_found, item_at, those, Holds}
 use Rattle.crs_writer.proofs.nodes.lookup.nth.Given as goal
 
 abbrev pub invariant-loop-step : goal.invariant-loop-step

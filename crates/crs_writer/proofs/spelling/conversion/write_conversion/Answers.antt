@@ -1,7 +1,7 @@
 use Rattle.std.proofs.Common.{codes}
 use Rattle.std.proofs.lemmas.Result.{on_ok_weaker}
-use Rattle.crs_text.specs.Prelude.{End, More, Siblings}
-use Rattle.crs_normal.specs.Prelude.{each, item_ident, item_method, item_parameter, norm_method, set_idents, set_parameters}
+use Rattle.crs_text.specs.inner.Prelude.{End, More, Siblings}
+use Rattle.crs_normal.specs.inner.Prelude.{each, item_ident, item_method, item_parameter, norm_method, set_idents, set_parameters}
 use Rattle.crs_writer.specs.inner.Openings.{opened}
 use Rattle.crs_writer.proofs.NodeTextLemmas.{closed}
 use Rattle.crs_writer.proofs.FlatLemmas.{then-set, told}

@@ -1,5 +1,5 @@
 use Rattle.crs_shape.specs.declared.class.Class.TheVariants as class
-use Rattle.crs_value.specs.Prelude.{ReadsEllipsoid}
+use Rattle.crs_value.specs.inner.Prelude.{ReadsEllipsoid}
 use Rattle.crs_writer.proofs.FoundLemmas.{first-said}
 use Rattle.crs_writer.proofs.FlatLemmas.{written}
 use Rattle.crs_writer.proofs.spelling.frame.write_datum_of.Goals as goal

@@ -1,9 +1,9 @@
 use Rattle.std.proofs.Common.{codes}
 use Rattle.std.proofs.lemmas.Result.{on_ok_weaker}
 use Rattle.std.specs.Option.{option_map}
-use Rattle.crs_text.specs.Prelude.{End, More, Siblings}
+use Rattle.crs_text.specs.inner.Prelude.{End, More, Siblings}
 use Rattle.crs_writer.specs.inner.Openings.{opened}
-use Rattle.crs_normal.specs.Prelude.{each, item_ellipsoid, item_ident, item_member, norm_ellipsoid, number_node, opt, set_idents, set_members}
+use Rattle.crs_normal.specs.inner.Prelude.{each, item_ellipsoid, item_ident, item_member, norm_ellipsoid, number_node, opt, set_idents, set_members}
 use Rattle.crs_writer.proofs.NodeTextLemmas.{closed}
 use Rattle.crs_writer.proofs.FlatLemmas.{then-part, then-set, told}
 use Rattle.crs_writer.proofs.PieceLemmas.{then-more}

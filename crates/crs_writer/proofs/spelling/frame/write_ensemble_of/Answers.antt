@@ -1,7 +1,7 @@
 use Rattle.std.proofs.Common.{[], ◌∷◌}
 use Rattle.crs_shape.specs.declared.class.Class.TheVariants as class
-use Rattle.crs_value.specs.Prelude.{ReadsEllipsoid, ReadsEnsemble, ReadsNamed}
-use Rattle.crs_normal.specs.Prelude.{ensemble_text}
+use Rattle.crs_value.specs.inner.Prelude.{ReadsEllipsoid, ReadsEnsemble, ReadsNamed}
+use Rattle.crs_normal.specs.inner.Prelude.{ensemble_text}
 use Rattle.crs_writer.proofs.FoundLemmas.{all-said, first-said, one-found}
 use Rattle.crs_writer.proofs.FlatLemmas.{written}
 use Rattle.crs_writer.proofs.PieceLemmas.{two}

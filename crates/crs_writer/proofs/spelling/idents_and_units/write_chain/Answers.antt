@@ -1,5 +1,5 @@
 use Rattle.crs_shape.specs.declared.class.Class.TheVariants as class
-use Rattle.crs_value.specs.Prelude.{ReadsIdent}
+use Rattle.crs_value.specs.inner.Prelude.{ReadsIdent}
 use Rattle.crs_writer.proofs.FoundLemmas.{all-said}
 use Rattle.crs_writer.proofs.FlatLemmas.{written}
 use Rattle.crs_writer.proofs.spelling.idents_and_units.write_chain.Goals as goal

@@ -1,7 +1,7 @@
 use Rattle.std.proofs.Common.{codes}
 use Rattle.std.proofs.lemmas.Result.{on_ok_weaker}
-use Rattle.crs_text.specs.Prelude.{End, More, Siblings, others_text}
-use Rattle.crs_normal.specs.Prelude.{code_item, opt, text_node}
+use Rattle.crs_text.specs.inner.Prelude.{End, More, Siblings, others_text}
+use Rattle.crs_normal.specs.inner.Prelude.{code_item, opt, text_node}
 use Rattle.crs_writer.specs.inner.Openings.{opened, text_behind}
 use Rattle.crs_writer.proofs.PieceLemmas.{then-opt}
 use Rattle.crs_writer.proofs.NodeTextLemmas.{closed, last-text, then-one, then-text}

@@ -1,5 +1,5 @@
 use Rattle.std.proofs.Common.{◌≡◌, ◌+◌, drop}
-use Rattle.crs_normal.specs.Prelude.{axis_at}
+use Rattle.crs_normal.specs.inner.Prelude.{axis_at}
 use Rattle.crs_writer.proofs.spelling.system.axis_at.Given as goal
 
 abbrev pub invariant-loop-axis : goal.invariant-loop-axis

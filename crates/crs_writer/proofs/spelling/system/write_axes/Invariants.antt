@@ -1,7 +1,7 @@
 use Rattle.std.proofs.Common.{◌≡◌, ◌+◌, ◌-◌, ◌++◌, length}
-use Rattle.crs_text.specs.Prelude.{End, others_text}
-use Rattle.crs_value.specs.Prelude.{SystemParts}
-use Rattle.crs_normal.specs.Prelude.{each, axes_from, item_axis}
+use Rattle.crs_text.specs.inner.Prelude.{End, others_text}
+use Rattle.crs_value.specs.inner.Prelude.{SystemParts}
+use Rattle.crs_normal.specs.inner.Prelude.{each, axes_from, item_axis}
 use Rattle.crs_writer.proofs.spelling.system.write_axes.Given as goal
 
 abbrev pub invariant-loop-index : goal.invariant-loop-index

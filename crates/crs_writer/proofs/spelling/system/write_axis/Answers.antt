@@ -1,8 +1,8 @@
 use Rattle.std.proofs.Common.{◌∷◌, ◌++◌, ◌∙◌, ℕ, List, ap, codes}
 use Rattle.std.proofs.lemmas.Result.{on_ok_weaker}
-use Rattle.crs_text.specs.Prelude.{End, More, Siblings, item_text}
-use Rattle.crs_shape.specs.Prelude.{direction_word}
-use Rattle.crs_normal.specs.Prelude.{each, number_node, opt, word_item, item_axis_meridian, norm_axis_meridians, item_ident, item_unit, norm_unit, norm_units, set_idents}
+use Rattle.crs_text.specs.inner.Prelude.{End, More, Siblings, item_text}
+use Rattle.crs_shape.specs.inner.Prelude.{direction_word}
+use Rattle.crs_normal.specs.inner.Prelude.{each, number_node, opt, word_item, item_axis_meridian, norm_axis_meridians, item_ident, item_unit, norm_unit, norm_units, set_idents}
 use Rattle.crs_writer.specs.inner.Openings.{opened}
 use Rattle.crs_writer.specs.inner.Parts.{opt_text}
 use Rattle.crs_writer.proofs.PieceLemmas.{then-more}

@@ -1,8 +1,8 @@
 use Rattle.std.proofs.Common.{Some, ap, refl, sym, ◌∙◌}
 use Rattle.std.proofs.lemmas.Result.{on_ok_weaker}
-use Rattle.crs_shape.specs.Prelude.{asked_kind}
-use Rattle.crs_value.specs.Prelude.{AxisParts, SystemParts}
-use Rattle.crs_normal.specs.Prelude.{whole_value}
+use Rattle.crs_shape.specs.inner.Prelude.{asked_kind}
+use Rattle.crs_value.specs.inner.Prelude.{AxisParts, SystemParts}
+use Rattle.crs_normal.specs.inner.Prelude.{whole_value}
 use Rattle.crs_writer.proofs.FlatLemmas.{copied}
 use Rattle.crs_writer.proofs.SystemLemmas.{placed}
 use Rattle.crs_writer.proofs.spelling.system.write_axis_in.Goals as goal

@@ -1,9 +1,9 @@
 use Rattle.std.proofs.Common.{◌++◌, ◌∷◌, ℕ, List, Some, ap, refl, sym, ◌∙◌}
 use Rattle.std.proofs.lemmas.Result.{on_ok_weaker}
-use Rattle.crs_shape.specs.Prelude.{asked_kind}
+use Rattle.crs_shape.specs.inner.Prelude.{asked_kind}
 use Rattle.crs_shape.specs.declared.class.Class.TheVariants as class
-use Rattle.crs_value.specs.Prelude.{ReadsAxisMeridian, ReadsUnit}
-use Rattle.crs_normal.specs.Prelude.{whole_value}
+use Rattle.crs_value.specs.inner.Prelude.{ReadsAxisMeridian, ReadsUnit}
+use Rattle.crs_normal.specs.inner.Prelude.{whole_value}
 use Rattle.crs_writer.specs.inner.Node.{item}
 use Rattle.crs_writer.specs.declared.nodes.node.Node.{Node}
 use Rattle.crs_writer.proofs.FoundLemmas.{first-said}

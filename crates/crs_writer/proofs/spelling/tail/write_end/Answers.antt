@@ -1,7 +1,7 @@
 use Rattle.std.proofs.Common.{codes}
 use Rattle.std.proofs.lemmas.Result.{on_ok_weaker}
-use Rattle.crs_text.specs.Prelude.{End}
-use Rattle.crs_normal.specs.Prelude.{item_ident, opt, set_idents, text_node}
+use Rattle.crs_text.specs.inner.Prelude.{End}
+use Rattle.crs_normal.specs.inner.Prelude.{item_ident, opt, set_idents, text_node}
 use Rattle.crs_writer.specs.inner.Openings.{text_behind}
 use Rattle.crs_writer.proofs.PieceLemmas.{then-each}
 use Rattle.crs_writer.proofs.NodeTextLemmas.{last-text}

@@ -1,9 +1,9 @@
 use Rattle.std.proofs.Common.{◌≡◌, ◌++◌, ◌∙◌, ℕ, List, ap, codes, length, rules}
 use Rattle.std.proofs.lemmas.Result.{on_ok_weaker}
 use Rattle.std.specs.Option.{option_map}
-use Rattle.crs_text.specs.Prelude.{End, Siblings}
+use Rattle.crs_text.specs.inner.Prelude.{End, Siblings}
 use Rattle.crs_value.specs.declared.values.level.Level.TheVariants as levels
-use Rattle.crs_normal.specs.Prelude.{opt, text_node, item_box, item_extent, norm_extent}
+use Rattle.crs_normal.specs.inner.Prelude.{opt, text_node, item_box, item_extent, norm_extent}
 use Rattle.crs_writer.specs.inner.Openings.{enclosed, text_behind}
 use Rattle.crs_writer.proofs.NodeTextLemmas.{then-text}
 use Rattle.crs_writer.proofs.EncloseLemmas.{from-enclosed}

@@ -1,6 +1,6 @@
 use Rattle.std.proofs.Common.{◌≡◌, ◌++◌, ◌∙◌, ℕ, List, ap, false, sym, true}
 use Rattle.crs_shape.specs.declared.class.Class.TheVariants as class
-use Rattle.crs_value.specs.Prelude.{ReadsUsage}
+use Rattle.crs_value.specs.inner.Prelude.{ReadsUsage}
 use Rattle.crs_writer.specs.inner.Node.{item}
 use Rattle.crs_writer.proofs.FoundLemmas.{all-said}
 use Rattle.crs_writer.proofs.NothingWrittenLemmas.{untold, usages-dropped, usages-kept, with-some, without-bare}

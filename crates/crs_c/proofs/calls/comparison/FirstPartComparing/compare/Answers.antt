@@ -1,5 +1,5 @@
 use Rattle.std.proofs.lemmas.Result.{IfOk-weaker}
-use Rattle.crs_same.specs.Prelude.{SameCrs}
+use Rattle.crs_same.specs.inner.Prelude.{SameCrs}
 use Rattle.crs_c.proofs.WordLemmas.{no-words}
 use Rattle.crs_c.proofs.calls.comparison.FirstPartComparing.compare.Goals as goal
 

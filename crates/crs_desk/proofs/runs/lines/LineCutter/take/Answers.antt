@@ -1,6 +1,6 @@
 use Rattle.std.proofs.Common.{◌≡◌, ◌∙◌, ◌++◌, ◌∷◌, [], ap, append-nil, append_assoc, arith, length, length-append, refl, rules, subst, sym}
 use Rattle.std.proofs.lemmas.Result.{IfErr-weaker, IfOk-weaker}
-use Rattle.crs_streams.specs.Prelude.{HasNoFeed}
+use Rattle.crs_streams.specs.inner.Prelude.{HasNoFeed}
 use Rattle.crs_desk.specs.inner.LineCutting.{CutterParts, IsLinesCut, WriterParts}
 use Rattle.crs_desk.proofs.LineCutLemmas.{cut-emptied, cut-kept, cut-unsendable, cutter_of, keep-stopped, piece-step, split-small}
 use Rattle.crs_desk.proofs.runs.lines.LineCutter.take.Goals as goal

@@ -1,5 +1,5 @@
 use Rattle.std.proofs.Common.{◌≡◌, ◌+◌, ◌≤◌, ◌++◌, ℕ, List, length}
-use Rattle.crs_streams.specs.Prelude.{SinkState}
+use Rattle.crs_streams.specs.inner.Prelude.{SinkState}
 use Rattle.crs_desk.specs.inner.LineCutting.{IsLinesCut}
 use Rattle.crs_desk.proofs.runs.lines.LineCutter.take.Given as goal
 

@@ -1,6 +1,6 @@
 use Rattle.std.proofs.Common.{Some}
-use Rattle.crs_text.specs.Prelude.{count}
-use Rattle.crs_value.specs.Prelude.{ahead}
+use Rattle.crs_text.specs.inner.Prelude.{count}
+use Rattle.crs_value.specs.inner.Prelude.{ahead}
 use Rattle.crs_rules.specs.Statements.{FaultOfNode, Joins, listed}
 use Rattle.crs_rules.proofs.WalkLemmas.{Walks}
 use Rattle.crs_rules.proofs.file.reader.RulesReader.add_others.Given as goal

@@ -1,5 +1,5 @@
-use Rattle.crs_text.specs.Prelude.{count}
-use Rattle.crs_value.specs.Prelude.{ahead}
+use Rattle.crs_text.specs.inner.Prelude.{count}
+use Rattle.crs_value.specs.inner.Prelude.{ahead}
 use Rattle.crs_rules.specs.Statements.{Drops, FaultOfWord, listed}
 use Rattle.crs_rules.proofs.WalkLemmas.{Walks}
 use Rattle.crs_rules.proofs.file.reader.RulesReader.drop_words.Given as goal

@@ -1,4 +1,4 @@
-use Rattle.crs_value.specs.Reading.{item_at}
+use Rattle.crs_value.specs.inner.Arguments.{item_at}
 use Rattle.crs_value.proofs.checked.UnitLemmas.{asks-one}
 use Rattle.crs_value.proofs.checks.axes.Asking.asks.Goals as goal
 

@@ -1,5 +1,5 @@
-use Rattle.crs_value.specs.Cursor.{item}
-use Rattle.crs_value.specs.Reading.{item_at}
+use Rattle.crs_value.specs.inner.Cursor.{item}
+use Rattle.crs_value.specs.inner.Arguments.{item_at}
 use Rattle.crs_value.proofs.checked.UnitLemmas.{asking-first}
 use Rattle.crs_value.proofs.checks.axes.Asking.fits_as.Goals as goal
 

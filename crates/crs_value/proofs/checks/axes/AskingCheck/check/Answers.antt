@@ -1,7 +1,7 @@
 use Rattle.std.proofs.Common.{Some, None, refl}
 use Rattle.crs_shape.specs.declared.unit_kind.UnitKind.{UnitKind}
 use Rattle.crs_value.specs.Checks.{Asks, Fits, at}
-use Rattle.crs_value.specs.Reading.{item_at}
+use Rattle.crs_value.specs.inner.Arguments.{item_at}
 use Rattle.crs_value.proofs.checked.LeastLemmas.{least-at}
 use Rattle.crs_value.proofs.checked.UnitLemmas.{misfit-none, misfit-unknown, own-some}
 use Rattle.crs_value.proofs.checks.axes.AskingCheck.check.Goals as goal

@@ -1,5 +1,5 @@
 use Rattle.std.proofs.Common.{sym}
-use Rattle.crs_value.specs.Reading.{item_at}
+use Rattle.crs_value.specs.inner.Arguments.{item_at}
 use Rattle.crs_value.proofs.checked.CheckLemmas.{negative-none}
 use Rattle.crs_value.proofs.checks.own.NotNegativeCheck.check.Goals as goal
 

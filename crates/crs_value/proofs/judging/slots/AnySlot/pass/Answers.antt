@@ -1,5 +1,5 @@
 use Rattle.std.proofs.Common.{refl, ap, None, Some}
-use Rattle.crs_shape.specs.Prelude.{any_of}
+use Rattle.crs_shape.specs.inner.Prelude.{any_of}
 use Rattle.crs_value.proofs.found.ArgumentLemmas.{has-some, holds_at}
 use Rattle.crs_value.proofs.walk.JudgedLemmas.{passed-free, passed-skip, passed-stop, reaches-end, reaches-on}
 use Rattle.crs_value.proofs.walk.LeftLemmas.{leaves-past, leaves-to}

@@ -1,7 +1,7 @@
-use Rattle.crs_text.specs.Prelude.{count}
-use Rattle.crs_shape.specs.Prelude.{any_of}
+use Rattle.crs_text.specs.inner.Prelude.{count}
+use Rattle.crs_shape.specs.inner.Prelude.{any_of}
 use Rattle.crs_value.specs.inner.Judged.{Leaves}
-use Rattle.crs_value.specs.Reading.{ahead, Holds}
+use Rattle.crs_value.specs.inner.Arguments.{ahead, Holds}
 use Rattle.crs_value.proofs.walk.JudgedLemmas.{Reaches}
 use Rattle.crs_value.proofs.judging.slots.AnySlot.pass.Given as goal
 

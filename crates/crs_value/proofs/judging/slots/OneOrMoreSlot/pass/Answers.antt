@@ -1,4 +1,4 @@
-use Rattle.crs_shape.specs.Prelude.{some_of}
+use Rattle.crs_shape.specs.inner.Prelude.{some_of}
 use Rattle.crs_value.proofs.walk.JudgedLemmas.{passed-none, passed-some}
 use Rattle.crs_value.proofs.walk.LeftLemmas.{leaves-again}
 use Rattle.crs_value.proofs.judging.slots.OneOrMoreSlot.pass.Goals as goal

@@ -1,5 +1,5 @@
 use Rattle.std.proofs.Common.{refl, ap, Some}
-use Rattle.crs_shape.specs.Prelude.{one_of}
+use Rattle.crs_shape.specs.inner.Prelude.{one_of}
 use Rattle.crs_value.proofs.found.ArgumentLemmas.{has-some}
 use Rattle.crs_value.proofs.walk.JudgedLemmas.{passed-short, passed-wrong, passed-one, passed-stop}
 use Rattle.crs_value.proofs.walk.LeftLemmas.{leaves-judged}

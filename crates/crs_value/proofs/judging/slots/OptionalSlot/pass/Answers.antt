@@ -1,5 +1,5 @@
 use Rattle.std.proofs.Common.{refl, ap, None, Some}
-use Rattle.crs_shape.specs.Prelude.{optional_of}
+use Rattle.crs_shape.specs.inner.Prelude.{optional_of}
 use Rattle.crs_value.proofs.found.ArgumentLemmas.{has-some}
 use Rattle.crs_value.proofs.walk.JudgedLemmas.{passed-free, passed-skip, passed-one, passed-stop}
 use Rattle.crs_value.proofs.walk.LeftLemmas.{leaves-at, leaves-judged, leaves-none}

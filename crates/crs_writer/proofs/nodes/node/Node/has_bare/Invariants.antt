@@ -1,8 +1,8 @@
 use Rattle.std.proofs.Common.{◌≡◌}
-use Rattle.crs_text.specs.Prelude.{count}
+use Rattle.crs_text.specs.inner.Prelude.{count}
 use Rattle.crs_shape.specs.declared.class.Class.{Class}
 use Rattle.crs_shape.specs.declared.class.Class.TheVariants as class
-use Rattle.crs_value.specs.Prelude.{ahead, Holds, those}
+use Rattle.crs_value.specs.inner.Prelude.{ahead, Holds, those}
 use Rattle.crs_writer.proofs.nodes.node.Node.has_bare.Given as goal
 
 abbrev pub invariant-loop-at : goal.invariant-loop-at

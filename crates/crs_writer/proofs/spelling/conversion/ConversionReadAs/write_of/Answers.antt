@@ -1,5 +1,5 @@
 use Rattle.crs_shape.specs.declared.class.Class.TheVariants as class
-use Rattle.crs_value.specs.Prelude.{ReadsParameter, ReadsNamed}
+use Rattle.crs_value.specs.inner.Prelude.{ReadsParameter, ReadsNamed}
 use Rattle.crs_writer.proofs.FoundLemmas.{all-said, one-said}
 use Rattle.crs_writer.proofs.FlatLemmas.{written}
 use Rattle.crs_writer.proofs.spelling.conversion.ConversionReadAs.write_of.Goals as goal

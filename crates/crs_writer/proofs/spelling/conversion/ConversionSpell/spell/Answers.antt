@@ -1,5 +1,5 @@
 use Rattle.std.proofs.Common.{refl, sym}
-use Rattle.crs_normal.specs.Prelude.{conversion_text}
+use Rattle.crs_normal.specs.inner.Prelude.{conversion_text}
 use Rattle.crs_writer.proofs.FlatLemmas.{spelled}
 use Rattle.crs_writer.proofs.spelling.conversion.ConversionSpell.spell.Goals as goal
 

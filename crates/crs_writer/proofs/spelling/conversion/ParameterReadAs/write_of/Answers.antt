@@ -1,4 +1,4 @@
-use Rattle.crs_value.specs.Prelude.{ReadsUnit}
+use Rattle.crs_value.specs.inner.Prelude.{ReadsUnit}
 use Rattle.crs_writer.specs.inner.Node.{item}
 use Rattle.crs_writer.specs.declared.nodes.node.Node.{Node}
 use Rattle.crs_writer.proofs.CopyLemmas.{copy-writes}

@@ -1,5 +1,5 @@
 use Rattle.crs_shape.specs.declared.class.Class.TheVariants as class
-use Rattle.crs_value.specs.Prelude.{ReadsVertical}
+use Rattle.crs_value.specs.inner.Prelude.{ReadsVertical}
 use Rattle.crs_writer.proofs.FoundLemmas.{one-said}
 use Rattle.crs_writer.proofs.FlatLemmas.{written}
 use Rattle.crs_writer.proofs.spelling.crs.CompoundReadAs.write_of.Goals as goal

@@ -1,5 +1,5 @@
 use Rattle.std.proofs.Common.{refl}
-use Rattle.crs_normal.specs.Prelude.{compound_text}
+use Rattle.crs_normal.specs.inner.Prelude.{compound_text}
 use Rattle.crs_writer.proofs.FlatLemmas.{spelled}
 use Rattle.crs_writer.proofs.spelling.crs.CompoundSpell.spell.Goals as goal
 

@@ -1,5 +1,5 @@
 use Rattle.std.proofs.Common.{refl}
-use Rattle.crs_normal.specs.Prelude.{projected_text}
+use Rattle.crs_normal.specs.inner.Prelude.{projected_text}
 use Rattle.crs_writer.proofs.FlatLemmas.{spelled}
 use Rattle.crs_writer.proofs.spelling.crs.ProjectedSpell.spell.Goals as goal
 

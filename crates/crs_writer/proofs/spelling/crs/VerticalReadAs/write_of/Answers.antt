@@ -1,5 +1,5 @@
 use Rattle.crs_shape.specs.declared.class.Class.TheVariants as class
-use Rattle.crs_value.specs.Prelude.{ReadsDynamic, ReadsNamed}
+use Rattle.crs_value.specs.inner.Prelude.{ReadsDynamic, ReadsNamed}
 use Rattle.crs_writer.proofs.FoundLemmas.{all-said, first-said}
 use Rattle.crs_writer.proofs.FlatLemmas.{written}
 use Rattle.crs_writer.proofs.spelling.crs.VerticalReadAs.write_of.Goals as goal

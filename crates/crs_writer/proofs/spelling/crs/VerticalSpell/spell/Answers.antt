@@ -1,5 +1,5 @@
 use Rattle.std.proofs.Common.{refl, sym}
-use Rattle.crs_normal.specs.Prelude.{vertical_text}
+use Rattle.crs_normal.specs.inner.Prelude.{vertical_text}
 use Rattle.crs_writer.proofs.FlatLemmas.{copied, spelled}
 use Rattle.crs_writer.proofs.spelling.crs.VerticalSpell.spell.Goals as goal
 

@@ -1,5 +1,5 @@
 use Rattle.std.proofs.Common.{refl, sym}
-use Rattle.crs_normal.specs.Prelude.{ensemble_text}
+use Rattle.crs_normal.specs.inner.Prelude.{ensemble_text}
 use Rattle.crs_writer.proofs.FlatLemmas.{copied, spelled}
 use Rattle.crs_writer.proofs.spelling.frame.EnsembleSpell.spell.Goals as goal
 

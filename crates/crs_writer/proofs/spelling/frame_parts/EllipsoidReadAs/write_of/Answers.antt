@@ -1,5 +1,5 @@
 use Rattle.crs_shape.specs.declared.class.Class.TheVariants as class
-use Rattle.crs_value.specs.Prelude.{ReadsUnit}
+use Rattle.crs_value.specs.inner.Prelude.{ReadsUnit}
 use Rattle.crs_writer.proofs.FoundLemmas.{first-said}
 use Rattle.crs_writer.proofs.FlatLemmas.{written}
 use Rattle.crs_writer.proofs.spelling.frame_parts.EllipsoidReadAs.write_of.Goals as goal

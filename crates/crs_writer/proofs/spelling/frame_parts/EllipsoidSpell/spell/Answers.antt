@@ -1,5 +1,5 @@
 use Rattle.std.proofs.Common.{refl}
-use Rattle.crs_normal.specs.Prelude.{ellipsoid_text}
+use Rattle.crs_normal.specs.inner.Prelude.{ellipsoid_text}
 use Rattle.crs_writer.proofs.FlatLemmas.{copied, spelled}
 use Rattle.crs_writer.proofs.spelling.frame_parts.EllipsoidSpell.spell.Goals as goal
 

@@ -1,6 +1,6 @@
 use Rattle.std.proofs.Common.{codes}
 use Rattle.crs_shape.specs.declared.class.Class.TheVariants as class
-use Rattle.crs_value.specs.Prelude.{ReadsUnit}
+use Rattle.crs_value.specs.inner.Prelude.{ReadsUnit}
 use Rattle.crs_writer.proofs.FoundLemmas.{first-said}
 use Rattle.crs_writer.proofs.FlatLemmas.{unless-zero, written}
 use Rattle.crs_writer.proofs.spelling.frame_parts.MeridianReadAs.write_of.Goals as goal

@@ -1,8 +1,8 @@
 use Rattle.std.proofs.lemmas.Result.{on_ok_weaker}
 use Rattle.crs_shape.specs.declared.class.Class.TheVariants as class
-use Rattle.crs_text.specs.Prelude.{item_text}
-use Rattle.crs_value.specs.Prelude.{ReadsIdent}
-use Rattle.crs_normal.specs.Prelude.{item_ident}
+use Rattle.crs_text.specs.inner.Prelude.{item_text}
+use Rattle.crs_value.specs.inner.Prelude.{ReadsIdent}
+use Rattle.crs_normal.specs.inner.Prelude.{item_ident}
 use Rattle.crs_writer.proofs.NothingWrittenLemmas.{idents-dropped, idents-kept, none-written, retold, untold}
 use Rattle.crs_writer.proofs.spelling.idents_and_units.RefNodeIdentsPart.put.Goals as goal
 

@@ -1,6 +1,6 @@
 use Rattle.std.proofs.Common.{Some}
 use Rattle.crs_shape.specs.declared.class.Class.TheVariants as class
-use Rattle.crs_value.specs.Prelude.{ReadsUnit}
+use Rattle.crs_value.specs.inner.Prelude.{ReadsUnit}
 use Rattle.crs_writer.proofs.FoundLemmas.{first-said, needed}
 use Rattle.crs_writer.proofs.FlatLemmas.{written}
 use Rattle.crs_writer.proofs.spelling.system.AxisMeridianReadAs.write_of.Goals as goal

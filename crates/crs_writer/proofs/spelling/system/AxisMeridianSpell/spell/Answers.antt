@@ -1,5 +1,5 @@
 use Rattle.std.proofs.Common.{Some, refl}
-use Rattle.crs_normal.specs.Prelude.{axis_meridian_text}
+use Rattle.crs_normal.specs.inner.Prelude.{axis_meridian_text}
 use Rattle.crs_writer.proofs.FlatLemmas.{spelled}
 use Rattle.crs_writer.proofs.spelling.system.AxisMeridianSpell.spell.Goals as goal
 

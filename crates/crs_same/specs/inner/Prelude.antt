@@ -12,7 +12,8 @@ pub use Rattle.crs_same.specs.Paths.{further_text, path_text}
 pub use Rattle.crs_same.specs.SameCrs.{IsHorizontalPart}
 unfoldable pub use Rattle.crs_same.specs.SameCrs.{SameCrs, SameDynamic}
 pub use Rattle.crs_same.specs.SingleParts.{identifiers, numbers, units}
-pub use Rattle.crs_same.specs.SameParts.{SameGeoidModel, SameParameter, SameDeformationModel, IsZero, SameMember, HasAt, IsPositionOf, SameAxisAlone, SameAxisMeridian, StandsAt, own_or, SameLength, SameUnit, SameUnitAsked, kind_as, or_metre, SameBox, SameExtent, SameRemark, SameUsage, SameUsages, usages_of}
+pub use Rattle.crs_same.specs.SameParts.{SameGeoidModel, SameParameter, SameDeformationModel, SameMember, HasAt, IsPositionOf, SameAxisAlone, SameAxisMeridian, StandsAt, own_or, SameLength, SameUnit, SameUnitAsked, kind_as, or_metre, SameBox, SameExtent, SameUsage, usages_of}
+pub use Rattle.crs_same.specs.inner.Agreement.{IsZero, SameRemark, SameUsages}
 pub use Rattle.crs_same.specs.SameIdents.{SameIdent, SameIdents, SameNamed}
 unfoldable pub use Rattle.crs_same.specs.SameParts.{SameValue}
 pub use Rattle.crs_same.specs.Sameness.{IsSameness, IsSamenessOf}

@@ -1,5 +1,6 @@
 -- The names that proofs of the crates above cite, passed on from one place. Declares nothing.
-pub use Rattle.crs_value.specs.Checks.{BadComponent, IsNotEllipsoidal, IsNotHorizontal, IsNotPlane, BadDynamic, IsUnsteady, BadOrder, BadOrders, IsBadOrder, IsPosition, LacksOrder, OneHas, ReadsOrder, orders_in, BadOwnUnit, Misfits, units_in, IsAboveZero, NotAbove, AnyOf, FirstIs, at, AtClass, BadSystems, Breaks, BreaksAmong, IsSound, OfCompound, OfCrs, OfEllipsoid, OfHead, OfUnit, anchors, horizontal_classes, once, IsRepeated, RepeatsAny, UnknownDirection, UnknownType}
+pub use Rattle.crs_value.specs.Checks.{BadComponent, IsNotEllipsoidal, IsNotHorizontal, IsNotPlane, BadDynamic, IsUnsteady, BadOrder, BadOrders, IsBadOrder, IsPosition, LacksOrder, OneHas, ReadsOrder, orders_in, BadOwnUnit, Misfits, units_in, IsAboveZero, NotAbove, AnyOf, FirstIs, at, AtClass, BadSystems, Breaks, BreaksAmong, OfCompound, OfCrs, OfEllipsoid, OfHead, OfUnit, anchors, horizontal_classes, once, IsRepeated, RepeatsAny, UnknownDirection, UnknownType}
+pub use Rattle.crs_value.specs.inner.ReadOnce.{IsSound}
 unfoldable pub use Rattle.crs_value.specs.Checks.{Own}
 pub use Rattle.crs_value.specs.CompoundValues.{CompoundParts}
 pub use Rattle.crs_value.specs.Values.{ConversionParts, GeoidModelParts, MethodParts, ParameterParts, DeformationModelParts, DynamicParts, AxisMeridianParts, AxisParts, BoxParts, DatumParts, EllipsoidParts, EnsembleParts, ExtentParts, MemberParts, MeridianParts, SaysSome, SystemParts, TailParts, UnitParts, UsageParts}
@@ -11,8 +12,10 @@ pub use Rattle.crs_value.specs.inner.KeptLaws.{kept-each, kept-if_some, kept-joi
 pub use Rattle.crs_value.specs.Members.{AreIn, HaveSameMembers, IsIn}
 pub use Rattle.crs_value.specs.NamedValues.{NamedParts}
 pub use Rattle.crs_value.specs.inner.ReadOnce.{IsReadAs, IsReadOnce}
-pub use Rattle.crs_value.specs.Reading.{Holds, IsFound, IsReading, OneIs, ReadsAll, ReadsEach, ReadsElse, ReadsFirst, ReadsIfAny, ReadsOne, ReadsOptional, ahead, is_a, is_same, item_at, those}
-pub use Rattle.crs_value.specs.Reads.{IsUnitClass, LacksUsage, ReadsAxis, ReadsAxisMeridian, ReadsBare, ReadsBox, ReadsDatum, ReadsDirection, ReadsEllipsoid, ReadsEnsemble, ReadsExtent, ReadsHead, ReadsIdent, ReadsIds, ReadsKind, ReadsMember, ReadsMeridian, ReadsNumber, ReadsNumberOf, ReadsSystem, ReadsTail, ReadsText, ReadsTextOf, ReadsType, ReadsUnit, ReadsUsage, single_of, ReadsAsUnit, ReadsConversion, ReadsGeoidModel, ReadsMethod, ReadsParameter, ReadsUnitOf, parameter_units, ReadsDeformationModel, ReadsDynamic}
+pub use Rattle.crs_value.specs.Reading.{IsReading, OneIs, ReadsAll, ReadsEach, ReadsElse, ReadsFirst, ReadsIfAny, ReadsOne, ReadsOptional, is_a, is_same, those}
+pub use Rattle.crs_value.specs.inner.Arguments.{Holds, IsFound, ahead, item_at}
+pub use Rattle.crs_value.specs.Reads.{LacksUsage, ReadsAxis, ReadsAxisMeridian, ReadsBare, ReadsBox, ReadsDatum, ReadsDirection, ReadsEllipsoid, ReadsEnsemble, ReadsExtent, ReadsHead, ReadsIdent, ReadsIds, ReadsKind, ReadsMember, ReadsMeridian, ReadsNumber, ReadsNumberOf, ReadsSystem, ReadsTail, ReadsText, ReadsTextOf, ReadsType, ReadsUnit, ReadsUsage, single_of, ReadsAsUnit, ReadsConversion, ReadsGeoidModel, ReadsMethod, ReadsParameter, ReadsUnitOf, parameter_units, ReadsDeformationModel, ReadsDynamic}
+pub use Rattle.crs_value.specs.inner.Classes.{IsUnitClass}
 pub use Rattle.crs_value.specs.ReadsCrs.{IsGeodeticClass, ReadsAsDatum, ReadsAsEnsemble, ReadsAsHorizontal, ReadsBase, ReadsCompound, ReadsCrs, ReadsFrame, ReadsGeodetic, ReadsProjected, ReadsVertical, kind_by, kind_of}
 pub use Rattle.crs_value.specs.ReadsNamed.{ReadsNamed}
 pub use Rattle.crs_value.specs.Sound.{IsAxis, IsAxisMeridian, IsAxisUnit, IsIdent, IsNamed, IsText, IsUnit, IsUnitOf, Suits, AreDistinct, AreOrders, HasOrders, HasUnits, IsAllowed, IsSystem, SuitsAxis, own_or, IsBox, IsExtent, IsTail, IsUsage}
