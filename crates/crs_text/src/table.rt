@@ -106,21 +106,21 @@ impl Table {
         self.progress == Progress::BeforeItem && (self.depth > 0 || kind == ItemKind::Word)
     }
 
-    // A number, a text, a word, or a node by its word and its delimiter.
+    // A number, a text, a word, or a node by its word and its delimiter: its kind, and whether that is square.
     #[tactic(auto, using(crate::proofs::rows::TableLemmas::held_rules))]
     #[inline(always)]
     fn begin(
         &mut self,
-        kind: ItemKind,
-        square: bool,
+        begun: (ItemKind, bool),
         place: usize,
         raw: &[u8],
         keyword: Option<Keyword>,
     ) -> Result<(), AllocError>
-        requires { keyword ≡ keyword_at kind raw.now }
-        ensures ok { OnOk result (self.new ≡ with_first self.old kind square place raw.now) }
+        requires { keyword ≡ keyword_at begun.0 raw.now }
+        ensures ok { OnOk result (self.new ≡ with_first self.old begun.0 begun.1 place raw.now) }
         ensures err { OnErr result (self.new ≡ self.old) }
     {
+        let (kind, square) = begun;
         let depth = self.depth;
         self.rows.push(Row {
             kind,
@@ -159,7 +159,7 @@ impl Table {
         if !self.may_begin(kind) {
             return Ok(false);
         }
-        self.begin(kind, false, place, raw, keyword)?;
+        self.begin((kind, false), place, raw, keyword)?;
         Ok(true)
     }
 
@@ -238,7 +238,7 @@ impl Table {
             return Ok(false);
         }
         let row = self.rows.len();
-        self.begin(ItemKind::Node, true, place, raw, keyword)?;
+        self.begin((ItemKind::Node, true), place, raw, keyword)?;
         self.open_begun(row, true);
         Ok(true)
     }
