@@ -1,20 +1,17 @@
-"""Wrong bodies: each applies to the sources, and the prover refuses those that the gate tries (tools/wrong_bodies.py).
+"""Wrong bodies: each applies to the sources, and has its form. rt ci tries those of must-fail/.
 
-The script itself is tried over crs_decimal, which stands on no other crate: a body that is wrong is refused, one that
-means what the code means is told as let through, and one that takes away a name that an answer cites shows nothing.
+The script that tries the others (tools/wrong_bodies.py) is tried over crs_decimal, which stands on no other crate: a body
+that is wrong is refused, one that means what the code means is told as let through, and one that takes away a name that
+an answer cites shows nothing.
 """
-import pathlib
-from collections import Counter
 from typing import Optional
 
 import pytest
 import wrong_bodies
 from build import needed
 from support import ROOT
-from wrong_bodies import FURTHER, GATE, MOST, WHOLE
 
 CRATES = ROOT / "crates"
-FILES = [it for part in (WHOLE, GATE, FURTHER) for it in sorted(CRATES.glob(f"*/{part}/*.edit"))]
 WRONG = """file: src/decimal.rt
 old: self.digits == 0
 new: self.power == 0
@@ -48,15 +45,23 @@ impl Short {
 """
 
 
-@pytest.mark.parametrize("file", FILES, ids=lambda it: str(it.relative_to(CRATES)))
-def test_applies(file: pathlib.Path) -> None:
-    wrong_bodies.Body(file).applied({}, file.parent.parent)
+@pytest.mark.parametrize("crate", sorted(it.name for it in CRATES.iterdir()))
+def test_applies(crate: str) -> None:
+    _, faults = wrong_bodies.bodies_of(CRATES / crate, True)
+    assert not faults
 
 
-def test_folders() -> None:
-    """A body is in one folder of its crate, and those that the gate tries are at most twelve each."""
-    assert max(Counter((it.parent.parent, it.name) for it in FILES).values()) == 1
-    assert max(Counter(it.parent for it in FILES if it.parent.name != FURTHER).values()) <= MOST
+@pytest.mark.parametrize("crate", sorted(it.parent.name for it in CRATES.glob("*/wrong-bodies")))
+def test_sentences(crate: str) -> None:
+    """Each body begins with a sentence that says what it does."""
+    bodies = (CRATES / crate / "wrong-bodies").read_text(encoding="utf-8").split("\n\n")
+    for sentence in (it.partition("\n")[0] for it in bodies):
+        assert sentence.startswith("# ") and sentence.endswith(".") and len(sentence) <= 120, sentence
+
+
+def test_named() -> None:
+    """rt ci tries the bodies that break a main promise, and no others: it checks their crate once more."""
+    assert len(list(CRATES.glob("*/must-fail/*"))) == 26
 
 
 @pytest.mark.parametrize(
@@ -149,38 +154,13 @@ def test_emptied(name: str, body: str) -> None:
     assert (text, names) == (SOURCE.replace(body, nothing), [name])
 
 
-@pytest.mark.parametrize(
-    "why, is_found",
-    [
-        ("`returns`: `search`: no proof of `a ≡ b` was found", True),
-        ("`returns`: `grind`: the goal does not follow. The hypotheses hold, and the goal fails at `a` = 1", True),
-        ("`other`: the two sides differ: 1 and 2", True),
-        ("src/short.rt:84:5: it is not proved that what the function ensures holds when it returns", True),
-        ("`returns`: `rules` is two things here", False),
-        ("module `Rattle.crs_decimal.specs` can't be read", False),
-    ],
-)
-def test_goals(why: str, is_found: bool) -> None:
-    """An answer that was put in for a goal shows nothing where it can't be read."""
-    assert wrong_bodies.is_of_answer(f"short::write: {why}", ["returns"]) == is_found
-
-
 @pytest.mark.gate
-@pytest.mark.parametrize("name", sorted({it.parent.parent.name for it in FILES if it.parent.name == GATE}))
-def test_refused(name: str) -> None:
-    _, faults = wrong_bodies.try_all([name], (GATE,), True)
-    assert not faults
-
-
-@pytest.mark.gate
-def test_trial(tmp_path: pathlib.Path) -> None:
-    folder = tmp_path / "crs_decimal" / "wrong-bodies"
-    folder.mkdir(parents=True)
-    for name, text in {"nameless": NAMELESS, "right": RIGHT, "wrong": WRONG}.items():
-        (folder / f"{name}.edit").write_text(text, encoding="utf-8")
-    (crate,) = wrong_bodies.proved_below(["crs_decimal"], True)
-    trial = wrong_bodies.Trial(crate, [wrong_bodies.Body(it) for it in sorted(folder.iterdir())]).run()
+def test_trial() -> None:
+    crate = needed(["crs_decimal"])[-1]
+    crate.made = crate.folder / "out" / "rlib" / "crs_decimal.rlib"
+    texts = {"nameless": NAMELESS, "right": RIGHT, "wrong": WRONG}
+    trial = wrong_bodies.Trial(crate, [wrong_bodies.Body(it, text) for it, text in texts.items()]).run()
     nameless, right = sorted(trial.faults)
     assert trial.passed == 1
-    assert nameless.startswith("crs_decimal/nameless: REFUSED ONLY SINCE AN ANSWER NAMES")
-    assert right.startswith("crs_decimal/right: NOT REFUSED")
+    assert nameless.startswith("nameless: REFUSED ONLY SINCE AN ANSWER NAMES")
+    assert right.startswith("right: NOT REFUSED")

@@ -1,14 +1,12 @@
 #!/usr/bin/env python3
 """Tries wrong bodies: edits of the code that change its meaning, each of which the prover must refuse.
 
-    wrong_bodies.py [--applies | --over-gate] [--all] [NAME..]
+    wrong_bodies.py [--applies] [NAME..]
 
-A file of wrong-bodies/ has lines `file: PATH`, `old: TEXT` and `new: TEXT`: the old text is in that file exactly once,
-after the pairs before it. The function that the text stands in is the one that must be refused, or the one that a line
-`in: FUNCTION` names, for an edit of a constant. A line `goal: NAME` is for each goal of the function that has no answer
-and isn't proved: the copy has one that searches as the prover would. Else the prover offers an answer for it, for which
-it reads all once more. Where the goals aren't those that fail, the body is tried once more without them. A function
-with a tactic of its own, such as `#[tactic(auto, ..)]`, is searched with that alone: its body names no goal.
+The bodies of a crate stand in its file wrong-bodies, with a blank line between two. A body begins with a comment, the
+sentence that says what it does. Lines `file: PATH`, `old: TEXT` and `new: TEXT` follow: the old text is in that file
+exactly once, after the pairs before it. The function that the text stands in is the one that must be refused, or the
+one that a line `in: FUNCTION` names, for an edit of a constant.
 
 Functions are proved each against the contracts of those that it calls. So the bodies of a crate are put into one copy of
 it, as many as stand in different functions, and the prover checks these functions alone. Where the crate as it stands
@@ -20,9 +18,9 @@ next round.
 A body whose function fails only since an answer names a step that the body took away shows nothing of the contract, and
 is a failure of the body. Of a body that changes a definition, a lemma that is refused tells as well.
 
-Crates have wrong-bodies/, which the gate tries, at most twelve each, and more-wrong-bodies/, which --all tries too. The
-crates below are proved first, as tools/build.py does it; with --over-gate they are taken as rt ci has left them. With
---applies nothing is proved: it checks that each body applies to the sources, those of must-fail/ too, which rt ci tries.
+NAME is a crate, or a body as it is printed here, such as crs_decimal/keeps_closing_zeros. The crates below are proved
+first, as tools/build.py does it. With --applies nothing is proved: it checks that each body applies to the sources,
+those of must-fail/ too, which rt ci tries.
 
 Prints a line for each body, and last `N passed, M failed`.
 """
@@ -47,8 +45,6 @@ sys.path.insert(0, str(ROOT / "tools"))
 import build
 from build import Crate
 
-MOST = 12
-GATE, FURTHER, WHOLE = "wrong-bodies", "more-wrong-bodies", "must-fail"
 FUNCTION = re.compile(r'\s*(?:pub(?:\([a-z]+\))? )?(?:const )?(?:unsafe )?(?:extern "C" )?fn (\w+)')
 # What an impl is generic over, with types in types in types.
 GENERICS = r"<(?:->|[^<>]|<(?:[^<>]|<[^<>]*>)*>)*>"
@@ -76,19 +72,6 @@ taken = ?
 pub {name}_spec : {{M : Type 1}} → statement M
 {name}_spec = taken
 """
-# What it tries for a goal without an answer, written as its answer: then it doesn't offer one, for which it would read the
-# function a second time.
-ANSWER = """
-pub {goal} : goal.{goal}
-{goal} c = first_of (search rules, grind (arith, common_steps))
-"""
-# What an answer takes from elsewhere: as it is found, and as it is written.
-TAKEN = (
-    (r"^use .*[{ ]rules[,}]", "use Rattle.std.proofs.Common.{{rules}}\n"),
-    (r"^use .*[{ ]arith[,}]", "use Rattle.std.proofs.Common.{{arith}}\n"),
-    (r"^use .*[{ ]common_steps[,}]", "use Rattle.std.proofs.lemmas.Grind.{{common_steps}}\n"),
-    (r"^use .*\.Goals as goal$", "use Rattle.{crate}.{module}.Goals as goal\n"),
-)
 # How it names a closure: by its function, and the call that takes it.
 CLOSURE = re.compile(r"(^|::)fn::((?:[A-Z]\w*::)?\w+)::.*")
 # A goal that isn't proved; a function's goals stand before the line of its verdict.
@@ -174,45 +157,29 @@ def is_in_function(lines: List[str]) -> bool:
     return f"{margin}}}" not in lines[heads[-1] :]
 
 
-def has_tactic(lines: List[str]) -> bool:
-    """Whether the function that the last of these lines of a file stands in has a tactic of its own, above its head."""
-    above = False
-    for line in reversed(lines):
-        if above and (not line.strip() or line.endswith(("{", "}"))):
-            break
-        if above and "#[tactic" in line:
-            return True
-        above = above or FUNCTION.match(line) is not None
-    return False
-
-
 class Body:
     """A wrong body of a crate."""
 
-    def __init__(self, file: pathlib.Path) -> None:
-        self.file = file
-        self.name = f"{file.parent.parent.name}/{file.stem}"
+    def __init__(self, name: str, text: str) -> None:
+        self.name = name
         self.pairs: List[Tuple[str, str, str]] = []
         self.named: Optional[str] = None
-        self.goals: List[str] = []
         self.is_of_constant = False
         path: Optional[str] = None
         old: Optional[str] = None
-        for line in file.read_text(encoding="utf-8").split("\n"):
-            word, _, text = line.partition(":")
-            text = text.removeprefix(" ")
+        for line in text.split("\n"):
+            word, _, rest = line.partition(":")
+            rest = rest.removeprefix(" ")
             if word == "file":
-                path = text.strip()
+                path = rest.strip()
             elif word == "in":
-                self.named = text.strip()
-            elif word == "goal":
-                self.goals.append(text.strip())
+                self.named = rest.strip()
             elif word == "old":
-                old = text
+                old = rest
             elif word == "new" and path is not None and old is not None:
-                self.pairs.append((path, old, text))
+                self.pairs.append((path, old, rest))
                 old = None
-            elif line.strip():
+            elif line.strip() and not line.startswith("# "):
                 raise Fault(f"a line that says nothing: {line}")
         if not self.pairs:
             raise Fault("no pair of texts")
@@ -234,8 +201,6 @@ class Body:
             front[-1] += old.split("\n")[0]
             function = self.named or enclosing(path, front)
             self.is_of_constant |= self.named is not None and not is_in_function(front)
-            if self.goals and has_tactic(front):
-                raise Fault("it names a goal, and the prover searches with the tactic of this function")
             # A function of its own, in front of the one that it stands at.
             own = [it for it in re.findall(r"\bfn (\w+)", new) if not re.search(rf"\bfn {it}\b", old)]
             if own and function:
@@ -259,36 +224,25 @@ class Body:
 Batch = List[Tuple[Body, List[str]]]
 
 
-def bodies_of(folder: pathlib.Path, parts: Iterable[str]) -> Tuple[List[Body], List[str]]:
-    """The bodies of a crate's folders, and what is wrong with their files."""
-    bodies: List[Body] = []
+def bodies_of(folder: pathlib.Path, has_named: bool = False) -> Tuple[List[Body], List[str]]:
+    """The bodies of a crate's file, with those of must-fail/ where they are asked for, and what is wrong with any."""
+    file = folder / "wrong-bodies"
+    blocks = file.read_text(encoding="utf-8").strip("\n").split("\n\n") if file.is_file() else []
+    found = [("_".join(re.findall(r"\w+", it.partition("\n")[0].lower())), it) for it in blocks]
+    if has_named:
+        found += [(it.stem, it.read_text(encoding="utf-8")) for it in sorted(folder.glob("must-fail/*.edit"))]
+    bodies: Dict[str, Body] = {}
     faults: List[str] = []
-    for file in sorted(it for part in parts for it in folder.glob(f"{part}/*.edit")):
+    for name, text in found:
         try:
-            body = Body(file)
+            body = Body(f"{folder.name}/{name}", text)
             body.applied({}, folder)
-            bodies.append(body)
+            if body.name in bodies:
+                raise Fault("another body has its name")
+            bodies[body.name] = body
         except Fault as why:
-            faults.append(f"{file.relative_to(ROOT)}: {why}")
-    return bodies, faults
-
-
-def applies() -> Tuple[int, List[str]]:
-    """Whether each body applies, and is in one folder of at most twelve."""
-    passed, faults = 0, list[str]()
-    for folder in sorted((ROOT / "crates").iterdir()):
-        bodies, found = bodies_of(folder, (WHOLE, GATE, FURTHER))
-        passed += len(bodies)
-        faults += found
-        names = [it.file.name for it in bodies]
-        faults += [
-            f"{folder.name}: {it} is in two folders" for it in sorted({it for it in names if names.count(it) > 1})
-        ]
-        for part in (WHOLE, GATE):
-            count = sum(it.file.parent.name == part for it in bodies)
-            if count > MOST:
-                faults.append(f"{folder.name}: {count} in {part}, at most {MOST}")
-    return passed, faults
+            faults.append(f"{folder.name}/{name}: {why}")
+    return list(bodies.values()), faults
 
 
 def plain_functions(folder: pathlib.Path, file: pathlib.Path) -> List[str]:
@@ -323,15 +277,6 @@ def owner_of(path: str) -> str:
     return CLOSURE.sub(r"\1\2", path)
 
 
-def is_of_answer(why: str, goals: List[str]) -> bool:
-    """Whether a reason is a goal or an answer, and not that the answers to these goals can't be read: for one of them,
-    that neither search for it found anything."""
-    found = re.match(r"\S+: (?:src/|`([^`]+)`: (.*))", why)
-    if not goals or not found:
-        return not goals
-    return found[1] not in goals or found[2].startswith(("`search`: ", "`grind`: "))
-
-
 def drop_closure(proofs: pathlib.Path, path: str) -> None:
     """Takes away the proofs of the closures of a function that has none any more."""
     folder = proofs.joinpath(*CLOSURE.sub(r"\1fn::\2", path).split("::"))
@@ -353,19 +298,6 @@ def leave_hole(crate: str, proofs: pathlib.Path, path: str) -> None:
         (folder / it).unlink(missing_ok=True)
     module = ".".join([f"Rattle.{crate}.proofs", *modules, name])
     (folder / "Proof.antt").write_text(HOLE.format(module=module, name=name), encoding="utf-8")
-
-
-def ask_for(crate: str, proofs: pathlib.Path, path: str, goals: List[str]) -> None:
-    """Has the prover search for some goals of a function, and not offer answers for them where it finds none."""
-    module = ".".join(["proofs", *path.split("::")])
-    file = proofs.joinpath(*path.split("::"), "Answers.antt")
-    file.parent.mkdir(parents=True, exist_ok=True)
-    text = file.read_text(encoding="utf-8") if file.is_file() else ""
-    # Those that it has already stay as they are.
-    goals = [it for it in goals if not re.search(rf"^(pub )?{it} :", text, re.M)]
-    front = "".join(use for found, use in TAKEN if not re.search(found, text, re.M))
-    text = "".join([front.format(crate=crate, module=module), text, *(ANSWER.format(goal=it) for it in goals)])
-    file.write_text(text, encoding="utf-8")
 
 
 class Trial:
@@ -440,13 +372,6 @@ class Trial:
                 leave_hole(self.crate.name, proofs, path)
         return bool(taken)
 
-    def ask(self, proofs: pathlib.Path, batch: Batch) -> None:
-        """In a copy of the crate, has the prover search for the goals that the bodies name."""
-        for body, functions in batch:
-            found = [it for it in self.proved_already if is_of(it, functions) and not is_of_cycle(proofs, it)]
-            if body.goals and len(found) == 1:
-                ask_for(self.crate.name, proofs, found[0], body.goals)
-
     def check(self, batch: Batch, texts: Dict[str, str]) -> str:
         """What the prover says of the bodies' functions, with these texts in place of the crate's. The others are taken by
         their contracts, but for a body of definitions, which may change what they say."""
@@ -459,7 +384,6 @@ class Trial:
                 pathlib.Path(room, path).write_text(text, encoding="utf-8")
             is_of_definitions = batch[0][0].is_of_definitions()
             has_holes = not is_of_definitions and self.take_unchanged(pathlib.Path(room), functions)
-            self.ask(pathlib.Path(room, "proofs"), batch)
             words = [
                 *self.crate.words_to_check(1),
                 *["--allow-holes", "--short-goals"] * has_holes,
@@ -499,12 +423,8 @@ class Trial:
             why = next((words for words, is_of_names in reasons if not is_of_names), None)
             if reasons and not why and body.is_of_definitions():
                 why = lemma_reason(said)
-            if why and is_of_answer(why, body.goals):
+            if why:
                 self.settle(body, why)
-                settled += 1
-            elif reasons and body.goals:
-                # The answers that were put in may be what is refused.
-                body.goals = []
                 settled += 1
             elif reasons:
                 self.fail(body, "REFUSED ONLY SINCE AN ANSWER NAMES WHAT THE BODY TOOK AWAY", reasons[0][0])
@@ -552,11 +472,7 @@ class Trial:
         return f"{name}: {other or (errors or [words])[0]}", bool(errors) and not other
 
     def halve(self, batch: Batch, said: str) -> None:
-        """Nothing is known of these bodies together: they are tried without their goals, or each half for itself."""
-        if any(body.goals for body, _ in batch):
-            for body, _ in batch:
-                body.goals = []
-            return
+        """Nothing is known of these bodies together: each half is tried for itself."""
         if len(batch) == 1:
             self.fail(batch[0][0], "CAN'T BE TRIED", said)
             return
@@ -586,28 +502,23 @@ def lemma_reason(said: str) -> Optional[str]:
     return next((it for it in errors if not NAMES.search(it) and not STANDS.search(it)), None)
 
 
-def proved_below(names: List[str], is_over_gate: bool) -> List[Crate]:
-    """The crates of these names, once those below them are proved."""
-    crates = build.needed(names)
-    below = [it for it in crates if any(it in other.below for other in crates if other.name in names)]
-    build.prove(below, "what wrong bodies rest on", below if is_over_gate else ())
-    tried = [it for it in crates if it.name in names]
-    for crate in tried:
-        if is_over_gate and not crate.is_current():
-            crate.made = crate.folder / "out" / "rlib" / f"{crate.name}.rlib"
-    return tried
-
-
-def try_all(names: List[str], parts: Iterable[str], is_over_gate: bool) -> Tuple[int, List[str]]:
-    """Tries the bodies of these crates, and returns how many were refused, and what is wrong."""
-    found = {it: bodies_of(ROOT / "crates" / it, parts) for it in names}
-    faults = [it for _, faults in found.values() for it in faults]
-    names = [it for it, (bodies, _) in found.items() if bodies]
-    crates = proved_below(names, is_over_gate)
+def try_all(names: List[str]) -> Tuple[int, List[str]]:
+    """Tries the bodies of these crates, and those of these names, and returns how many were refused, and what is wrong."""
+    bodies: Dict[str, List[Body]] = {}
+    faults: List[str] = []
+    for name in {it.partition("/")[0]: None for it in names}:
+        found, wrong = bodies_of(ROOT / "crates" / name)
+        bodies[name] = [it for it in found if name in names or it.name in names]
+        faults += wrong
+    known = [*bodies, *(it.name for found in bodies.values() for it in found)]
+    faults += [f"{it}: no such body" for it in names if it not in known]
+    crates = build.needed([it for it, found in bodies.items() if found])
+    tried = [it for it in crates if bodies.get(it.name)]
+    build.prove([it for it in crates if any(it in other.below for other in tried)], "what wrong bodies rest on")
     # Those with most bodies take longest, and go first.
-    crates.sort(key=lambda it: -len(found[it.name][0]))
+    tried.sort(key=lambda it: -len(bodies[it.name]))
     with concurrent.futures.ThreadPoolExecutor(build.jobs_of_this_machine()) as pool:
-        trials = [pool.submit(Trial(it, found[it.name][0]).run) for it in crates]
+        trials = [pool.submit(Trial(it, bodies[it.name]).run) for it in tried]
         done = [it.result() for it in trials]
     return sum(it.passed for it in done), [*faults, *(fault for it in done for fault in it.faults)]
 
@@ -615,18 +526,17 @@ def try_all(names: List[str], parts: Iterable[str], is_over_gate: bool) -> Tuple
 def main() -> int:
     parser = argparse.ArgumentParser(description="Tries wrong bodies: the prover must refuse each.")
     parser.add_argument("--applies", action="store_true", help="proves nothing: says whether each applies")
-    parser.add_argument("--over-gate", action="store_true", help="takes the crates below as rt ci has left them")
-    parser.add_argument("--all", action="store_true", help="tries those of more-wrong-bodies/ too")
-    parser.add_argument("names", nargs="*", metavar="NAME", help="a crate")
+    parser.add_argument("names", nargs="*", metavar="NAME", help="a crate, or CRATE/BODY")
     given = parser.parse_args()
     every = list(build.listed())
-    if unknown := [it for it in given.names if it not in every]:
+    if unknown := [it for it in given.names if it.partition("/")[0] not in every]:
         parser.error(f"crates.txt has no {unknown[0]}")
     if given.applies:
-        passed, faults = applies()
+        found = [bodies_of(ROOT / "crates" / it, True) for it in every]
+        passed, faults = sum(len(bodies) for bodies, _ in found), [it for _, wrong in found for it in wrong]
     else:
         try:
-            passed, faults = try_all(given.names or every, (GATE, FURTHER) if given.all else (GATE,), given.over_gate)
+            passed, faults = try_all(given.names or every)
         except build.Stop as why:
             passed, faults = 0, [str(why)]
     for fault in faults:
