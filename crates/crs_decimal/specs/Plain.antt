@@ -1,8 +1,6 @@
 -- The plain spelling: no exponent, no plus sign, no needless
 -- zero, no closing period, a zero before a leading period.
-use Rattle.std.specs.Prelude.{◌≡◌, ◌≢◌, ℕ, suc, ◌-◌, ◌⊎◌, if◌then◌else◌, List, []}
-use Rattle.std.specs.Prelude.{◌∷◌, ◌++◌, length}
-use Rattle.std.specs.Prelude.{take, drop, replicate, decimal, ℤ, pos, negsuc, Option, Some, None}
+use Rattle.std.specs.Prelude.{◌≡◌, ◌≢◌, ℕ, suc, ◌-◌, ◌⊎◌, if◌then◌else◌, List, [], ◌∷◌, ◌++◌, length, take, drop, replicate, decimal, ℤ, pos, negsuc, Option, Some, None}
 use Rattle.crs_decimal.specs.Spelling.{unsigned, minus, Parts, SpellsNumber, Denotes}
 use Rattle.crs_decimal.specs.Value.{Value, exact}
 

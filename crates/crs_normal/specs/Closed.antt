@@ -1,6 +1,5 @@
 -- Closed texts: a word, `[`, and all up to the `]` that first closes it, outside quotes.
-use Rattle.std.specs.Prelude.{◌≡◌, ◌≢◌, ◌≤◌, ℕ, suc, ◌==◌, not, Bool, true, false}
-use Rattle.std.specs.Prelude.{List, [], ◌∷◌, ◌++◌, if◌then◌else◌}
+use Rattle.std.specs.Prelude.{◌≡◌, ◌≢◌, ◌≤◌, ℕ, suc, ◌==◌, not, Bool, true, false, List, [], ◌∷◌, ◌++◌, if◌then◌else◌}
 use Rattle.crs_text.specs.Tokens.{IsWord}
 
 -- how often a byte occurs outside quotes, in bytes that begin within quotes or not

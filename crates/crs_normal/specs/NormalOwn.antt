@@ -1,6 +1,5 @@
 -- What a canonical text asks of a node by itself, beyond what is asked of every accepted text.
-use Rattle.std.specs.Prelude.{◌≡◌, ◌≢◌, ◌≤◌, ◌⊎◌, ◌+◌, ℕ, true, List, [], ◌∷◌, ◌++◌, map, length}
-use Rattle.std.specs.Prelude.{codes, decimal}
+use Rattle.std.specs.Prelude.{◌≡◌, ◌≢◌, ◌≤◌, ◌⊎◌, ◌+◌, ℕ, true, List, [], ◌∷◌, ◌++◌, map, length, codes, decimal}
 use Rattle.std.specs.List.{list_all}
 use Rattle.crs_decimal.specs.Spelling.{is_digit}
 use Rattle.crs_text.specs.Items.{Item, Siblings, End, More, arguments, kind_of_item, raw_of, skip}

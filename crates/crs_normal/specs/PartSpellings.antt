@@ -10,8 +10,7 @@ use Rattle.crs_value.specs.CompoundValues.{CompoundParts}
 use Rattle.crs_value.specs.Values.{ConversionParts, GeoidModelParts, MethodParts, ParameterParts, DeformationModelParts, DynamicParts, AxisMeridianParts, BoxParts, DatumParts, EllipsoidParts, EnsembleParts, ExtentParts, IdentParts, MemberParts, MeridianParts, UnitParts, UsageParts}
 use Rattle.crs_value.specs.CrsValues.{BaseParts, GeodeticParts, ProjectedParts, VerticalParts}
 use Rattle.crs_value.specs.Reads.{ReadsAxisMeridian, ReadsBox, ReadsDatum, ReadsEllipsoid, ReadsEnsemble, ReadsExtent, ReadsIdent, ReadsMember, ReadsMeridian, ReadsUnit, ReadsUsage, ReadsConversion, ReadsGeoidModel, ReadsMethod, ReadsParameter, ReadsDeformationModel, ReadsDynamic}
-use Rattle.crs_value.specs.ReadsCrs.{ReadsBase, ReadsCompound, ReadsGeodetic, ReadsProjected}
-use Rattle.crs_value.specs.ReadsCrs.{ReadsVertical}
+use Rattle.crs_value.specs.ReadsCrs.{ReadsBase, ReadsCompound, ReadsGeodetic, ReadsProjected, ReadsVertical}
 use Rattle.crs_value.specs.SoundFrames.{IsDatum, IsEnsemble}
 use Rattle.crs_value.specs.declared.values.compound.Horizontal.{Horizontal}
 use Rattle.crs_value.specs.declared.values.compound.Horizontal.TheVariants as horizontal
@@ -20,11 +19,8 @@ use Rattle.crs_value.specs.declared.values.frame.Frame.TheVariants as frame
 use Rattle.crs_value.specs.declared.values.level.Level.{Level}
 use Rattle.crs_value.specs.declared.values.level.Level.TheVariants as levels
 use Rattle.crs_same.specs.Parts.{AreSame}
-use Rattle.crs_same.specs.PartsOfCrs.{parts_of_method, parts_of_conversion, parts_of_base}
-use Rattle.crs_same.specs.PartsOfCrs.{parts_of_geodetic, parts_of_projected, parts_of_vertical}
-use Rattle.crs_same.specs.PartsOfCrs.{parts_of_compound}
-use Rattle.crs_same.specs.PartsOfFrames.{parts_of_ellipsoid, parts_of_given, parts_of_datum}
-use Rattle.crs_same.specs.PartsOfFrames.{parts_of_ensemble}
+use Rattle.crs_same.specs.PartsOfCrs.{parts_of_method, parts_of_conversion, parts_of_base, parts_of_geodetic, parts_of_projected, parts_of_vertical, parts_of_compound}
+use Rattle.crs_same.specs.PartsOfFrames.{parts_of_ellipsoid, parts_of_given, parts_of_datum, parts_of_ensemble}
 use Rattle.crs_same.specs.SameParts.{SameGeoidModel, SameParameter, SameDeformationModel, SameMember, SameAxisMeridian, SameUnit, SameBox, SameExtent, SameUsage}
 use Rattle.crs_same.specs.SameCrs.{SameDynamic}
 pub use Rattle.crs_same.specs.SameCrs.{IsHorizontalPart}

@@ -1,6 +1,5 @@
 -- Texts as one line shows them.
-use Rattle.std.specs.Prelude.{◌/◌, ◌%◌, ◌++◌, ◌∷◌, [], ◌==◌, ◌||◌, ◌&&◌, nat_le, nat_lt, ℕ, Bool, List, codes}
-use Rattle.std.specs.Prelude.{encode_utf8, if◌then◌else◌}
+use Rattle.std.specs.Prelude.{◌/◌, ◌%◌, ◌++◌, ◌∷◌, [], ◌==◌, ◌||◌, ◌&&◌, nat_le, nat_lt, ℕ, Bool, List, codes, encode_utf8, if◌then◌else◌}
 use Rattle.std.specs.List.{flat_map}
 use Rattle.bstr.specs.Escape.{escape_byte, hex_digit}
 use Rattle.bstr.specs.Utf8.{lossy_chars}

@@ -1,6 +1,5 @@
 -- Texts, numbers, arrays and members of objects in JSON (RFC 8259), in one line.
-use Rattle.std.specs.Prelude.{◌/◌, ◌%◌, ◌++◌, ◌∷◌, [], ◌==◌, ◌||◌, nat_lt, ℕ, List, codes}
-use Rattle.std.specs.Prelude.{decimal, encode_utf8, if◌then◌else◌}
+use Rattle.std.specs.Prelude.{◌/◌, ◌%◌, ◌++◌, ◌∷◌, [], ◌==◌, ◌||◌, nat_lt, ℕ, List, codes, decimal, encode_utf8, if◌then◌else◌}
 use Rattle.std.specs.List.{flat_map}
 use Rattle.std.specs.Str.{is_utf8}
 use Rattle.bstr.specs.Utf8.{lossy_chars}

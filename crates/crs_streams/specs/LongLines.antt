@@ -1,6 +1,5 @@
 -- How long the lines of some bytes are.
-use Rattle.std.specs.Prelude.{◌≡◌, ◌⊎◌, ◌+◌, ◌<◌, ◌≤◌, ◌==◌, ◌++◌, ◌∷◌, [], ℕ, List, count_by}
-use Rattle.std.specs.Prelude.{length}
+use Rattle.std.specs.Prelude.{◌≡◌, ◌⊎◌, ◌+◌, ◌<◌, ◌≤◌, ◌==◌, ◌++◌, ◌∷◌, [], ℕ, List, count_by, length}
 use Rattle.crs_streams.specs.Lines.{HasNoFeed}
 
 -- no line has more than 1048576 bytes before its line feed, or before the end

@@ -3,8 +3,7 @@ ghost use Rattle.std.specs.Prelude.{◌≡◌, ◌++◌, OnOk};
 ghost use Rattle.std.specs.List.{flat_map};
 ghost use Rattle.std.specs.Str.{is_utf8};
 ghost use Rattle.bstr.specs.Utf8.{lossy_chars};
-ghost use Rattle.crs_streams.specs.Json.{json_bytes, json_char, json_string, json_text, json_value, key};
-ghost use Rattle.crs_streams.specs.Json.{number_member, text_member, value_member};
+ghost use Rattle.crs_streams.specs.Json.{json_bytes, json_char, json_string, json_text, json_value, key, number_member, text_member, value_member};
 
 use crate::escape::{append_code, append_hex, steers};
 use crate::number::append_number;

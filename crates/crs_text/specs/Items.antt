@@ -1,8 +1,6 @@
 -- Items: a single token, or a node, which is a word, an opening delimiter, one or more items
 -- separated by commas, and the closing delimiter of the same kind.
-use Rattle.std.specs.Prelude.{◌≡◌, ◌≢◌, ℕ, zero, suc, ◌+◌, ◌≤◌, max, Bool, Option, Some, None, List}
-use Rattle.std.specs.Prelude.{[], ◌∷◌, ◌++◌}
-use Rattle.std.specs.Prelude.{slice_index_or}
+use Rattle.std.specs.Prelude.{◌≡◌, ◌≢◌, ℕ, zero, suc, ◌+◌, ◌≤◌, max, Bool, Option, Some, None, List, [], ◌∷◌, ◌++◌, slice_index_or}
 use Rattle.crs_decimal.specs.Spelling.{Denotes}
 use Rattle.crs_decimal.specs.Value.{Value, IsNormal, exact}
 use Rattle.crs_text.specs.Keywords.{keyword_of}

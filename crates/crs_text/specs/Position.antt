@@ -1,6 +1,5 @@
 -- A place of a text as a person counts it: its line, and the character in the line.
-use Rattle.std.specs.Prelude.{◌≡◌, ℕ, ◌+◌, ◌⊎◌, ◌&&◌, ◌==◌, nat_le, not, Bool, List, [], ◌∷◌}
-use Rattle.std.specs.Prelude.{◌++◌, length, count_by}
+use Rattle.std.specs.Prelude.{◌≡◌, ℕ, ◌+◌, ◌⊎◌, ◌&&◌, ◌==◌, nat_le, not, Bool, List, [], ◌∷◌, ◌++◌, length, count_by}
 use Rattle.crs_text.specs.declared.position.Position.{Position}
 
 -- how many line feeds are among the bytes

@@ -1,7 +1,5 @@
 -- Quoted texts: from a quote to the next one that isn't doubled.
-use Rattle.std.specs.Prelude.{◌≡◌, ℕ, ◌+◌, ◌==◌, Bool, IsTrue}
-use Rattle.std.specs.Prelude.{IsFalse, List, [], ◌∷◌}
-use Rattle.std.specs.Prelude.{◌++◌, if◌then◌else◌, ◌⊎◌}
+use Rattle.std.specs.Prelude.{◌≡◌, ℕ, ◌+◌, ◌==◌, Bool, IsTrue, IsFalse, List, [], ◌∷◌, ◌++◌, if◌then◌else◌, ◌⊎◌}
 
 -- characters with each quote among them written twice
 abbrev pub doubled : List ℕ → List ℕ

@@ -1,21 +1,17 @@
 -- The refusals of a text that is no node: the first token, from left
 -- to right, that can't be formed or after which no text can follow.
-use Rattle.std.specs.Prelude.{◌≡◌, ℕ, ◌+◌, ◌||◌, ◌==◌, Bool, IsTrue, IsFalse, List, [], ◌∷◌, ◌++◌}
-use Rattle.std.specs.Prelude.{length}
+use Rattle.std.specs.Prelude.{◌≡◌, ℕ, ◌+◌, ◌||◌, ◌==◌, Bool, IsTrue, IsFalse, List, [], ◌∷◌, ◌++◌, length}
 use Rattle.std.specs.List.{list_all}
 use Rattle.crs_decimal.specs.Spelling.{is_run_byte, is_run_start, HasForm, IsInBounds}
 use Rattle.crs_text.specs.Quoted.{StopsAt, BeginsWith, is_quote, IsInside, Through}
 use Rattle.crs_text.specs.Utf8.{IsUtf8Front, IsLongestUtf8}
-use Rattle.crs_text.specs.Tokens.{Token, single, comma, opening, closing, is_letter, Forms, Fronts}
-use Rattle.crs_text.specs.Tokens.{AreTokens}
+use Rattle.crs_text.specs.Tokens.{Token, single, comma, opening, closing, is_letter, Forms, Fronts, AreTokens}
 use Rattle.crs_text.specs.Items.{Item, AreNode}
 use Rattle.crs_text.specs.Viable.{IsViable, IsViableAtAnyDepth}
 use Rattle.crs_text.specs.declared.fault.Fault.{Fault}
 use Rattle.crs_text.specs.declared.fault.Fault.TheVariants as faults
 use Rattle.crs_text.specs.declared.refusal.Reason.{Reason}
-use Rattle.crs_text.specs.declared.refusal.Reason.TheVariants.{BadCharacter, BadNumber, NumberRange}
-use Rattle.crs_text.specs.declared.refusal.Reason.TheVariants.{NotUtf8, OpenText}
-use Rattle.crs_text.specs.declared.refusal.Reason.TheVariants.{Unexpected, UnexpectedEnd, TooDeep}
+use Rattle.crs_text.specs.declared.refusal.Reason.TheVariants.{BadCharacter, BadNumber, NumberRange, NotUtf8, OpenText, Unexpected, UnexpectedEnd, TooDeep}
 
 -- the text is this node
 abbrev pub SpellsNode : List ℕ → Item → Type 0

@@ -1,8 +1,6 @@
 -- Tokens: single ones (numbers, quoted texts and words), commas and the two kinds of delimiters;
 -- and the tokens of a text, with white space before, between and after them.
-use Rattle.std.specs.Prelude.{◌≡◌, ℕ, ◌+◌, ◌&&◌, ◌||◌, ◌==◌, nat_le, Bool, true, false, IsTrue}
-use Rattle.std.specs.Prelude.{List, [], ◌∷◌, ◌++◌}
-use Rattle.std.specs.Prelude.{length, IsUtf8}
+use Rattle.std.specs.Prelude.{◌≡◌, ℕ, ◌+◌, ◌&&◌, ◌||◌, ◌==◌, nat_le, Bool, true, false, IsTrue, List, [], ◌∷◌, ◌++◌, length, IsUtf8}
 use Rattle.std.specs.List.{list_all}
 use Rattle.crs_decimal.specs.Spelling.{is_digit, is_run_byte, is_run_start, IsInBounds}
 use Rattle.crs_text.specs.Quoted.{IsInside, StopsAt, BeginsWith, is_quote}

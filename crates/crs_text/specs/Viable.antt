@@ -1,6 +1,5 @@
 -- What can still become a text, and which token may come next.
-use Rattle.std.specs.Prelude.{◌≡◌, ℕ, ◌<◌, ◌⊎◌, Bool, Option, Some, None, List, [], ◌∷◌, ◌++◌}
-use Rattle.std.specs.Prelude.{length}
+use Rattle.std.specs.Prelude.{◌≡◌, ℕ, ◌<◌, ◌⊎◌, Bool, Option, Some, None, List, [], ◌∷◌, ◌++◌, length}
 use Rattle.std.specs.List.{fold, last_or}
 use Rattle.crs_text.specs.Tokens.{number, text, word, Token, single, comma, opening, closing}
 use Rattle.crs_text.specs.Items.{Item, IsNode, AreNode, tokens}

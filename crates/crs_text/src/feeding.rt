@@ -3,8 +3,7 @@
 ghost use Rattle.std.specs.Prelude.{◌<◌, length, IfSome, MatchBool, MatchResult};
 ghost use Rattle.crs_text.specs.inner.Lexing.{IsLexed};
 ghost use Rattle.crs_text.specs.inner.Feeding.{IsFlawSettled, IsLexedSettled, IsSettledTo, IsUnsettledAt, IsFedTo};
-ghost use Rattle.crs_text.specs.inner.Feeding.{IsFedBefore, IsSettledFault, IsPendingIn, IsPendingBefore};
-ghost use Rattle.crs_text.specs.inner.Feeding.{StaysPending, IsInsideTo, IsOpenTo};
+ghost use Rattle.crs_text.specs.inner.Feeding.{IsFedBefore, IsSettledFault, IsPendingIn, IsPendingBefore, StaysPending, IsInsideTo, IsOpenTo};
 
 use crate::fault::Fault;
 use crate::lexing::{Lexed, closing_quote, rest_of, token_at, valid_length};

@@ -1,5 +1,4 @@
-ghost use Rattle.std.specs.Prelude.{◌≡◌, ℕ, ◌+◌, ◌^◌, ◌<◌, ◌≤◌, ◌↔◌, IfSome, IsTrue, Option, length, take, drop};
-ghost use Rattle.std.specs.Prelude.{slice_index_or};
+ghost use Rattle.std.specs.Prelude.{◌≡◌, ℕ, ◌+◌, ◌^◌, ◌<◌, ◌≤◌, ◌↔◌, IfSome, IsTrue, Option, length, take, drop, slice_index_or};
 ghost use Rattle.crs_text.specs.Items.{More, End, arguments, count, first_of, rest_of, skip, kind_of_item, raw_of, place_of};
 ghost use Rattle.crs_text.specs.Items.{keyword_in, close_of, size_of, here, HasId, IsAt, IsNumberOf};
 ghost use Rattle.crs_text.specs.inner.Table.{no_row};

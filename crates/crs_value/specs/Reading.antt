@@ -1,7 +1,6 @@
 -- Readings: what is read from an item, or from the arguments of one class;
 -- and what holds of each of some values, or of one.
-use Rattle.std.specs.Prelude.{Bool, List, [], ◌∷◌, Option, Some, None}
-use Rattle.std.specs.Prelude.{if◌then◌else◌}
+use Rattle.std.specs.Prelude.{Bool, List, [], ◌∷◌, Option, Some, None, if◌then◌else◌}
 use denote.Enum.Bare.{sameb}
 use Rattle.crs_text.specs.Items.{Item, Siblings, End, More, arguments}
 use Rattle.crs_shape.specs.contracts.class.Class.{the_type}

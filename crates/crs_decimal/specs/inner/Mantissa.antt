@@ -1,6 +1,5 @@
 -- A bridge: the mantissa as it is read, digit by digit, with its closing zeros counted apart.
-use Rattle.std.specs.Prelude.{ℕ, ◌+◌, ◌-◌, ◌*◌, ◌^◌, ◌==◌, nat_lt, Bool, true, false, if◌then◌else◌}
-use Rattle.std.specs.Prelude.{List, fold}
+use Rattle.std.specs.Prelude.{ℕ, ◌+◌, ◌-◌, ◌*◌, ◌^◌, ◌==◌, nat_lt, Bool, true, false, if◌then◌else◌, List, fold}
 use Rattle.crs_decimal.specs.declared.mantissa.Mantissa.{Mantissa}
 
 -- the mantissa before its first digit

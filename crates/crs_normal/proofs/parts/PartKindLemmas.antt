@@ -13,9 +13,8 @@ use Rattle.crs_value.specs.declared.values.level.Level.{Level}
 use Rattle.crs_same.specs.inner.Prelude.{AreSame, parts_of_geodetic, parts_of_projected, parts_of_horizontal, SameCrs}
 use Rattle.crs_normal.specs.inner.WrittenForm.{IsWrittenForm}
 use Rattle.crs_normal.specs.inner.Decides.{FormDecides}
-use Rattle.crs_normal.specs.PartSpellings.{geodetic_class}
+use Rattle.crs_normal.specs.PartSpellings.{geodetic_class, IsHorizontalPart, IsSpelledGeodetic, IsSpelledHorizontal, IsSpelledProjected}
 use Rattle.crs_normal.specs.inner.LowerLaws.{LowerLaws}
-use Rattle.crs_normal.specs.PartSpellings.{IsHorizontalPart, IsSpelledGeodetic, IsSpelledHorizontal, IsSpelledProjected}
 use Rattle.crs_normal.specs.inner.PartTexts.{geodetic_text, horizontal_text, projected_text}
 use Rattle.crs_normal.specs.inner.SpelledCrs.{item_crs, item_geodetic, norm_crs, norm_geodetic}
 use Rattle.crs_normal.proofs.normal.CheckedLemmas.{Checked}

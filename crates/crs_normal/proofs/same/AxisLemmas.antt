@@ -9,8 +9,7 @@ use Rattle.crs_shape.specs.inner.Prelude.{asked_kind}
 use Rattle.crs_value.specs.inner.Prelude.{IsAxis, IsAxisMeridian, IsAxisUnit, AxisParts, SystemParts}
 use Rattle.crs_value.specs.Sound.{Each}
 use Rattle.crs_value.specs.declared.values.level.Level.{Level}
-use Rattle.crs_same.specs.inner.Prelude.{AgreeAxis}
-use Rattle.crs_same.specs.inner.Prelude.{HasAt, IsPositionOf, SameAxisAlone, SameAxisMeridian, BothOrNeither}
+use Rattle.crs_same.specs.inner.Prelude.{AgreeAxis, HasAt, IsPositionOf, SameAxisAlone, SameAxisMeridian, BothOrNeither}
 use Rattle.crs_normal.specs.inner.Decides.{FormDecides, SetsDecide}
 use Rattle.crs_normal.specs.inner.LowerLaws.{LowerLaws}
 use Rattle.crs_normal.specs.inner.PartTexts.{norm_axis_alone}

@@ -4,8 +4,7 @@ use Rattle.crs_decimal.specs.inner.Prelude.{Value, IsNormal}
 use Rattle.crs_shape.specs.declared.unit_kind.UnitKind.TheVariants as kinds
 use Rattle.crs_value.specs.inner.Prelude.{IsDatum, IsEllipsoid, IsEnsemble, IsMeridian, IsGeodeticFrame, IsVerticalFrame, MeridianParts}
 use Rattle.crs_value.specs.declared.values.level.Level.{Level}
-use Rattle.crs_same.specs.inner.Prelude.{AgreeDatum, AgreeEllipsoid, AgreeEnsemble, AgreeFrame, AgreeGiven, AgreeMeridian, or_greenwich}
-use Rattle.crs_same.specs.inner.Prelude.{IsZero}
+use Rattle.crs_same.specs.inner.Prelude.{AgreeDatum, AgreeEllipsoid, AgreeEnsemble, AgreeFrame, AgreeGiven, AgreeMeridian, or_greenwich, IsZero}
 use Rattle.crs_normal.specs.inner.Decides.{FormDecides, SetsDecide}
 use Rattle.crs_normal.specs.inner.SpelledFrames.{greenwich, is_zero, norm_datum, norm_ellipsoid, norm_ensemble, norm_frame, norm_given, norm_meridian}
 use Rattle.crs_normal.specs.inner.SpelledItems.{whole_value}

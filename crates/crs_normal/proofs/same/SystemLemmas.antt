@@ -3,8 +3,7 @@ use Rattle.std.proofs.Common.{◌≡◌, ◌↔◌, ℕ, zero, suc, ◌+◌, ◌
 use Rattle.std.specs.Prelude.{⊤}
 use Rattle.crs_value.specs.inner.Prelude.{IsSystem, SystemParts}
 use Rattle.crs_value.specs.declared.values.level.Level.{Level}
-use Rattle.crs_same.specs.inner.Prelude.{SameValue}
-use Rattle.crs_same.specs.inner.Prelude.{AgreeAt, AgreeAxes, AgreeAxis, AgreeSystem}
+use Rattle.crs_same.specs.inner.Prelude.{SameValue, AgreeAt, AgreeAxes, AgreeAxis, AgreeSystem}
 use Rattle.crs_normal.specs.inner.Decides.{FormDecides, SetsDecide}
 use Rattle.crs_normal.specs.inner.LowerLaws.{LowerLaws}
 use Rattle.crs_normal.specs.inner.SpelledSystems.{axes_from, norm_axis, norm_system}

@@ -12,8 +12,7 @@ use Rattle.crs_value.specs.declared.values.compound.Horizontal.TheVariants as ho
 use Rattle.crs_value.specs.declared.values.crs.Crs.{Crs}
 use Rattle.crs_value.specs.declared.values.crs.Crs.TheVariants as crs
 use Rattle.crs_value.specs.declared.values.level.Level.{Level}
-use Rattle.crs_normal.specs.inner.SpelledConversions.{item_conversion, item_geoid_model, norm_conversion}
-use Rattle.crs_normal.specs.inner.SpelledConversions.{set_geoid_models}
+use Rattle.crs_normal.specs.inner.SpelledConversions.{item_conversion, item_geoid_model, norm_conversion, set_geoid_models}
 use Rattle.crs_normal.specs.inner.SpelledDynamic.{item_dynamic, norm_dynamic}
 use Rattle.crs_normal.specs.inner.SpelledFrames.{item_frame, item_meridian, norm_frame, norm_meridian}
 use Rattle.crs_normal.specs.inner.SpelledItems.{each, node_of, opt, text_item, item_ident, item_unit, norm_units, set_idents}

@@ -1,7 +1,6 @@
 -- A bridge: ellipsoids, prime meridians, reference frames and ensembles in their one form, and as
 -- items.
-use Rattle.std.specs.Prelude.{ℕ, ◌==◌, Bool, List, Option, Some, None, codes, map}
-use Rattle.std.specs.Prelude.{if◌then◌else◌}
+use Rattle.std.specs.Prelude.{ℕ, ◌==◌, Bool, List, Option, Some, None, codes, map, if◌then◌else◌}
 use Rattle.std.specs.Option.{option_map}
 use Rattle.crs_decimal.specs.Value.{Value}
 use Rattle.crs_text.specs.Items.{Item, End, More}

@@ -1,7 +1,6 @@
 -- A bridge: a walk over slots: the slots that are left after the
 -- arguments so far, the first of them perhaps filled already.
-use Rattle.std.specs.Prelude.{◌&&◌, not, Bool, true, false, Option, Some, None, List, [], ◌∷◌, drop}
-use Rattle.std.specs.Prelude.{map, if◌then◌else◌}
+use Rattle.std.specs.Prelude.{◌&&◌, not, Bool, true, false, Option, Some, None, List, [], ◌∷◌, drop, map, if◌then◌else◌}
 use Rattle.crs_shape.specs.declared.class.Class.{Class}
 use Rattle.crs_shape.specs.declared.fitting.Walk.{Walk}
 use Rattle.crs_shape.specs.declared.slot.Slot.{Slot}

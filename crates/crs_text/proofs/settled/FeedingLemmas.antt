@@ -11,9 +11,8 @@ use Rattle.crs_decimal.specs.inner.Prelude.{is_run_byte, is_run_start}
 use Rattle.crs_text.specs.Tokens as tokens
 use Rattle.crs_text.specs.Tokens.{Kind, number, word, Token, single, comma, opening, closing, is_white, is_letter, is_word_byte, IsWord, Forms, IsAfterWhite}
 use Rattle.crs_text.specs.Quoted.{StopsAt, BeginsWith, doubled, IsInside, IsShut}
-use Rattle.crs_text.specs.inner.Lexing.{IsShutAt}
+use Rattle.crs_text.specs.inner.Lexing.{IsShutAt, IsValidTo, IsLexed}
 use Rattle.crs_text.specs.Utf8.{IsUtf8Front}
-use Rattle.crs_text.specs.inner.Lexing.{IsValidTo}
 use Rattle.crs_text.specs.TextFault.{IsFlaw, IsStop, IsTextFault}
 use Rattle.crs_text.specs.Settled.{IsSettled, FormsSettled, SettledFronts, IsRunSettled, IsSettledStop, IsTakenSoFar}
 use Rattle.crs_text.specs.inner.Feeding.{IsFlawSettled, IsLexedSettled, IsUnsettled, IsSettledTo, IsUnsettledAt, IsSettledFault, IsPendingIn, IsPendingBefore, StaysPending, IsUnsettledIn, IsInsideTo, IsOpenTo, IsFedTo, IsFed, IsRefusalOf}
@@ -24,7 +23,6 @@ use Rattle.crs_text.specs.inner.Rows.{Shows, flat}
 use Rattle.crs_text.specs.inner.State.{start}
 use Rattle.crs_text.specs.inner.Table.{Flat}
 use Rattle.crs_text.specs.Refusal.{RefusedAt}
-use Rattle.crs_text.specs.inner.Lexing.{IsLexed}
 use Rattle.crs_text.specs.inner.Scan.{IsReached, IsTaken, IsStoppedBy}
 use Rattle.crs_text.specs.declared.fault.Fault.{Fault}
 use Rattle.crs_text.specs.declared.fault.Fault.TheVariants as faults

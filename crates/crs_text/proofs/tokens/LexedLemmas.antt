@@ -8,13 +8,12 @@ use Rattle.std.proofs.lemmas.List.Sums.{prefix_len-le-length}
 use Rattle.std.proofs.lemmas.Bool.{and_from, cases_Bool}
 use Rattle.std.specs.List.{list_all, prefix_len}
 use Rattle.crs_text.specs.Quoted.{IsInside, StopsAt, BeginsWith, is_quote}
-use Rattle.crs_text.specs.inner.Lexing.{IsShutAt}
+use Rattle.crs_text.specs.inner.Lexing.{IsShutAt, IsLexed}
 use Rattle.crs_text.specs.Utf8.{IsUtf8Front, IsLongestUtf8}
 use Rattle.crs_text.specs.Tokens.{is_letter, is_word_byte, IsWord}
 use Rattle.crs_decimal.specs.inner.Prelude.{is_run_byte, is_run_start, HasForm, IsInBounds}
 use Rattle.crs_text.specs.TextFault.{IsFirstRun, IsFlaw}
 use Rattle.crs_text.proofs.tokens.TokenLemmas.{letter_in_word}
-use Rattle.crs_text.specs.inner.Lexing.{IsLexed}
 use Rattle.crs_text.specs.declared.refusal.Reason.TheVariants.{BadNumber, NumberRange, NotUtf8, OpenText}
 use Rattle.crs_text.specs.declared.lexing.Lexed.TheVariants.{Number, Text, Word}
 use Rattle.crs_text.proofs.tokens.Utf8Lemmas.{IsUtf8-before_quote, IsUtf8-from_front_at_quote, IsLongestUtf8-longer}

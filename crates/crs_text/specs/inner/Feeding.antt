@@ -1,7 +1,5 @@
 -- A bridge: how far the front of a text is settled, and what is known of the token that isn't.
-use Rattle.std.specs.Prelude.{◌≡◌, ℕ, ◌+◌, ◌≤◌, ◌<◌, IsTrue, ◌⊎◌, Option, Some, None, List}
-use Rattle.std.specs.Prelude.{◌∷◌, ◌++◌}
-use Rattle.std.specs.Prelude.{[], length, take, drop}
+use Rattle.std.specs.Prelude.{◌≡◌, ℕ, ◌+◌, ◌≤◌, ◌<◌, IsTrue, ◌⊎◌, Option, Some, None, List, ◌∷◌, ◌++◌, [], length, take, drop}
 use Rattle.std.specs.List.{list_all}
 use Rattle.crs_decimal.specs.Spelling.{is_run_byte, is_run_start}
 use Rattle.crs_text.specs.Quoted.{BeginsWith, StopsAt, IsInside}
@@ -12,9 +10,7 @@ use Rattle.crs_text.specs.inner.Lexing.{IsValidTo}
 use Rattle.crs_text.specs.inner.Rows.{Shows}
 use Rattle.crs_text.specs.Refusal.{RefusedAt}
 use Rattle.crs_text.specs.declared.refusal.Reason.{Reason}
-use Rattle.crs_text.specs.declared.refusal.Reason.TheVariants.{BadCharacter, BadNumber, NumberRange}
-use Rattle.crs_text.specs.declared.refusal.Reason.TheVariants.{NotUtf8, OpenText}
-use Rattle.crs_text.specs.declared.refusal.Reason.TheVariants.{Unexpected, UnexpectedEnd, TooDeep}
+use Rattle.crs_text.specs.declared.refusal.Reason.TheVariants.{BadCharacter, BadNumber, NumberRange, NotUtf8, OpenText, Unexpected, UnexpectedEnd, TooDeep}
 use Rattle.crs_text.specs.declared.lexing.Lexed.{Lexed}
 use Rattle.crs_text.specs.declared.lexing.Lexed.TheVariants as lexed
 use Rattle.crs_text.specs.declared.feeding.Pending.{Pending}

@@ -1,7 +1,6 @@
 -- A bridge: the keywords by the length of their spelling, for a quick look-up.
-use Rattle.std.specs.Prelude.{◌≡◌, ◌==◌, ◌&&◌, nat_le, ℕ, Bool, IsTrue, length, filter, take}
+use Rattle.std.specs.Prelude.{◌≡◌, ◌==◌, ◌&&◌, nat_le, ℕ, Bool, IsTrue, length, filter, take, Option, Some, None, List, [], ◌∷◌, if◌then◌else◌}
 use Rattle.std.specs.List.{list_all}
-use Rattle.std.specs.Prelude.{Option, Some, None, List, [], ◌∷◌, if◌then◌else◌}
 use Rattle.std.specs.Str.{str_eq_ignore_ascii_case}
 use Rattle.crs_text.specs.Keywords.{spelling_of, every_keyword, keyword_of}
 use Rattle.crs_text.specs.declared.keyword.Keyword.{Keyword}

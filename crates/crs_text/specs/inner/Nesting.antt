@@ -1,6 +1,5 @@
 -- A bridge: the places of the delimiters that are open, the last opened first.
-use Rattle.std.specs.Prelude.{◌≡◌, ℕ, ◌+◌, ◌≤◌, ◌⊎◌, Bool, Option, List, []}
-use Rattle.std.specs.Prelude.{◌∷◌, length, drop, MatchOption}
+use Rattle.std.specs.Prelude.{◌≡◌, ℕ, ◌+◌, ◌≤◌, ◌⊎◌, Bool, Option, List, [], ◌∷◌, length, drop, MatchOption}
 use Rattle.crs_text.specs.Tokens.{Token, single, comma, opening, closing, Forms, Fronts}
 use Rattle.crs_text.specs.Viable.{IsViable, opens}
 use Rattle.crs_text.specs.TextFault.{IsFlaw}

@@ -1,9 +1,7 @@
 -- A bridge: the rows of items, in the order in which the items begin, and the table of a state.
 use Rattle.std.specs.Prelude.{◌≡◌, ℕ, suc, Bool, false, Some, List, [], ◌∷◌, ◌++◌, length}
 use Rattle.crs_text.specs.Tokens.{Token}
-use Rattle.crs_text.specs.Items.{Item, leaf, node, Siblings, End, More, arguments, count}
-use Rattle.crs_text.specs.Items.{kind_of_item, raw_of, place_of}
-use Rattle.crs_text.specs.Items.{size_of, keyword_in}
+use Rattle.crs_text.specs.Items.{Item, leaf, node, Siblings, End, More, arguments, count, kind_of_item, raw_of, place_of, size_of, keyword_in}
 use Rattle.crs_text.specs.Keywords.{keyword_of}
 use Rattle.crs_text.specs.inner.State.{Frame, State, wants, worded, after, start, run}
 use Rattle.crs_text.specs.inner.Table.{Flat, item_kind, leaf_row}

@@ -1,6 +1,5 @@
 -- A bridge: runs that are passed over sixteen bytes at a time.
-use Rattle.std.specs.Prelude.{◌≡◌, ℕ, ◌==◌, ◌&&◌, Bool, if◌then◌else◌, List, ◌∷◌, ◌++◌, drop, length}
-use Rattle.std.specs.Prelude.{Option, [], IsTrue, not}
+use Rattle.std.specs.Prelude.{◌≡◌, ℕ, ◌==◌, ◌&&◌, Bool, if◌then◌else◌, List, ◌∷◌, ◌++◌, drop, length, Option, [], IsTrue, not}
 use Rattle.std.specs.Int.{w64, trailing_zeros}
 use Rattle.std.specs.Char.{is_ascii}
 use Rattle.crs_decimal.specs.Spelling.{Sign, sign_text, fraction_text, fraction_digits, AreDigits, is_digit, is_run_byte}

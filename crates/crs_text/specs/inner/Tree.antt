@@ -1,13 +1,9 @@
 -- A bridge: the tree that rows give: how a table of rows over its source is seen as an item.
-use Rattle.std.specs.Prelude.{◌≡◌, ℕ, zero, suc, ◌+◌, ◌≤◌, Bool, List, [], ◌∷◌, ◌++◌, length, take}
-use Rattle.std.specs.Prelude.{drop, map, refl}
+use Rattle.std.specs.Prelude.{◌≡◌, ℕ, zero, suc, ◌+◌, ◌≤◌, Bool, List, [], ◌∷◌, ◌++◌, length, take, drop, map, refl}
 use Rattle.std.specs.Coded.{Coded, coded_ℕ, coded_bool, coded_list, coded×, code_by}
 use Rattle.std.proofs.Common.{◌∙◌, ap, sym, append_assoc}
-use Rattle.crs_text.specs.Tokens.{number, text, word, Token, single, comma, opening, closing}
-use Rattle.crs_text.specs.Tokens.{IsFormed}
-use Rattle.crs_text.specs.Items.{Item, leaf, node, Siblings, End, More, tokens, arguments, count}
-use Rattle.crs_text.specs.Items.{first_of, skip}
-use Rattle.crs_text.specs.Items.{kind_of_item, raw_of, place_of, IsNode}
+use Rattle.crs_text.specs.Tokens.{number, text, word, Token, single, comma, opening, closing, IsFormed}
+use Rattle.crs_text.specs.Items.{Item, leaf, node, Siblings, End, More, tokens, arguments, count, first_of, skip, kind_of_item, raw_of, place_of, IsNode}
 use Rattle.crs_text.specs.inner.Laid.{AreLaid}
 use Rattle.crs_text.specs.inner.Rows.{rows, square_of, close_place}
 use Rattle.crs_text.specs.declared.items.ItemKind.{ItemKind}

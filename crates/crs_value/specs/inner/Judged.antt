@@ -1,7 +1,6 @@
 -- A bridge: what a walk over items answers: whether it found no fault of shape, and the first fault so far:
 -- that of shape where there is one, else the least of the checks that are broken.
-use Rattle.std.specs.Prelude.{◌≡◌, ℕ, ◌⊎◌, Bool, true, false, Option, Some, None, List, ◌∷◌, ◌++◌}
-use Rattle.std.specs.Prelude.{get_or}
+use Rattle.std.specs.Prelude.{◌≡◌, ℕ, ◌⊎◌, Bool, true, false, Option, Some, None, List, ◌∷◌, ◌++◌, get_or}
 use Rattle.std.specs.List.{list_any}
 use denote.Enum.Bare.{sameb}
 use Rattle.crs_text.specs.Items.{Item}

@@ -1,6 +1,5 @@
 -- A bridge: the quick checks of a CRS, by what one walk sees of axes beside one another, and of a CRS from its node `CS` on.
-use Rattle.std.specs.Prelude.{◌≡◌, ℕ, ◌+◌, ◌<◌, ◌≤◌, length, ◌⊎◌, true, false}
-use Rattle.std.specs.Prelude.{List, [], ◌∷◌, Option, Some, None, Bool, not}
+use Rattle.std.specs.Prelude.{◌≡◌, ℕ, ◌+◌, ◌<◌, ◌≤◌, length, ◌⊎◌, true, false, List, [], ◌∷◌, Option, Some, None, Bool, not}
 use Rattle.std.specs.List.{list_any, list_all}
 use Rattle.crs_text.specs.Items.{Item, Siblings, arguments, rest_of, here, HasId}
 use Rattle.crs_text.specs.Refusal.{RefusedAt}
