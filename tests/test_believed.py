@@ -1,15 +1,8 @@
-"""The definitions that a reader must believe are those of docs/THEOREMS.md (tools/believed.py)."""
+"""The definitions that a reader must believe are those of specs/, outside of specs/inner/ (tools/believed.py)."""
 import believed
-import pytest
-
-FOUND = believed.find()
 
 
-@pytest.mark.parametrize("name", sorted(FOUND.reached), ids=str)
-def test_definition(name: believed.Name) -> None:
-    assert not FOUND.fault(name)
-
-
-def test_names_of_the_document() -> None:
-    """Each definition, call, law and clause that the document names is there."""
-    assert not list(believed.lost(FOUND.said))
+def test_definitions() -> None:
+    """Each is in the folder where it belongs, with a sentence, and each name of docs/THEOREMS.md is there."""
+    found = believed.Found()
+    assert found.reached and not list(found.faults())

@@ -23,8 +23,8 @@ class FromC:
     """The calls from C over some texts."""
 
     def __init__(self, prefix: pathlib.Path, folder: str, texts: List[bytes]) -> None:
-        self.program = f"{folder}/bench_calls"
-        words = ["cc", "-O2", f"-I{prefix}/include", "-o", self.program, str(ROOT / "tools" / "bench_calls.c")]
+        self.program = f"{folder}/bench"
+        words = ["cc", "-O2", f"-I{prefix}/include", "-o", self.program, str(ROOT / "tools" / "bench.c")]
         subprocess.run([*words, f"{prefix}/lib/libcrsdesk.a"], check=True)
         self.source = b"".join(text + b"\n" for text in texts)
         self.least: Dict[str, float] = {}

@@ -1,4 +1,4 @@
-/* A yardstick for crs_bench: the same work by hand, unproved, over spans of the text, with no value built.
+/* A yardstick for tools/bench.c: the same work by hand, unproved, over spans of the text, with no value built.
 
        cc -O3 -march=native -o reference tools/reference.c
        reference ROUNDS items|check|canon|group < CATALOGUE     nanoseconds a text, the mean of the rounds

@@ -1,4 +1,5 @@
 pub mod Appended
+pub mod Canonical
 pub mod ContentText
 pub mod MainTheorem
 pub mod Named

@@ -5,6 +5,7 @@ pub mod FilesRun
 pub mod LinesRun
 pub mod Output
 pub mod PairOutput
+pub mod PassedOn
 pub mod Prefixed
 pub mod Requests
 pub mod RulesOutput

@@ -4,6 +4,7 @@ pub mod GroupOutput
 pub mod GroupRun
 pub mod GroupTexts
 pub mod Names
+pub mod PassedOn
 pub mod UnderRules
 pub mod United
 pub mod inner

@@ -1,0 +1,6 @@
+-- What the contracts of this crate say of sources, sinks, lines and rules, passed on. Declares nothing.
+pub use Rattle.crs_rules.specs.Rewritten.{IsForm, SameUnder}
+pub use Rattle.crs_rules.specs.Rules.{RulesParts}
+pub use Rattle.crs_rules.specs.SoundRules.{AreRules}
+pub use Rattle.crs_streams.specs.LongLines.{EndsInFeed}
+pub use Rattle.crs_streams.specs.Streams.{AppendsFront, CountsRead, CountsWrites, SinkState, SourceState, fresh_sink, fresh_source}
