@@ -4,7 +4,7 @@ ghost use Rattle.crs_value.specs.Values.{ConversionParts};
 ghost use Rattle.crs_value.specs.Reads.{ReadsConversion, ReadsGeoidModel, ReadsMethod, ReadsParameter};
 ghost use Rattle.crs_normal.specs.inner.PartTexts.{conversion_text, geoid_model_text, method_text, parameter_text};
 
-use crate::members::{MembersPart, ReadAs};
+use crate::members::{MembersPart, ReadAs, SetReadAs};
 use crate::nodes::copied;
 use crate::parts::{Appended, IdentsPart, Part, Spell};
 use crate::set::write_set;
@@ -46,12 +46,15 @@ impl<'a> ReadAs<'a> for Parameter<'a> {
     ghost Reads = { ReadsParameter };
 
     fn write_of(node: &Node<'_, 'a>, out: &mut Vec<u8>, level: Level) -> Appended {
-        if let Some(bytes) = copied::parameter(node, level) {
-            return append(out, bytes);
-        }
         let unit = node.parameter_unit();
         let measure = (node.number(), UnitKind::Plain, unit.as_ref());
         write_measured(out, b"PARAMETER[\"", (node.text(), node), measure, level)
+    }
+}
+
+impl<'a> SetReadAs<'a> for Parameter<'a> {
+    fn copied(node: &Node<'_, 'a>, level: Level) -> Option<&'a [u8]> {
+        copied::parameter(node, level)
     }
 }
 
@@ -114,5 +117,11 @@ impl<'a> ReadAs<'a> for GeoidModel<'a> {
 
     fn write_of(node: &Node<'_, 'a>, out: &mut Vec<u8>, level: Level) -> Appended {
         write_named(out, b"GEOIDMODEL[\"", node.text(), node, level)
+    }
+}
+
+impl<'a> SetReadAs<'a> for GeoidModel<'a> {
+    fn copied(_node: &Node<'_, 'a>, _level: Level) -> Option<&'a [u8]> {
+        None
     }
 }

@@ -15,7 +15,7 @@ ghost use Rattle.crs_writer.specs.inner.Found.{SaysIfAny};
 ghost use Rattle.crs_writer.specs.inner.FromItems.{Writes};
 ghost use Rattle.crs_writer.specs.inner.Parts.{datum_node};
 
-use crate::members::{MembersPart, ReadAs};
+use crate::members::{MembersPart, ReadAs, SetReadAs};
 use crate::nodes::copied;
 use crate::parts::{
     Appended, IdentsPart, NumberPart, Part, Spell, write_number_node, write_optional,
@@ -40,6 +40,12 @@ impl<'a> ReadAs<'a> for Member<'a> {
 
     fn write_of(node: &Node<'_, 'a>, out: &mut Vec<u8>, level: Level) -> Appended {
         write_named(out, b"MEMBER[\"", node.text(), node, level)
+    }
+}
+
+impl<'a> SetReadAs<'a> for Member<'a> {
+    fn copied(_node: &Node<'_, 'a>, _level: Level) -> Option<&'a [u8]> {
+        None
     }
 }
 

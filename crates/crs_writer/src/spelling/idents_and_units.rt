@@ -16,7 +16,7 @@ ghost use Rattle.crs_writer.specs.inner.Openings.{named_node};
 ghost use Rattle.crs_writer.specs.inner.Members.{set_text};
 ghost use Rattle.crs_writer.specs.inner.Parts.{opt_text};
 
-use crate::members::ReadAs;
+use crate::members::{ReadAs, SetReadAs};
 use crate::nodes::copied;
 use crate::parts::{Appended, IdentsPart, NumberPart, Spell, UnitPart};
 use crate::set::write_set;
@@ -71,11 +71,14 @@ impl<'a> ReadAs<'a> for Ident<'a> {
     ghost Reads = { ReadsIdent };
 
     fn write_of(node: &Node<'_, 'a>, out: &mut Vec<u8>, _level: Level) -> Appended {
-        if let Some(bytes) = copied::ident(node) {
-            return append(out, bytes);
-        }
         let references = node.references();
         write_ident(out, node.text(), node.code(), node.version(), references)
+    }
+}
+
+impl<'a> SetReadAs<'a> for Ident<'a> {
+    fn copied(node: &Node<'_, 'a>, _level: Level) -> Option<&'a [u8]> {
+        copied::ident(node)
     }
 }
 

@@ -19,7 +19,7 @@ ghost use Rattle.crs_writer.specs.inner.Found.{SaysIfAny};
 ghost use Rattle.crs_writer.specs.inner.FromItems.{Writes};
 ghost use Rattle.crs_writer.specs.inner.Openings.{enclosed, numbered_node};
 
-use crate::members::ReadAs;
+use crate::members::{ReadAs, SetReadAs};
 use crate::nodes::copied;
 use crate::parts::{Appended, IdentsPart, NumberPart, Part, Spell, UnitPart, write_optional};
 use crate::set::{write_set, write_set_with};
@@ -156,15 +156,18 @@ impl Spell for Usage<'_> {
 impl<'a> ReadAs<'a> for Usage<'a> {
     ghost Reads = { ReadsUsage };
 
-    fn write_of(node: &Node<'_, 'a>, out: &mut Vec<u8>, level: Level) -> Appended {
-        if let Some(bytes) = copied::usage(node, level) {
-            return append(out, bytes);
-        }
+    fn write_of(node: &Node<'_, 'a>, out: &mut Vec<u8>, _level: Level) -> Appended {
         let bbox = node.first(Class::BoundingBox);
         let extent = node.first(Class::VerticalExtent);
         let scope = node.text_in(Class::Scope);
         let area = node.text_in(Class::Area);
         write_usage(out, scope, area, bbox.as_ref(), extent.as_ref())
+    }
+}
+
+impl<'a> SetReadAs<'a> for Usage<'a> {
+    fn copied(node: &Node<'_, 'a>, level: Level) -> Option<&'a [u8]> {
+        copied::usage(node, level)
     }
 }
 
