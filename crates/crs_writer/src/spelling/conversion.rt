@@ -8,7 +8,7 @@ use crate::members::{MembersPart, ReadAs, SetReadAs};
 use crate::nodes::copied;
 use crate::parts::{Appended, IdentsPart, Part, Spell};
 use crate::set::write_set;
-use crate::spelling::idents_and_units::{write_measured, write_named};
+use crate::spelling::idents_and_units::{MeasuredFields, write_measured, write_named};
 use crate::{Node, append, open_text};
 use crs_shape::Class;
 use crs_value::{Conversion, GeoidModel, Level, Method, Parameter, UnitKind};
@@ -36,9 +36,14 @@ impl Spell for Parameter<'_> {
     ghost spelling = { parameter_text };
 
     fn spell(&self, out: &mut Vec<u8>, level: Level) -> Appended {
-        let named = (self.name, &self.identifiers);
-        let measure = (&self.value, UnitKind::Plain, self.unit.as_ref());
-        write_measured(out, b"PARAMETER[\"", named, measure, level)
+        let fields = MeasuredFields {
+            name: self.name,
+            number: &self.value,
+            asked: UnitKind::Plain,
+            unit: self.unit.as_ref(),
+            ids: &self.identifiers,
+        };
+        write_measured(out, b"PARAMETER[\"", fields, level)
     }
 }
 
@@ -47,8 +52,14 @@ impl<'a> ReadAs<'a> for Parameter<'a> {
 
     fn write_of(node: &Node<'_, 'a>, out: &mut Vec<u8>, level: Level) -> Appended {
         let unit = node.parameter_unit();
-        let measure = (node.number(), UnitKind::Plain, unit.as_ref());
-        write_measured(out, b"PARAMETER[\"", (node.text(), node), measure, level)
+        let fields = MeasuredFields {
+            name: node.text(),
+            number: node.number(),
+            asked: UnitKind::Plain,
+            unit: unit.as_ref(),
+            ids: node,
+        };
+        write_measured(out, b"PARAMETER[\"", fields, level)
     }
 }
 
