@@ -11,7 +11,7 @@ ghost use Rattle.crs_writer.specs.inner.Parts.{SaysFirst};
 ghost use Rattle.crs_writer.specs.inner.Spans.{AreInOrder, texts_at};
 
 use crate::nodes::lookup;
-use crate::parts::{Appended, Part, Spell};
+use crate::parts::{Appended, Spell, ValuePart};
 use crate::set::{FEW, MEMBER_ROOM};
 use crate::spans::{Texts, put_last};
 use crate::{Chain, Node, append};
@@ -128,7 +128,7 @@ pub(crate) trait SetReadAs<'a>: ReadAs<'a> {
 }
 
 // In another node.
-impl<'c, 'i, 'a, T: ReadAs<'a>> Part<T> for &'c Node<'i, 'a> {
+impl<'c, 'i, 'a, T: ReadAs<'a>> ValuePart<T> for &'c Node<'i, 'a> {
     ghost Says = { λ n v. T.Reads n.now.class (item n.now) v };
 
     #[inline(always)]

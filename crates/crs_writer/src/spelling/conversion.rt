@@ -6,7 +6,7 @@ ghost use Rattle.crs_normal.specs.inner.PartTexts.{conversion_text, geoid_model_
 
 use crate::members::{MembersPart, ReadAs, SetReadAs};
 use crate::nodes::copied;
-use crate::parts::{Appended, IdentsPart, Part, Spell};
+use crate::parts::{Appended, IdentsPart, Spell, ValuePart};
 use crate::set::write_set;
 use crate::spelling::idents_and_units::{MeasuredFields, write_measured, write_named};
 use crate::{Node, append, open_text};
@@ -69,7 +69,7 @@ impl<'a> SetReadAs<'a> for Parameter<'a> {
     }
 }
 
-fn write_conversion<'a, M: Part<Method<'a>>, P: MembersPart<Parameter<'a>>, I: IdentsPart>(
+fn write_conversion<'a, M: ValuePart<Method<'a>>, P: MembersPart<Parameter<'a>>, I: IdentsPart>(
     out: &mut Vec<u8>,
     named: (&[u8], I),
     method: M,

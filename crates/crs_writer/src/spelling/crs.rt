@@ -23,7 +23,7 @@ ghost use Rattle.crs_writer.specs.inner.Openings.{named_node};
 ghost use Rattle.crs_writer.specs.inner.CrsText.{crs_text};
 
 use crate::members::{MembersPart, ReadAs};
-use crate::parts::{Appended, IdentsPart, Part, Spell, UnitPart, write_optional};
+use crate::parts::{Appended, IdentsPart, Spell, UnitPart, ValuePart, write_optional};
 use crate::set::write_set;
 use crate::spelling::frame::FramePart;
 use crate::spelling::frame_parts::write_meridian;
@@ -60,9 +60,9 @@ struct GeodeticFields<'b, D, F, M, S, T> {
 #[tactic(auto, using(crate::proofs::FlatLemmas::crs_rules))]
 fn write_geodetic<
     'a,
-    D: Part<Dynamic<'a>>,
+    D: ValuePart<Dynamic<'a>>,
     F: FramePart,
-    M: Part<Meridian<'a>>,
+    M: ValuePart<Meridian<'a>>,
     S: SystemPart,
     T: TailPart,
 >(out: &mut Vec<u8>, fields: GeodeticFields<'_, D, F, M, S, T>, level: Level) -> Appended
@@ -142,9 +142,9 @@ struct BaseFields<'b, D, F, M, U, I> {
 #[tactic(auto, using(crate::proofs::FlatLemmas::crs_rules))]
 fn write_base<
     'a,
-    D: Part<Dynamic<'a>>,
+    D: ValuePart<Dynamic<'a>>,
     F: FramePart,
-    M: Part<Meridian<'a>>,
+    M: ValuePart<Meridian<'a>>,
     U: UnitPart,
     I: IdentsPart,
 >(
@@ -214,13 +214,13 @@ impl<'a> ReadAs<'a> for Base<'a> {
 }
 
 // The derivation is the base CRS and the conversion.
-fn write_projected<'a, B: Part<Base<'a>>, C: Part<Conversion<'a>>, S: SystemPart, T: TailPart>(
-    out: &mut Vec<u8>,
-    named: (&[u8], T),
-    derivation: (B, C),
-    system: S,
-    level: Level,
-) -> Appended
+fn write_projected<
+    'a,
+    B: ValuePart<Base<'a>>,
+    C: ValuePart<Conversion<'a>>,
+    S: SystemPart,
+    T: TailPart,
+>(out: &mut Vec<u8>, named: (&[u8], T), derivation: (B, C), system: S, level: Level) -> Appended
     ensures { OnOk result ((p : ProjectedParts) → p.name ≡ named.entry.0.now → B.Says derivation.0 p.base →
         C.Says derivation.1 p.conversion → S.Says system p.system → T.Says named.entry.1 p.tail →
         out.new.items ≡ out.old.items ++ projected_text level p) }
@@ -271,7 +271,7 @@ struct VerticalFields<'b, D, F, S, T> {
 
 fn write_vertical<
     'a,
-    D: Part<Dynamic<'a>>,
+    D: ValuePart<Dynamic<'a>>,
     F: FramePart,
     S: SystemPart,
     G: MembersPart<GeoidModel<'a>>,
@@ -362,7 +362,7 @@ impl<'a> ReadAs<'a> for Horizontal<'a> {
 }
 
 // The components are the horizontal and the vertical one.
-fn write_compound<'a, H: Part<Horizontal<'a>>, V: Part<Vertical<'a>>, T: TailPart>(
+fn write_compound<'a, H: ValuePart<Horizontal<'a>>, V: ValuePart<Vertical<'a>>, T: TailPart>(
     out: &mut Vec<u8>,
     named: (&[u8], T),
     components: (H, V),

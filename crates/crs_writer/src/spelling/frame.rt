@@ -18,7 +18,7 @@ ghost use Rattle.crs_writer.specs.inner.Parts.{datum_node};
 use crate::members::{MembersPart, ReadAs, SetReadAs};
 use crate::nodes::copied;
 use crate::parts::{
-    Appended, IdentsPart, NumberPart, Part, Spell, write_number_node, write_optional,
+    Appended, IdentsPart, NumberPart, Spell, ValuePart, write_number_node, write_optional,
     write_optional_number, write_part,
 };
 use crate::set::write_set;
@@ -59,7 +59,7 @@ struct DatumFields<'b, E, N, I> {
 
 // A reference frame after an opening.
 #[tactic(auto, using(crate::proofs::FlatLemmas::flat_rules))]
-fn write_datum<'a, E: Part<Ellipsoid<'a>>, N: NumberPart, I: IdentsPart>(
+fn write_datum<'a, E: ValuePart<Ellipsoid<'a>>, N: NumberPart, I: IdentsPart>(
     out: &mut Vec<u8>,
     opening: &[u8],
     fields: DatumFields<'_, E, N, I>,
@@ -143,7 +143,7 @@ impl Spell for Datum<'_> {
 fn write_ensemble<
     'a,
     M: MembersPart<Member<'a>>,
-    E: Part<Ellipsoid<'a>>,
+    E: ValuePart<Ellipsoid<'a>>,
     N: NumberPart,
     I: IdentsPart,
 >(

@@ -17,7 +17,7 @@ ghost use Rattle.crs_writer.specs.inner.Openings.{named_node};
 
 use crate::members::ReadAs;
 use crate::parts::{
-    Appended, IdentsPart, NumberPart, Part, Spell, UnitPart, write_number_node, write_optional,
+    Appended, IdentsPart, NumberPart, Spell, UnitPart, ValuePart, write_number_node, write_optional,
 };
 use crate::spelling::idents_and_units::{
     MeasuredFields, write_length, write_measured, write_named,
@@ -142,7 +142,7 @@ fn write_greenwich(out: &mut Vec<u8>) -> Appended
 }
 
 // The prime meridian of a CRS: where none is written, Greenwich.
-pub(crate) fn write_meridian<'a, M: Part<Meridian<'a>>>(
+pub(crate) fn write_meridian<'a, M: ValuePart<Meridian<'a>>>(
     out: &mut Vec<u8>,
     meridian: Option<M>,
     level: Level,
@@ -174,7 +174,7 @@ impl<'a> ReadAs<'a> for DeformationModel<'a> {
 
 // After the opening of the frame epoch in it.
 #[tactic(auto, using(crate::proofs::FlatLemmas::dynamic_rules))]
-fn write_dynamic<'a, N: NumberPart, M: Part<DeformationModel<'a>>>(
+fn write_dynamic<'a, N: NumberPart, M: ValuePart<DeformationModel<'a>>>(
     out: &mut Vec<u8>,
     opening: &[u8],
     epoch: N,

@@ -25,7 +25,8 @@ ghost use Rattle.crs_writer.specs.inner.Openings.{named_node, numbered_node};
 use crate::members::ReadAs;
 use crate::nodes::copied;
 use crate::parts::{
-    Appended, IdentsPart, NumberPart, Part, Spell, UnitPart, write_optional, write_optional_number,
+    Appended, IdentsPart, NumberPart, Spell, UnitPart, ValuePart, write_optional,
+    write_optional_number,
 };
 use crate::spelling::idents_and_units::write_optional_unit;
 use crate::{Node, append, append_item, axes, is_at, open_text};
@@ -77,7 +78,7 @@ struct AxisFields<'b, M, N, U, I> {
     ids: I,
 }
 
-fn write_axis<'a, M: Part<AxisMeridian<'a>>, N: NumberPart, U: UnitPart, I: IdentsPart>(
+fn write_axis<'a, M: ValuePart<AxisMeridian<'a>>, N: NumberPart, U: UnitPart, I: IdentsPart>(
     out: &mut Vec<u8>,
     fields: AxisFields<'_, M, N, U, I>,
     level: Level,

@@ -21,7 +21,7 @@ ghost use Rattle.crs_writer.specs.inner.Openings.{enclosed, numbered_node};
 
 use crate::members::{ReadAs, SetReadAs};
 use crate::nodes::copied;
-use crate::parts::{Appended, IdentsPart, NumberPart, Part, Spell, UnitPart, write_optional};
+use crate::parts::{Appended, IdentsPart, NumberPart, Spell, UnitPart, ValuePart, write_optional};
 use crate::set::{write_set, write_set_with};
 use crate::spelling::idents_and_units::write_length;
 use crate::{Node, append, keeps, write_optional_text};
@@ -117,7 +117,7 @@ fn enclose(out: &mut Vec<u8>, at: usize) -> Appended
     append(out, b"]")
 }
 
-fn write_usage<'a, B: Part<BoundingBox>, E: Part<Extent<'a>>>(
+fn write_usage<'a, B: ValuePart<BoundingBox>, E: ValuePart<Extent<'a>>>(
     out: &mut Vec<u8>,
     scope: Option<&[u8]>,
     area: Option<&[u8]>,
