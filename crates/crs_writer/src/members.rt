@@ -1,5 +1,5 @@
 //! Members of sets: those of a value, or those that are read from items.
-ghost use Rattle.std.specs.Prelude.{◌≡◌, ◌<◌, [], ℕ, IsTrue, List, MatchOption, OnOk, length};
+ghost use Rattle.std.specs.Prelude.{◌≡◌, ◌<◌, [], ℕ, IfSome, IsTrue, List, MatchOption, OnOk, length};
 ghost use Rattle.crs_text.specs.Items.{Item};
 ghost use Rattle.crs_shape.specs.declared.class.Class.{Class};
 ghost use Rattle.crs_value.specs.inner.FoundArguments.{from_found};
@@ -12,7 +12,7 @@ ghost use Rattle.crs_writer.specs.inner.Parts.{SaysFirst};
 ghost use Rattle.crs_writer.specs.inner.Spans.{AreInOrder, texts_at};
 
 use crate::nodes::lookup;
-use crate::parts::{Appended, Part, Spell};
+use crate::parts::{Appended, Spell, ValuePart};
 use crate::set::{FEW, MEMBER_ROOM};
 use crate::spans::{Texts, put_last};
 use crate::{Chain, Node, append};
@@ -120,8 +120,16 @@ pub(crate) trait ReadAs<'a>: Spell {
             out.old.items out.new.items) };
 }
 
+/// A member of sets that is read from a node.
+pub(crate) trait SetReadAs<'a>: ReadAs<'a> {
+    // The spelling of whatever is read from it, where that is seen to be the node's bytes.
+    fn copied(node: &Node<'_, 'a>, level: Level) -> Option<&'a [u8]>
+        ensures { IfSome result (λ bytes. (value : Self) → Self.Reads node.now.class (item node.now) value →
+            bytes.now ≡ Self.spelling level value) };
+}
+
 // In another node.
-impl<'c, 'i, 'a, T: ReadAs<'a>> Part<T> for &'c Node<'i, 'a> {
+impl<'c, 'i, 'a, T: ReadAs<'a>> ValuePart<T> for &'c Node<'i, 'a> {
     ghost Says = { λ n v. T.Reads n.now.class (item n.now) v };
 
     #[inline(always)]
@@ -131,26 +139,33 @@ impl<'c, 'i, 'a, T: ReadAs<'a>> Part<T> for &'c Node<'i, 'a> {
     }
 }
 
-impl<'i, 'a, T: ReadAs<'a>> MemberPart<T> for Node<'i, 'a> {
+impl<'i, 'a, T: SetReadAs<'a>> MemberPart<T> for Node<'i, 'a> {
     ghost Says = { λ n v. T.Reads n.class (item n) v };
 
     #[inline(always)]
     fn write(&self, out: &mut Vec<u8>, level: Level) -> Appended {
-        T::write_of(self, out, level)
+        match T::copied(self, level) {
+            Some(bytes) => append(out, bytes),
+            None => T::write_of(self, out, level),
+        }
     }
 
     // Of an item from which nothing is read it isn't known what is appended, not even that the bytes before stay.
     fn put_among(&self, texts: &mut Texts, level: Level) -> Appended {
+        let start = texts.bytes.len();
+        if let Some(bytes) = T::copied(self, level) {
+            append(&mut texts.bytes, bytes)?;
+            return put_last(&mut texts.bytes, &mut texts.spans, start);
+        }
         texts.room.clear();
         texts.room.reserve(MEMBER_ROOM)?;
         T::write_of(self, &mut texts.room, level)?;
-        let start = texts.bytes.len();
         append(&mut texts.bytes, &texts.room)?;
         put_last(&mut texts.bytes, &mut texts.spans, start)
     }
 }
 
-impl<'i, 'a, T: ReadAs<'a>> MembersPart<T> for Chain<'i, 'a> {
+impl<'i, 'a, T: SetReadAs<'a>> MembersPart<T> for Chain<'i, 'a> {
     ghost Hold = { λ c. Holds c.items.now c.at };
 
     ghost Say = { λ c vs. ReadsEach (T.Reads c.class) (from_found c.items.now c.parent c.class c.at) vs };

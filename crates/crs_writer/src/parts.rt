@@ -76,7 +76,7 @@ pub trait UnitPart: Copy {
 }
 
 /// A value that is a part of a node, or the item that it is read from. Profile.
-pub trait Part<T: Spell>: Copy {
+pub trait ValuePart<T: Spell>: Copy {
     /// The values that it may be.
     ghost Says: { Self → T → Type 0 };
 
@@ -141,7 +141,7 @@ pub(crate) fn write_part<T: Spell>(out: &mut Vec<u8>, node: &T, level: Level) ->
     node.spell(out, level)
 }
 
-impl<'b, T: Spell> Part<T> for &'b T {
+impl<'b, T: Spell> ValuePart<T> for &'b T {
     ghost Says = { λ s v. v ≡ s.now };
 
     #[inline(always)]
@@ -151,7 +151,7 @@ impl<'b, T: Spell> Part<T> for &'b T {
 }
 
 // A part that must be there: where it isn't, no value is one.
-impl<T: Spell, P: Part<T>> Part<T> for Option<P> {
+impl<T: Spell, P: ValuePart<T>> ValuePart<T> for Option<P> {
     ghost Says = { λ part v. SaysIfAny P.Says part (Some v) };
 
     #[inline(always)]
@@ -165,7 +165,7 @@ impl<T: Spell, P: Part<T>> Part<T> for Option<P> {
 
 // A part that may be missing.
 #[inline(always)]
-pub(crate) fn write_optional<T: Spell, P: Part<T>>(
+pub(crate) fn write_optional<T: Spell, P: ValuePart<T>>(
     out: &mut Vec<u8>,
     part: Option<P>,
     level: Level,

@@ -4,11 +4,11 @@ ghost use Rattle.crs_value.specs.Values.{ConversionParts};
 ghost use Rattle.crs_value.specs.Reads.{ReadsConversion, ReadsGeoidModel, ReadsMethod, ReadsParameter};
 ghost use Rattle.crs_normal.specs.inner.PartTexts.{conversion_text, geoid_model_text, method_text, parameter_text};
 
-use crate::members::{MembersPart, ReadAs};
+use crate::members::{MembersPart, ReadAs, SetReadAs};
 use crate::nodes::copied;
-use crate::parts::{Appended, IdentsPart, Part, Spell};
+use crate::parts::{Appended, IdentsPart, Spell, ValuePart};
 use crate::set::write_set;
-use crate::spelling::idents_and_units::{write_measured, write_named};
+use crate::spelling::idents_and_units::{MeasuredFields, write_measured, write_named};
 use crate::{Node, append, open_text};
 use crs_shape::Class;
 use crs_value::{Conversion, GeoidModel, Level, Method, Parameter, UnitKind};
@@ -36,9 +36,14 @@ impl Spell for Parameter<'_> {
     ghost spelling = { parameter_text };
 
     fn spell(&self, out: &mut Vec<u8>, level: Level) -> Appended {
-        let named = (self.name, &self.identifiers);
-        let measure = (&self.value, UnitKind::Plain, self.unit.as_ref());
-        write_measured(out, b"PARAMETER[\"", named, measure, level)
+        let fields = MeasuredFields {
+            name: self.name,
+            number: &self.value,
+            asked: UnitKind::Plain,
+            unit: self.unit.as_ref(),
+            ids: &self.identifiers,
+        };
+        write_measured(out, b"PARAMETER[\"", fields, level)
     }
 }
 
@@ -46,16 +51,25 @@ impl<'a> ReadAs<'a> for Parameter<'a> {
     ghost Reads = { ReadsParameter };
 
     fn write_of(node: &Node<'_, 'a>, out: &mut Vec<u8>, level: Level) -> Appended {
-        if let Some(bytes) = copied::parameter(node, level) {
-            return append(out, bytes);
-        }
         let unit = node.parameter_unit();
-        let measure = (node.number(), UnitKind::Plain, unit.as_ref());
-        write_measured(out, b"PARAMETER[\"", (node.text(), node), measure, level)
+        let fields = MeasuredFields {
+            name: node.text(),
+            number: node.number(),
+            asked: UnitKind::Plain,
+            unit: unit.as_ref(),
+            ids: node,
+        };
+        write_measured(out, b"PARAMETER[\"", fields, level)
     }
 }
 
-fn write_conversion<'a, M: Part<Method<'a>>, P: MembersPart<Parameter<'a>>, I: IdentsPart>(
+impl<'a> SetReadAs<'a> for Parameter<'a> {
+    fn copied(node: &Node<'_, 'a>, level: Level) -> Option<&'a [u8]> {
+        copied::parameter(node, level)
+    }
+}
+
+fn write_conversion<'a, M: ValuePart<Method<'a>>, P: MembersPart<Parameter<'a>>, I: IdentsPart>(
     out: &mut Vec<u8>,
     named: (&[u8], I),
     method: M,
@@ -114,5 +128,11 @@ impl<'a> ReadAs<'a> for GeoidModel<'a> {
 
     fn write_of(node: &Node<'_, 'a>, out: &mut Vec<u8>, level: Level) -> Appended {
         write_named(out, b"GEOIDMODEL[\"", node.text(), node, level)
+    }
+}
+
+impl<'a> SetReadAs<'a> for GeoidModel<'a> {
+    fn copied(_node: &Node<'_, 'a>, _level: Level) -> Option<&'a [u8]> {
+        None
     }
 }

@@ -23,7 +23,7 @@ ghost use Rattle.crs_writer.specs.inner.Openings.{named_node};
 ghost use Rattle.crs_writer.specs.inner.CrsText.{crs_text};
 
 use crate::members::{MembersPart, ReadAs};
-use crate::parts::{Appended, IdentsPart, Part, Spell, UnitPart, write_optional};
+use crate::parts::{Appended, IdentsPart, Spell, UnitPart, ValuePart, write_optional};
 use crate::set::write_set;
 use crate::spelling::frame::FramePart;
 use crate::spelling::frame_parts::write_meridian;
@@ -48,33 +48,41 @@ fn geodetic_opening(system_type: SystemType) -> &'static str
     }
 }
 
-// The datum is the dynamic part, the frame and the prime meridian.
+struct GeodeticFields<'b, D, F, M, S, T> {
+    name: &'b [u8],
+    dynamic: Option<D>,
+    frame: F,
+    meridian: Option<M>,
+    system: S,
+    tail: T,
+}
+
 #[tactic(auto, using(crate::proofs::FlatLemmas::crs_rules))]
 fn write_geodetic<
     'a,
-    D: Part<Dynamic<'a>>,
+    D: ValuePart<Dynamic<'a>>,
     F: FramePart,
-    M: Part<Meridian<'a>>,
+    M: ValuePart<Meridian<'a>>,
     S: SystemPart,
     T: TailPart,
->(
-    out: &mut Vec<u8>,
-    named: (&[u8], T),
-    datum: (Option<D>, F, Option<M>),
-    system: S,
-    level: Level,
-) -> Appended
+>(out: &mut Vec<u8>, fields: GeodeticFields<'_, D, F, M, S, T>, level: Level) -> Appended
     ensures { OnOk result ((n : List ℕ) (d : Option DynamicParts) (f : Frame) (m : Option MeridianParts)
-        (s : SystemParts) (t : TailParts) → n ≡ named.entry.0.now → SaysIfAny D.Says datum.0 d →
-        F.SaysGeodetic datum.1 f → SaysIfAny M.Says datum.2 m → S.Says system s →
-        T.Says named.entry.1 t → out.new.items ≡ out.old.items
+        (s : SystemParts) (t : TailParts) → n ≡ fields.entry.name.now → SaysIfAny D.Says fields.entry.dynamic d →
+        F.SaysGeodetic fields.entry.frame f → SaysIfAny M.Says fields.entry.meridian m → S.Says fields.entry.system s →
+        T.Says fields.entry.tail t → out.new.items ≡ out.old.items
         ++ item_text (node_of (geodetic_keyword s.system_type) (text_item n)
         (opt item_dynamic (option_map (norm_dynamic level) d) (More (item_frame (codes "DATUM") (norm_frame level f))
         (opt item_meridian (norm_meridian level m)
         (system_items (norm_system level s) (tail_items (norm_tail level t)))))))) }
 {
-    let (name, tail) = named;
-    let (dynamic, frame, meridian) = datum;
+    let GeodeticFields {
+        name,
+        dynamic,
+        frame,
+        meridian,
+        system,
+        tail,
+    } = fields;
     let opening = geodetic_opening(system.system_type());
     open_text(out, opening.as_bytes(), name)?;
     write_optional::<Dynamic<'a>, D>(out, dynamic, level)?;
@@ -90,8 +98,15 @@ impl Spell for Geodetic<'_> {
 
     #[tactic(auto, using(crate::proofs::FlatLemmas::value_rules))]
     fn spell(&self, out: &mut Vec<u8>, level: Level) -> Appended {
-        let datum = (self.dynamic.as_ref(), &self.frame, self.meridian.as_ref());
-        write_geodetic(out, (self.name, &self.tail), datum, &self.system, level)
+        let fields = GeodeticFields {
+            name: self.name,
+            dynamic: self.dynamic.as_ref(),
+            frame: &self.frame,
+            meridian: self.meridian.as_ref(),
+            system: &self.system,
+            tail: &self.tail,
+        };
+        write_geodetic(out, fields, level)
     }
 }
 
@@ -101,36 +116,59 @@ impl<'a> ReadAs<'a> for Geodetic<'a> {
     fn write_of(node: &Node<'_, 'a>, out: &mut Vec<u8>, level: Level) -> Appended {
         let dynamic = node.first(Class::Dynamic);
         let meridian = node.first(Class::PrimeMeridian);
-        let datum = (dynamic.as_ref(), node, meridian.as_ref());
-        write_geodetic(out, (node.text(), node), datum, node, level)
+        let fields = GeodeticFields {
+            name: node.text(),
+            dynamic: dynamic.as_ref(),
+            frame: node,
+            meridian: meridian.as_ref(),
+            system: node,
+            tail: node,
+        };
+        write_geodetic(out, fields, level)
     }
 }
 
-// After an opening; the datum is as in a geodetic CRS, and the unit of its angles.
+// The unit is that of its angles.
+struct BaseFields<'b, D, F, M, U, I> {
+    name: &'b [u8],
+    dynamic: Option<D>,
+    frame: F,
+    meridian: Option<M>,
+    unit: Option<U>,
+    ids: I,
+}
+
+// After an opening.
 #[tactic(auto, using(crate::proofs::FlatLemmas::crs_rules))]
 fn write_base<
     'a,
-    D: Part<Dynamic<'a>>,
+    D: ValuePart<Dynamic<'a>>,
     F: FramePart,
-    M: Part<Meridian<'a>>,
+    M: ValuePart<Meridian<'a>>,
     U: UnitPart,
     I: IdentsPart,
 >(
     out: &mut Vec<u8>,
     opening: &[u8],
-    named: (&[u8], I),
-    datum: (Option<D>, F, Option<M>, Option<U>),
+    fields: BaseFields<'_, D, F, M, U, I>,
     level: Level,
 ) -> Appended
     ensures { OnOk result ((n : List ℕ) (d : Option DynamicParts) (f : Frame) (m : Option MeridianParts)
-        (u : Option UnitParts) (is : List IdentParts) → n ≡ named.entry.0.now → SaysIfAny D.Says datum.0 d →
-        F.SaysGeodetic datum.1 f → SaysIfAny M.Says datum.2 m → SaysIfAny U.Says datum.3 u → I.Says named.entry.1 is →
+        (u : Option UnitParts) (is : List IdentParts) → n ≡ fields.entry.name.now → SaysIfAny D.Says fields.entry.dynamic d →
+        F.SaysGeodetic fields.entry.frame f → SaysIfAny M.Says fields.entry.meridian m →
+        SaysIfAny U.Says fields.entry.unit u → I.Says fields.entry.ids is →
         out.new.items ≡ out.old.items ++ named_node opening.now n (opt item_dynamic (option_map (norm_dynamic level) d)
         (More (item_frame (codes "DATUM") (norm_frame level f)) (opt item_meridian (norm_meridian level m)
         (opt item_unit (norm_units level kinds.Angle u) (each item_ident (set_idents level is) End)))))) }
 {
-    let (name, ids) = named;
-    let (dynamic, frame, meridian, unit) = datum;
+    let BaseFields {
+        name,
+        dynamic,
+        frame,
+        meridian,
+        unit,
+        ids,
+    } = fields;
     open_text(out, opening, name)?;
     write_optional::<Dynamic<'a>, D>(out, dynamic, level)?;
     frame.put_geodetic(out, level)?;
@@ -144,14 +182,15 @@ impl Spell for Base<'_> {
     ghost spelling = { base_text };
 
     fn spell(&self, out: &mut Vec<u8>, level: Level) -> Appended {
-        let named = (self.name, &self.identifiers);
-        let datum = (
-            self.dynamic.as_ref(),
-            &self.frame,
-            self.meridian.as_ref(),
-            self.unit.as_ref(),
-        );
-        write_base(out, b"BASEGEOGCRS[\"", named, datum, level)
+        let fields = BaseFields {
+            name: self.name,
+            dynamic: self.dynamic.as_ref(),
+            frame: &self.frame,
+            meridian: self.meridian.as_ref(),
+            unit: self.unit.as_ref(),
+            ids: &self.identifiers,
+        };
+        write_base(out, b"BASEGEOGCRS[\"", fields, level)
     }
 }
 
@@ -162,19 +201,26 @@ impl<'a> ReadAs<'a> for Base<'a> {
         let dynamic = node.first(Class::Dynamic);
         let meridian = node.first(Class::PrimeMeridian);
         let unit = node.first(Class::AngleUnit);
-        let datum = (dynamic.as_ref(), node, meridian.as_ref(), unit.as_ref());
-        write_base(out, b"BASEGEOGCRS[\"", (node.text(), node), datum, level)
+        let fields = BaseFields {
+            name: node.text(),
+            dynamic: dynamic.as_ref(),
+            frame: node,
+            meridian: meridian.as_ref(),
+            unit: unit.as_ref(),
+            ids: node,
+        };
+        write_base(out, b"BASEGEOGCRS[\"", fields, level)
     }
 }
 
 // The derivation is the base CRS and the conversion.
-fn write_projected<'a, B: Part<Base<'a>>, C: Part<Conversion<'a>>, S: SystemPart, T: TailPart>(
-    out: &mut Vec<u8>,
-    named: (&[u8], T),
-    derivation: (B, C),
-    system: S,
-    level: Level,
-) -> Appended
+fn write_projected<
+    'a,
+    B: ValuePart<Base<'a>>,
+    C: ValuePart<Conversion<'a>>,
+    S: SystemPart,
+    T: TailPart,
+>(out: &mut Vec<u8>, named: (&[u8], T), derivation: (B, C), system: S, level: Level) -> Appended
     ensures { OnOk result ((p : ProjectedParts) → p.name ≡ named.entry.0.now → B.Says derivation.0 p.base →
         C.Says derivation.1 p.conversion → S.Says system p.system → T.Says named.entry.1 p.tail →
         out.new.items ≡ out.old.items ++ projected_text level p) }
@@ -215,28 +261,35 @@ impl<'a> ReadAs<'a> for Projected<'a> {
     }
 }
 
-// `datum` is the dynamic part, the frame, and the coordinate system that heights above it have.
+struct VerticalFields<'b, D, F, S, T> {
+    name: &'b [u8],
+    dynamic: Option<D>,
+    frame: F,
+    system: S,
+    tail: T,
+}
+
 fn write_vertical<
     'a,
-    D: Part<Dynamic<'a>>,
+    D: ValuePart<Dynamic<'a>>,
     F: FramePart,
     S: SystemPart,
     G: MembersPart<GeoidModel<'a>>,
     T: TailPart,
->(
-    out: &mut Vec<u8>,
-    named: (&[u8], T),
-    datum: (Option<D>, F, S),
-    models: &G,
-    level: Level,
-) -> Appended
+>(out: &mut Vec<u8>, fields: VerticalFields<'_, D, F, S, T>, models: &G, level: Level) -> Appended
     requires { G.Hold models.now }
-    ensures { OnOk result ((v : VerticalParts) → v.name ≡ named.entry.0.now → SaysIfAny D.Says datum.0 v.dynamic →
-        F.SaysVertical datum.1 v.frame → S.Says datum.2 v.system → G.Say models.now v.geoid_models →
-        T.Says named.entry.1 v.tail → out.new.items ≡ out.old.items ++ vertical_text level v) }
+    ensures { OnOk result ((v : VerticalParts) → v.name ≡ fields.entry.name.now →
+        SaysIfAny D.Says fields.entry.dynamic v.dynamic → F.SaysVertical fields.entry.frame v.frame →
+        S.Says fields.entry.system v.system → G.Say models.now v.geoid_models →
+        T.Says fields.entry.tail v.tail → out.new.items ≡ out.old.items ++ vertical_text level v) }
 {
-    let (name, tail) = named;
-    let (dynamic, frame, system) = datum;
+    let VerticalFields {
+        name,
+        dynamic,
+        frame,
+        system,
+        tail,
+    } = fields;
     open_text(out, b"VERTCRS[\"", name)?;
     write_optional::<Dynamic<'a>, D>(out, dynamic, level)?;
     frame.put_vertical(out, level)?;
@@ -250,9 +303,15 @@ impl Spell for Vertical<'_> {
     ghost spelling = { vertical_text };
 
     fn spell(&self, out: &mut Vec<u8>, level: Level) -> Appended {
-        let datum = (self.dynamic.as_ref(), &self.frame, &self.system);
         let models = self.geoid_models.as_slice();
-        write_vertical(out, (self.name, &self.tail), datum, &models, level)
+        let fields = VerticalFields {
+            name: self.name,
+            dynamic: self.dynamic.as_ref(),
+            frame: &self.frame,
+            system: &self.system,
+            tail: &self.tail,
+        };
+        write_vertical(out, fields, &models, level)
     }
 }
 
@@ -262,8 +321,14 @@ impl<'a> ReadAs<'a> for Vertical<'a> {
     fn write_of(node: &Node<'_, 'a>, out: &mut Vec<u8>, level: Level) -> Appended {
         let dynamic = node.first(Class::Dynamic);
         let models = node.all(Class::GeoidModel);
-        let datum = (dynamic.as_ref(), node, node);
-        write_vertical(out, (node.text(), node), datum, &models, level)
+        let fields = VerticalFields {
+            name: node.text(),
+            dynamic: dynamic.as_ref(),
+            frame: node,
+            system: node,
+            tail: node,
+        };
+        write_vertical(out, fields, &models, level)
     }
 }
 
@@ -297,7 +362,7 @@ impl<'a> ReadAs<'a> for Horizontal<'a> {
 }
 
 // The components are the horizontal and the vertical one.
-fn write_compound<'a, H: Part<Horizontal<'a>>, V: Part<Vertical<'a>>, T: TailPart>(
+fn write_compound<'a, H: ValuePart<Horizontal<'a>>, V: ValuePart<Vertical<'a>>, T: TailPart>(
     out: &mut Vec<u8>,
     named: (&[u8], T),
     components: (H, V),

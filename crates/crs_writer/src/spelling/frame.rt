@@ -15,10 +15,10 @@ ghost use Rattle.crs_writer.specs.inner.Found.{SaysIfAny};
 ghost use Rattle.crs_writer.specs.inner.FromItems.{Writes};
 ghost use Rattle.crs_writer.specs.inner.Parts.{datum_node};
 
-use crate::members::{MembersPart, ReadAs};
+use crate::members::{MembersPart, ReadAs, SetReadAs};
 use crate::nodes::copied;
 use crate::parts::{
-    Appended, IdentsPart, NumberPart, Part, Spell, write_number_node, write_optional,
+    Appended, IdentsPart, NumberPart, Spell, ValuePart, write_number_node, write_optional,
     write_optional_number, write_part,
 };
 use crate::set::write_set;
@@ -43,26 +43,44 @@ impl<'a> ReadAs<'a> for Member<'a> {
     }
 }
 
-// A reference frame after an opening; its own parts are the ellipsoid, the anchor and the anchor epoch.
+impl<'a> SetReadAs<'a> for Member<'a> {
+    fn copied(_node: &Node<'_, 'a>, _level: Level) -> Option<&'a [u8]> {
+        None
+    }
+}
+
+struct DatumFields<'b, E, N, I> {
+    name: &'b [u8],
+    ellipsoid: Option<E>,
+    anchor: Option<&'b [u8]>,
+    anchor_epoch: Option<N>,
+    ids: I,
+}
+
+// A reference frame after an opening.
 #[tactic(auto, using(crate::proofs::FlatLemmas::flat_rules))]
-fn write_datum<'a, E: Part<Ellipsoid<'a>>, N: NumberPart, I: IdentsPart>(
+fn write_datum<'a, E: ValuePart<Ellipsoid<'a>>, N: NumberPart, I: IdentsPart>(
     out: &mut Vec<u8>,
     opening: &[u8],
-    named: (&[u8], I),
-    parts: (Option<E>, Option<&[u8]>, Option<N>),
+    fields: DatumFields<'_, E, N, I>,
     level: Level,
 ) -> Appended
-    ensures { OnOk result ((d : DatumParts) → d.name ≡ named.entry.0.now →
-        SaysIfAny E.Says parts.entry.0 d.ellipsoid → d.anchor ≡ option_copied parts.entry.1 →
-        SaysIfAny N.Says parts.entry.2 d.anchor_epoch → I.Says named.entry.1 d.identifiers →
+    ensures { OnOk result ((d : DatumParts) → d.name ≡ fields.entry.name.now →
+        SaysIfAny E.Says fields.entry.ellipsoid d.ellipsoid → d.anchor ≡ option_copied fields.entry.anchor →
+        SaysIfAny N.Says fields.entry.anchor_epoch d.anchor_epoch → I.Says fields.entry.ids d.identifiers →
         out.new.items ≡ out.old.items ++ datum_node level opening.now d) }
 {
-    let (name, ids) = named;
-    let (ellipsoid, anchor, epoch) = parts;
+    let DatumFields {
+        name,
+        ellipsoid,
+        anchor,
+        anchor_epoch,
+        ids,
+    } = fields;
     open_text(out, opening, name)?;
     write_optional::<Ellipsoid<'a>, E>(out, ellipsoid, level)?;
     write_optional_text(out, b",ANCHOR[\"", anchor)?;
-    write_optional_number(out, b",ANCHOREPOCH[", epoch)?;
+    write_optional_number(out, b",ANCHOREPOCH[", anchor_epoch)?;
     ids.put(out, level)?;
     append(out, b"]")
 }
@@ -72,9 +90,14 @@ fn write_datum<'a, E: Part<Ellipsoid<'a>>, N: NumberPart, I: IdentsPart>(
 fn write_datum_in(out: &mut Vec<u8>, opening: &[u8], datum: &Datum<'_>, level: Level) -> Appended
     ensures { OnOk result (out.new.items ≡ out.old.items ++ datum_node level opening.now datum.now) }
 {
-    let ellipsoid = datum.ellipsoid.as_ref();
-    let parts = (ellipsoid, datum.anchor, datum.anchor_epoch.as_ref());
-    write_datum(out, opening, (datum.name, &datum.identifiers), parts, level)
+    let fields = DatumFields {
+        name: datum.name,
+        ellipsoid: datum.ellipsoid.as_ref(),
+        anchor: datum.anchor,
+        anchor_epoch: datum.anchor_epoch.as_ref(),
+        ids: &datum.identifiers,
+    };
+    write_datum(out, opening, fields, level)
 }
 
 // The reference frame that is read from an item, after an opening.
@@ -83,9 +106,14 @@ fn write_datum_of(out: &mut Vec<u8>, opening: &[u8], node: &Node<'_, '_>, level:
         out.old.items out.new.items) }
 {
     let ellipsoid = node.first(Class::Ellipsoid);
-    let epoch = node.number_in(Class::AnchorEpoch);
-    let parts = (ellipsoid.as_ref(), node.text_in(Class::Anchor), epoch);
-    write_datum(out, opening, (node.text(), node), parts, level)
+    let fields = DatumFields {
+        name: node.text(),
+        ellipsoid: ellipsoid.as_ref(),
+        anchor: node.text_in(Class::Anchor),
+        anchor_epoch: node.number_in(Class::AnchorEpoch),
+        ids: node,
+    };
+    write_datum(out, opening, fields, level)
 }
 
 // The geodetic reference frame that is read from an item, after a comma.
@@ -115,7 +143,7 @@ impl Spell for Datum<'_> {
 fn write_ensemble<
     'a,
     M: MembersPart<Member<'a>>,
-    E: Part<Ellipsoid<'a>>,
+    E: ValuePart<Ellipsoid<'a>>,
     N: NumberPart,
     I: IdentsPart,
 >(

@@ -17,31 +17,45 @@ ghost use Rattle.crs_writer.specs.inner.Openings.{named_node};
 
 use crate::members::ReadAs;
 use crate::parts::{
-    Appended, IdentsPart, NumberPart, Part, Spell, UnitPart, write_number_node, write_optional,
+    Appended, IdentsPart, NumberPart, Spell, UnitPart, ValuePart, write_number_node, write_optional,
 };
-use crate::spelling::idents_and_units::{write_length, write_measured, write_named};
+use crate::spelling::idents_and_units::{
+    MeasuredFields, write_length, write_measured, write_named,
+};
 use crate::{Node, append, open_text};
 use crs_shape::Class;
 use crs_value::{DeformationModel, Dynamic, Ellipsoid, Level, Meridian, UnitKind};
 
-// After an opening; the measures are the semi-major axis, the inverse flattening and the unit.
+struct EllipsoidFields<'b, N, U, I> {
+    name: &'b [u8],
+    semi_major_axis: N,
+    inverse_flattening: N,
+    unit: Option<U>,
+    ids: I,
+}
+
+// After an opening.
 #[tactic(auto, using(crate::proofs::FlatLemmas::flat_rules))]
 fn write_ellipsoid<N: NumberPart, U: UnitPart, I: IdentsPart>(
     out: &mut Vec<u8>,
     opening: &[u8],
-    named: (&[u8], I),
-    measures: (N, N, Option<U>),
+    fields: EllipsoidFields<'_, N, U, I>,
     level: Level,
 ) -> Appended
-    ensures { OnOk result ((e : EllipsoidParts) → e.name ≡ named.entry.0.now →
-        N.Says measures.0 e.semi_major_axis → N.Says measures.1 e.inverse_flattening →
-        SaysIfAny U.Says measures.2 e.unit → I.Says named.entry.1 e.identifiers →
+    ensures { OnOk result ((e : EllipsoidParts) → e.name ≡ fields.entry.name.now → N.Says fields.entry.semi_major_axis e.semi_major_axis →
+        N.Says fields.entry.inverse_flattening e.inverse_flattening →
+        SaysIfAny U.Says fields.entry.unit e.unit → I.Says fields.entry.ids e.identifiers →
         out.new.items ≡ out.old.items ++ named_node opening.now e.name
         (More (number_item e.semi_major_axis) (More (number_item e.inverse_flattening)
         (opt item_unit (Some (norm_length level e.unit)) (each item_ident (set_idents level e.identifiers) End))))) }
 {
-    let (name, ids) = named;
-    let (semi_major_axis, inverse_flattening, unit) = measures;
+    let EllipsoidFields {
+        name,
+        semi_major_axis,
+        inverse_flattening,
+        unit,
+        ids,
+    } = fields;
     open_text(out, opening, name)?;
     semi_major_axis.open(out, b",")?;
     inverse_flattening.open(out, b",")?;
@@ -54,10 +68,14 @@ impl Spell for Ellipsoid<'_> {
     ghost spelling = { ellipsoid_text };
 
     fn spell(&self, out: &mut Vec<u8>, level: Level) -> Appended {
-        let unit = self.unit.as_ref();
-        let measures = (&self.semi_major_axis, &self.inverse_flattening, unit);
-        let named = (self.name, &self.identifiers);
-        write_ellipsoid(out, b"ELLIPSOID[\"", named, measures, level)
+        let fields = EllipsoidFields {
+            name: self.name,
+            semi_major_axis: &self.semi_major_axis,
+            inverse_flattening: &self.inverse_flattening,
+            unit: self.unit.as_ref(),
+            ids: &self.identifiers,
+        };
+        write_ellipsoid(out, b"ELLIPSOID[\"", fields, level)
     }
 }
 
@@ -66,8 +84,14 @@ impl<'a> ReadAs<'a> for Ellipsoid<'a> {
 
     fn write_of(node: &Node<'_, 'a>, out: &mut Vec<u8>, level: Level) -> Appended {
         let unit = node.first(Class::LengthUnit);
-        let measures = (node.nth_number(0), node.nth_number(1), unit.as_ref());
-        write_ellipsoid(out, b"ELLIPSOID[\"", (node.text(), node), measures, level)
+        let fields = EllipsoidFields {
+            name: node.text(),
+            semi_major_axis: node.nth_number(0),
+            inverse_flattening: node.nth_number(1),
+            unit: unit.as_ref(),
+            ids: node,
+        };
+        write_ellipsoid(out, b"ELLIPSOID[\"", fields, level)
     }
 }
 
@@ -83,10 +107,14 @@ impl Spell for Meridian<'_> {
     ghost spelling = { meridian_text };
 
     fn spell(&self, out: &mut Vec<u8>, level: Level) -> Appended {
-        let named = (self.name, &self.identifiers);
-        let unit = unit_said(&self.longitude, self.unit.as_ref());
-        let measure = (&self.longitude, UnitKind::Angle, unit);
-        write_measured(out, b"PRIMEM[\"", named, measure, level)
+        let fields = MeasuredFields {
+            name: self.name,
+            number: &self.longitude,
+            asked: UnitKind::Angle,
+            unit: unit_said(&self.longitude, self.unit.as_ref()),
+            ids: &self.identifiers,
+        };
+        write_measured(out, b"PRIMEM[\"", fields, level)
     }
 }
 
@@ -96,12 +124,14 @@ impl<'a> ReadAs<'a> for Meridian<'a> {
     fn write_of(node: &Node<'_, 'a>, out: &mut Vec<u8>, level: Level) -> Appended {
         let unit = node.first(Class::AngleUnit);
         let longitude = node.number();
-        let measure = (
-            longitude,
-            UnitKind::Angle,
-            unit_said(longitude, unit.as_ref()),
-        );
-        write_measured(out, b"PRIMEM[\"", (node.text(), node), measure, level)
+        let fields = MeasuredFields {
+            name: node.text(),
+            number: longitude,
+            asked: UnitKind::Angle,
+            unit: unit_said(longitude, unit.as_ref()),
+            ids: node,
+        };
+        write_measured(out, b"PRIMEM[\"", fields, level)
     }
 }
 
@@ -112,7 +142,7 @@ fn write_greenwich(out: &mut Vec<u8>) -> Appended
 }
 
 // The prime meridian of a CRS: where none is written, Greenwich.
-pub(crate) fn write_meridian<'a, M: Part<Meridian<'a>>>(
+pub(crate) fn write_meridian<'a, M: ValuePart<Meridian<'a>>>(
     out: &mut Vec<u8>,
     meridian: Option<M>,
     level: Level,
@@ -144,7 +174,7 @@ impl<'a> ReadAs<'a> for DeformationModel<'a> {
 
 // After the opening of the frame epoch in it.
 #[tactic(auto, using(crate::proofs::FlatLemmas::dynamic_rules))]
-fn write_dynamic<'a, N: NumberPart, M: Part<DeformationModel<'a>>>(
+fn write_dynamic<'a, N: NumberPart, M: ValuePart<DeformationModel<'a>>>(
     out: &mut Vec<u8>,
     opening: &[u8],
     epoch: N,

@@ -16,7 +16,7 @@ ghost use Rattle.crs_writer.specs.inner.Openings.{named_node};
 ghost use Rattle.crs_writer.specs.inner.Members.{set_text};
 ghost use Rattle.crs_writer.specs.inner.Parts.{opt_text};
 
-use crate::members::ReadAs;
+use crate::members::{ReadAs, SetReadAs};
 use crate::nodes::copied;
 use crate::parts::{Appended, IdentsPart, NumberPart, Spell, UnitPart};
 use crate::set::write_set;
@@ -36,20 +36,28 @@ fn write_version(out: &mut Vec<u8>, version: Option<&[u8]>) -> Appended
     Ok(())
 }
 
-// The references are the citation and the URI.
+struct IdentFields<'b> {
+    authority: &'b [u8],
+    code: &'b [u8],
+    version: Option<&'b [u8]>,
+    citation: Option<&'b [u8]>,
+    uri: Option<&'b [u8]>,
+}
+
 #[inline(always)]
-fn write_ident(
-    out: &mut Vec<u8>,
-    authority: &[u8],
-    code: &[u8],
-    version: Option<&[u8]>,
-    references: (Option<&[u8]>, Option<&[u8]>),
-) -> Appended
-    ensures { OnOk result ((i : IdentParts) → i.authority ≡ authority.now → i.code ≡ code.now →
-        i.version ≡ option_copied version.entry → i.citation ≡ option_copied references.entry.0 →
-        i.uri ≡ option_copied references.entry.1 → out.new.items ≡ out.old.items ++ item_text (item_ident i)) }
+fn write_ident(out: &mut Vec<u8>, fields: IdentFields<'_>) -> Appended
+    ensures { OnOk result ((i : IdentParts) → i.authority ≡ fields.entry.authority.now →
+        i.code ≡ fields.entry.code.now → i.version ≡ option_copied fields.entry.version →
+        i.citation ≡ option_copied fields.entry.citation → i.uri ≡ option_copied fields.entry.uri →
+        out.new.items ≡ out.old.items ++ item_text (item_ident i)) }
 {
-    let (citation, uri) = references;
+    let IdentFields {
+        authority,
+        code,
+        version,
+        citation,
+        uri,
+    } = fields;
     open_text(out, b"ID[\"", authority)?;
     write_code(out, code)?;
     write_version(out, version)?;
@@ -62,8 +70,14 @@ impl Spell for Ident<'_> {
     ghost spelling = { ident_text };
 
     fn spell(&self, out: &mut Vec<u8>, _level: Level) -> Appended {
-        let references = (self.citation, self.uri);
-        write_ident(out, self.authority, self.code, self.version, references)
+        let fields = IdentFields {
+            authority: self.authority,
+            code: self.code,
+            version: self.version,
+            citation: self.citation,
+            uri: self.uri,
+        };
+        write_ident(out, fields)
     }
 }
 
@@ -71,11 +85,21 @@ impl<'a> ReadAs<'a> for Ident<'a> {
     ghost Reads = { ReadsIdent };
 
     fn write_of(node: &Node<'_, 'a>, out: &mut Vec<u8>, _level: Level) -> Appended {
-        if let Some(bytes) = copied::ident(node) {
-            return append(out, bytes);
-        }
-        let references = node.references();
-        write_ident(out, node.text(), node.code(), node.version(), references)
+        let (citation, uri) = node.references();
+        let fields = IdentFields {
+            authority: node.text(),
+            code: node.code(),
+            version: node.version(),
+            citation,
+            uri,
+        };
+        write_ident(out, fields)
+    }
+}
+
+impl<'a> SetReadAs<'a> for Ident<'a> {
+    fn copied(node: &Node<'_, 'a>, _level: Level) -> Option<&'a [u8]> {
+        copied::ident(node)
     }
 }
 
@@ -254,22 +278,35 @@ pub(crate) fn write_length<U: UnitPart>(
     }
 }
 
-// A node of a name and a measure, after an opening. The measure is a number, and its unit, of the kind that is asked.
+/// The fields of a node of a name, and a number in a unit of the kind that is asked.
+pub(crate) struct MeasuredFields<'b, N, U, I> {
+    pub(crate) name: &'b [u8],
+    pub(crate) number: N,
+    pub(crate) asked: UnitKind,
+    pub(crate) unit: Option<U>,
+    pub(crate) ids: I,
+}
+
+// After an opening.
 #[tactic(auto, using(crate::proofs::FlatLemmas::flat_rules))]
 pub(crate) fn write_measured<N: NumberPart, U: UnitPart, I: IdentsPart>(
     out: &mut Vec<u8>,
     opening: &[u8],
-    named: (&[u8], I),
-    measure: (N, UnitKind, Option<U>),
+    fields: MeasuredFields<'_, N, U, I>,
     level: Level,
 ) -> Appended
     ensures { OnOk result ((n : List ℕ) (v : Value) (u : Option UnitParts) (is : List IdentParts) →
-        n ≡ named.entry.0.now → N.Says measure.0 v → SaysIfAny U.Says measure.2 u →
-        I.Says named.entry.1 is → out.new.items ≡ out.old.items ++ named_node opening.now n (More (number_item v)
-        (opt item_unit (norm_units level measure.1 u) (each item_ident (set_idents level is) End)))) }
+        n ≡ fields.entry.name.now → N.Says fields.entry.number v → SaysIfAny U.Says fields.entry.unit u →
+        I.Says fields.entry.ids is → out.new.items ≡ out.old.items ++ named_node opening.now n (More (number_item v)
+        (opt item_unit (norm_units level fields.entry.asked u) (each item_ident (set_idents level is) End)))) }
 {
-    let (name, ids) = named;
-    let (number, asked, unit) = measure;
+    let MeasuredFields {
+        name,
+        number,
+        asked,
+        unit,
+        ids,
+    } = fields;
     open_text(out, opening, name)?;
     number.open(out, b",")?;
     write_optional_unit(out, asked, unit, level)?;

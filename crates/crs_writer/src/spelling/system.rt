@@ -25,7 +25,8 @@ ghost use Rattle.crs_writer.specs.inner.Openings.{named_node, numbered_node};
 use crate::members::ReadAs;
 use crate::nodes::copied;
 use crate::parts::{
-    Appended, IdentsPart, NumberPart, Part, Spell, UnitPart, write_optional, write_optional_number,
+    Appended, IdentsPart, NumberPart, Spell, UnitPart, ValuePart, write_optional,
+    write_optional_number,
 };
 use crate::spelling::idents_and_units::write_optional_unit;
 use crate::{Node, append, append_item, axes, is_at, open_text};
@@ -66,27 +67,40 @@ impl<'a> ReadAs<'a> for AxisMeridian<'a> {
     }
 }
 
-// `along` is the direction, and the meridian along which the axis runs; `measure` the order, the kind of unit that is asked,
-// and the unit.
-fn write_axis<'a, M: Part<AxisMeridian<'a>>, N: NumberPart, U: UnitPart, I: IdentsPart>(
+// The unit is of the kind that is asked.
+struct AxisFields<'b, M, N, U, I> {
+    name: &'b [u8],
+    direction: Direction,
+    meridian: Option<M>,
+    order: Option<N>,
+    asked: UnitKind,
+    unit: Option<U>,
+    ids: I,
+}
+
+fn write_axis<'a, M: ValuePart<AxisMeridian<'a>>, N: NumberPart, U: UnitPart, I: IdentsPart>(
     out: &mut Vec<u8>,
-    named: (&[u8], I),
-    along: (Direction, Option<M>),
-    measure: (Option<N>, UnitKind, Option<U>),
+    fields: AxisFields<'_, M, N, U, I>,
     level: Level,
 ) -> Appended
     ensures { OnOk result ((n : List ℕ) (d : Direction) (m : Option AxisMeridianParts) (o : Option Value) (k : UnitKind)
-        (u : Option UnitParts) (is : List IdentParts) → n ≡ named.entry.0.now → d ≡ along.0 →
-        SaysIfAny M.Says along.1 m → SaysIfAny N.Says measure.0 o → k ≡ measure.1 →
-        SaysIfAny U.Says measure.2 u → I.Says named.entry.1 is →
+        (u : Option UnitParts) (is : List IdentParts) → n ≡ fields.entry.name.now → d ≡ fields.entry.direction →
+        SaysIfAny M.Says fields.entry.meridian m → SaysIfAny N.Says fields.entry.order o → k ≡ fields.entry.asked →
+        SaysIfAny U.Says fields.entry.unit u → I.Says fields.entry.ids is →
         out.new.items ≡ out.old.items ++ named_node (codes "AXIS[\"") n
         (More (word_item (direction_word d)) (opt item_axis_meridian (norm_axis_meridians level m)
         (opt (number_node (codes "ORDER")) o (opt item_unit (norm_units level k u)
         (each item_ident (set_idents level is) End)))))) }
 {
-    let (name, ids) = named;
-    let (direction, meridian) = along;
-    let (order, asked, unit) = measure;
+    let AxisFields {
+        name,
+        direction,
+        meridian,
+        order,
+        asked,
+        unit,
+        ids,
+    } = fields;
     open_text(out, b"AXIS[\"", name)?;
     append_item(out, direction.word().as_bytes())?;
     write_optional::<AxisMeridian<'a>, M>(out, meridian, level)?;
@@ -102,9 +116,16 @@ impl Spell for Axis<'_> {
 
     #[tactic(auto, using(crate::proofs::FlatLemmas::value_rules))]
     fn spell(&self, out: &mut Vec<u8>, level: Level) -> Appended {
-        let along = (self.direction, self.meridian.as_ref());
-        let measure = (self.order.as_ref(), UnitKind::Plain, self.unit.as_ref());
-        write_axis(out, (self.name, &self.identifiers), along, measure, level)
+        let fields = AxisFields {
+            name: self.name,
+            direction: self.direction,
+            meridian: self.meridian.as_ref(),
+            order: self.order.as_ref(),
+            asked: UnitKind::Plain,
+            unit: self.unit.as_ref(),
+            ids: &self.identifiers,
+        };
+        write_axis(out, fields, level)
     }
 }
 
@@ -212,10 +233,16 @@ fn write_axis_in<'a>(
         ≡ out.old.items ++ 44 ∷ item_text (item_axis (norm_axis level system.now position axis.now))) }
 {
     append(out, b",")?;
-    let asked = system.system_type.asked_kind(axis.direction);
-    let along = (axis.direction, axis.meridian.as_ref());
-    let measure = (Some(position), asked, system.unit_of(axis));
-    write_axis(out, (axis.name, &axis.identifiers), along, measure, level)
+    let fields = AxisFields {
+        name: axis.name,
+        direction: axis.direction,
+        meridian: axis.meridian.as_ref(),
+        order: Some(position),
+        asked: system.system_type.asked_kind(axis.direction),
+        unit: system.unit_of(axis),
+        ids: &axis.identifiers,
+    };
+    write_axis(out, fields, level)
 }
 
 impl<'b, 'a> SystemPart for &'b System<'a> {
@@ -307,12 +334,18 @@ fn write_axis_of<'i, 'a>(
     }
     append(out, b",")?;
     let direction = axis.direction();
-    let asked = at.system_type.asked_kind(direction);
     let meridian = axis.first(Class::AxisMeridian);
     let unit = unit_of(crs, axis);
-    let along = (direction, meridian.as_ref());
-    let measure = (Some(at.position), asked, unit.as_ref());
-    write_axis(out, (axis.text(), axis), along, measure, level)
+    let fields = AxisFields {
+        name: axis.text(),
+        direction,
+        meridian: meridian.as_ref(),
+        order: Some(at.position),
+        asked: at.system_type.asked_kind(direction),
+        unit: unit.as_ref(),
+        ids: axis,
+    };
+    write_axis(out, fields, level)
 }
 
 impl<'c, 'i, 'a> SystemPart for &'c Node<'i, 'a> {

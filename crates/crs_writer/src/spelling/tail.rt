@@ -19,9 +19,9 @@ ghost use Rattle.crs_writer.specs.inner.Found.{SaysIfAny};
 ghost use Rattle.crs_writer.specs.inner.FromItems.{Writes};
 ghost use Rattle.crs_writer.specs.inner.Openings.{enclosed, numbered_node};
 
-use crate::members::ReadAs;
+use crate::members::{ReadAs, SetReadAs};
 use crate::nodes::copied;
-use crate::parts::{Appended, IdentsPart, NumberPart, Part, Spell, UnitPart, write_optional};
+use crate::parts::{Appended, IdentsPart, NumberPart, Spell, UnitPart, ValuePart, write_optional};
 use crate::set::{write_set, write_set_with};
 use crate::spelling::idents_and_units::write_length;
 use crate::{Node, append, keeps, write_optional_text};
@@ -29,13 +29,11 @@ use crs_shape::Class;
 use crs_value::{BoundingBox, Extent, Level, Tail, Usage};
 
 #[tactic(auto, using(crate::proofs::FlatLemmas::number_rules))]
-fn write_box<N: NumberPart>(out: &mut Vec<u8>, south_west: (N, N), north_east: (N, N)) -> Appended
-    ensures { OnOk result ((s w n e : Value) → N.Says south_west.0 s → N.Says south_west.1 w →
-        N.Says north_east.0 n → N.Says north_east.1 e → out.new.items ≡ out.old.items ++ numbered_node (codes "BBOX[") s
+fn write_box<N: NumberPart>(out: &mut Vec<u8>, south: N, west: N, north: N, east: N) -> Appended
+    ensures { OnOk result ((s w n e : Value) → N.Says south s → N.Says west w → N.Says north n → N.Says east e →
+        out.new.items ≡ out.old.items ++ numbered_node (codes "BBOX[") s
         (More (number_item w) (More (number_item n) (More (number_item e) End)))) }
 {
-    let (south, west) = south_west;
-    let (north, east) = north_east;
     south.open(out, b"BBOX[")?;
     west.open(out, b",")?;
     north.open(out, b",")?;
@@ -47,7 +45,7 @@ impl Spell for BoundingBox {
     ghost spelling = { box_text };
 
     fn spell(&self, out: &mut Vec<u8>, _level: Level) -> Appended {
-        write_box(out, (&self.south, &self.west), (&self.north, &self.east))
+        write_box(out, &self.south, &self.west, &self.north, &self.east)
     }
 }
 
@@ -55,25 +53,24 @@ impl<'a> ReadAs<'a> for BoundingBox {
     ghost Reads = { ReadsBox };
 
     fn write_of(node: &Node<'_, 'a>, out: &mut Vec<u8>, _level: Level) -> Appended {
-        let south_west = (node.nth_number(0), node.nth_number(1));
-        let north_east = (node.nth_number(2), node.nth_number(3));
-        write_box(out, south_west, north_east)
+        let (south, west) = (node.nth_number(0), node.nth_number(1));
+        let (north, east) = (node.nth_number(2), node.nth_number(3));
+        write_box(out, south, west, north, east)
     }
 }
 
-// The limits of a vertical extent are its minimum and its maximum.
 #[tactic(auto, using(crate::proofs::FlatLemmas::number_rules))]
 fn write_extent<N: NumberPart, U: UnitPart>(
     out: &mut Vec<u8>,
-    limits: (N, N),
+    minimum: N,
+    maximum: N,
     unit: Option<U>,
     level: Level,
 ) -> Appended
-    ensures { OnOk result ((l h : Value) (u : Option UnitParts) → N.Says limits.0 l → N.Says limits.1 h →
+    ensures { OnOk result ((l h : Value) (u : Option UnitParts) → N.Says minimum l → N.Says maximum h →
         SaysIfAny U.Says unit u → out.new.items ≡ out.old.items ++ numbered_node (codes "VERTICALEXTENT[") l
         (More (number_item h) (opt item_unit (Some (norm_length level u)) End))) }
 {
-    let (minimum, maximum) = limits;
     minimum.open(out, b"VERTICALEXTENT[")?;
     maximum.open(out, b",")?;
     write_length(out, unit, level)?;
@@ -84,8 +81,8 @@ impl Spell for Extent<'_> {
     ghost spelling = { extent_text };
 
     fn spell(&self, out: &mut Vec<u8>, level: Level) -> Appended {
-        let limits = (&self.minimum, &self.maximum);
-        write_extent(out, limits, self.unit.as_ref(), level)
+        let unit = self.unit.as_ref();
+        write_extent(out, &self.minimum, &self.maximum, unit, level)
     }
 }
 
@@ -94,8 +91,8 @@ impl<'a> ReadAs<'a> for Extent<'a> {
 
     fn write_of(node: &Node<'_, 'a>, out: &mut Vec<u8>, level: Level) -> Appended {
         let unit = node.first(Class::LengthUnit);
-        let limits = (node.nth_number(0), node.nth_number(1));
-        write_extent(out, limits, unit.as_ref(), level)
+        let (minimum, maximum) = (node.nth_number(0), node.nth_number(1));
+        write_extent(out, minimum, maximum, unit.as_ref(), level)
     }
 }
 
@@ -120,7 +117,7 @@ fn enclose(out: &mut Vec<u8>, at: usize) -> Appended
     append(out, b"]")
 }
 
-fn write_usage<'a, B: Part<BoundingBox>, E: Part<Extent<'a>>>(
+fn write_usage<'a, B: ValuePart<BoundingBox>, E: ValuePart<Extent<'a>>>(
     out: &mut Vec<u8>,
     scope: Option<&[u8]>,
     area: Option<&[u8]>,
@@ -156,15 +153,18 @@ impl Spell for Usage<'_> {
 impl<'a> ReadAs<'a> for Usage<'a> {
     ghost Reads = { ReadsUsage };
 
-    fn write_of(node: &Node<'_, 'a>, out: &mut Vec<u8>, level: Level) -> Appended {
-        if let Some(bytes) = copied::usage(node, level) {
-            return append(out, bytes);
-        }
+    fn write_of(node: &Node<'_, 'a>, out: &mut Vec<u8>, _level: Level) -> Appended {
         let bbox = node.first(Class::BoundingBox);
         let extent = node.first(Class::VerticalExtent);
         let scope = node.text_in(Class::Scope);
         let area = node.text_in(Class::Area);
         write_usage(out, scope, area, bbox.as_ref(), extent.as_ref())
+    }
+}
+
+impl<'a> SetReadAs<'a> for Usage<'a> {
+    fn copied(node: &Node<'_, 'a>, level: Level) -> Option<&'a [u8]> {
+        copied::usage(node, level)
     }
 }
 

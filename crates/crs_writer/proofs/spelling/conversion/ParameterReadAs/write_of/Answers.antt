@@ -1,12 +1,8 @@
 use Rattle.crs_value.specs.inner.Prelude.{ReadsUnit}
 use Rattle.crs_writer.specs.inner.Node.{item}
 use Rattle.crs_writer.specs.declared.nodes.node.Node.{Node}
-use Rattle.crs_writer.proofs.CopyLemmas.{copy-writes}
 use Rattle.crs_writer.proofs.FlatLemmas.{through, written}
 use Rattle.crs_writer.proofs.spelling.conversion.ParameterReadAs.write_of.Goals as goal
-
-pub returns-in-Some : goal.returns-in-Some
-returns-in-Some c = copy-writes c.append.result _ _ _ _ _ c.in-Some.ensures c.append.ensures
 
 pub returns : goal.returns
 returns c = written c.write_measured.result _ _ _ c.write_measured.ensures (λ w p r.

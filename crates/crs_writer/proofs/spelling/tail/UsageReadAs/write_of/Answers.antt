@@ -1,5 +1,0 @@
-use Rattle.crs_writer.proofs.CopyLemmas.{copy-writes}
-use Rattle.crs_writer.proofs.spelling.tail.UsageReadAs.write_of.Goals as goal
-
-pub returns-in-Some : goal.returns-in-Some
-returns-in-Some c = copy-writes c.append.result _ _ _ _ _ c.in-Some.ensures c.append.ensures
