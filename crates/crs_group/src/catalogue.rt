@@ -16,6 +16,7 @@ ghost use Rattle.crs_group.specs.inner.Known.{HasGroup};
 ghost use Rattle.crs_group.specs.UnderRules.{IsCatalogueUnder};
 
 use crate::Placed;
+use crate::digested::Digested;
 use crate::groups::Groups;
 use crate::kept::KeptLines;
 use crate::recent::{Recent, place_of};
@@ -227,9 +228,10 @@ impl Catalogue {
         ensures unchanged { OnErr result (self.new ≡ self.old) }
     {
         let count = self.kept.groups.len();
+        let canon = Digested::of(canon);
         match self.kept.groups.position(&canon) {
             Some(at) => {
-                self.room = canon.into_bytes();
+                self.room = canon.into_canon().into_bytes();
                 self.room.clear();
                 self.join(line, at)
             }

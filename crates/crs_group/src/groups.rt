@@ -6,7 +6,7 @@ ghost use Rattle.std.specs.Option.{option_copied, option_map};
 ghost use Rattle.crs_group.specs.Catalogue.{canons};
 ghost use Rattle.crs_group.specs.inner.Putting.{IsJoined, IsNew, group_of};
 
-use crs_writer::Canon;
+use crate::digested::Digested;
 use indexmap::IndexMap;
 use std::alloc::{AllocError, Global};
 use std::marker::Model;
@@ -14,7 +14,7 @@ use std::marker::Model;
 /// The groups of a catalogue.
 #[derive(Drop)]
 pub struct Groups {
-    lines: IndexMap<Canon, Vec<u64>>,
+    lines: IndexMap<Digested, Vec<u64>>,
 }
 
 impl Model for Groups {
@@ -66,7 +66,7 @@ impl Groups {
     }
 
     /// The place of the group that has this text.
-    pub fn position(&self, canon: &Canon) -> Option<usize>
+    pub fn position(&self, canon: &Digested) -> Option<usize>
         ensures found { MatchOption result (IsNew canon.now self.now)
             (λ at. slice_get (canons self.now) at ≡ Some canon.now) }
         ensures within { IfSome result (λ at. at < length self.now) }
@@ -85,7 +85,7 @@ impl Groups {
     }
 
     /// A further group, of one line. Out of memory, the groups are as before.
-    pub fn open(&mut self, alloc: Global, line: u64, canon: Canon) -> Result<(), AllocError>
+    pub fn open(&mut self, alloc: Global, line: u64, canon: Digested) -> Result<(), AllocError>
         requires { IsNew canon self.old }
         ensures groups { IfOk result (λ _. self.new ≡ self.old ++ group_of canon line ∷ []) }
         ensures unchanged { OnErr result (self.new ≡ self.old) }

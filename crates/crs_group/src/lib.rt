@@ -5,6 +5,7 @@
 #![tactic(auto)]
 
 mod catalogue;
+mod digested;
 mod group_run;
 mod group_text;
 mod groups;

@@ -1,5 +1,5 @@
 //! Lists that are taken as sets.
-ghost use Rattle.std.specs.Prelude.{◌≡◌, ◌≤◌, ◌↔◌, IsTrue, length, take};
+ghost use Rattle.std.specs.Prelude.{◌≡◌, ◌≤◌, ◌↔◌, IsTrue, drop, length, take};
 ghost use Rattle.std.specs.Option.{option_copied};
 ghost use Rattle.crs_value.specs.declared.values.level.Level.{Level};
 ghost use Rattle.crs_same.specs.Sameness.{IsSameness};
@@ -68,7 +68,7 @@ fn has_same<T: SetMember>(member: &T, others: &[T], level: Level) -> bool
 }
 
 fn is_same_at<T: SetMember>(member: &T, others: &[T], place: usize, level: Level) -> bool
-    ensures { IsTrue result → HasSame (T.Same level) member.now others.now }
+    ensures { IsTrue result → HasSame (T.Same level) member.now (take 1 (drop place others.now)) }
 {
     match others.get(place) {
         Some(other) => member.is_same(other, level),
@@ -76,7 +76,42 @@ fn is_same_at<T: SetMember>(member: &T, others: &[T], place: usize, level: Level
     }
 }
 
+// Whether there are as many members, each the same as the one at its place: then the sets are the same.
+fn same_in_order<T: SetMember>(members: &[T], others: &[T], level: Level) -> bool
+    ensures { IsTrue result → SameSet (T.Same level) members.now others.now }
+{
+    if members.len() != others.len() {
+        return false;
+    }
+    let mut at: usize = 0;
+    for member in members {
+        if !is_same_at(member, others, at, level) {
+            return false;
+        }
+        member.same_is_equivalence();
+        at += 1;
+    }
+    true
+}
+
 impl<'b, T: SetMember> SetMembers<'b, T> {
+    // The same, with the ones before the lists.
+    fn is_same_in_order(&self, others: &SetMembers<'_, T>, level: Level) -> bool
+        ensures { IsTrue result → SameSet (T.Same level) self.now others.now }
+    {
+        match (self.bare, others.bare) {
+            (None, None) => same_in_order(self.listed, others.listed, level),
+            (Some(bare), Some(other)) => {
+                if !bare.is_same(other, level) {
+                    return false;
+                }
+                bare.same_is_equivalence();
+                same_in_order(self.listed, others.listed, level)
+            }
+            _ => false,
+        }
+    }
+
     // Whether one of these is the same as a member of another set.
     fn has_counterpart(&self, member: &T, level: Level) -> bool
         ensures { IsTrue result ↔ HasSame (T.Same level) member.now self.now }
@@ -132,7 +167,7 @@ impl<'b, T: SetMember> SetMembers<'b, T> {
     }
 }
 
-// The longer list goes first: if its members differ, one that the shorter list lacks comes soon.
+// Equal sets mostly are in one order. Else the longer list goes first: it has a member that the shorter one lacks soon.
 /// Whether two sets are the same: each member of either has a same member in the other. Profile.
 pub fn same_set<T: SetMember>(
     members: &SetMembers<'_, T>,
@@ -142,6 +177,9 @@ pub fn same_set<T: SetMember>(
 ) -> bool
     ensures { IsTrue result ↔ SameSet (T.Same level) members.now others.now }
 {
+    if members.is_same_in_order(others, level) {
+        return true;
+    }
     if members.listed.len() < others.listed.len() {
         return members.covers(others, hints.turned(), level)
             && others.covers(members, hints, level);

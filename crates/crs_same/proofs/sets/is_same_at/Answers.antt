@@ -1,7 +1,7 @@
 use Rattle.std.proofs.Common.{◌≡◌, ◌<◌, Some, length, refl, sym, slice_get}
 use Rattle.std.proofs.lemmas.Bool.{ltb-true}
 use Rattle.std.proofs.lemmas.Option.{slice_get_read}
-use Rattle.crs_same.proofs.SetLemmas.{has_at}
+use Rattle.crs_same.proofs.SetLemmas.{at_place}
 use Rattle.crs_same.proofs.sets.is_same_at.Goals as goal
 
 -- the one at the place is one of the others
@@ -12,5 +12,5 @@ returns-in-Some g c =
     let within : c.args.place < length others = ltb-true c.args.place (length others) (sym looked.0) in
     let there : slice_get others c.args.place ≡ Some c.in-Some.other.now
     = slice_get_read others (length others) c.args.place c.in-Some.other.now refl within looked.1 in
-    λ same. has_at (g.T.SetMember.Same c.args.level) c.args.member.now others c.args.place c.in-Some.other.now
+    λ same. at_place (g.T.SetMember.Same c.args.level) c.args.member.now others c.args.place c.in-Some.other.now
     there (c.is_same.ensures.0 same)

@@ -5,7 +5,7 @@ pub returns-in-Some-clause-groups : goal.returns-in-Some-clause-groups
 returns-in-Some-clause-groups c =
     rw (← c.self.view_is)
     (joined-put c.args.canon c.args.line c.in-Some.at c.self.inside.kept.groups c.join.new.self.groups c.join.result
-    c.in-Some.ensures.found c.join.ensures.groups)
+    (rw c.of-canon.ensures at c.in-Some.ensures.found) c.join.ensures.groups)
 
 pub invariant_of-self-in_err-open-in-None : goal.invariant_of-self-in_err-open-in-None
 invariant_of-self-in_err-open-in-None c = rw c.in_err-open-in-None.ensures.unchanged c.self.invariant
