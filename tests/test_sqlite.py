@@ -260,7 +260,7 @@ def test_growths_refused(extension: pathlib.Path, refusing: pathlib.Path) -> Non
     script = f".load {extension}\n{asked}\n.print answered\n{asked}\n"
     unloaded = refused = 0
     for number in range(1, MOST_GROWTHS):
-        more = {"LD_PRELOAD": str(refusing), "REFUSE": str(number), "REFUSE_FROM": "start"}
+        more = {"LD_PRELOAD": str(refusing), "REFUSE": str(number)}
         done = run(["sqlite3", "-batch", ":memory:"], input=script, env={**os.environ, **more})
         if "refused 0" in done.stderr:
             break
