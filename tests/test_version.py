@@ -6,7 +6,7 @@ from support import ROOT
 VERSION = build.version()
 REPEATS = {
     "crates/crs_c/specs/Names.antt": f'version = codes "{VERSION}"\n',
-    "crates/crs_command_line/src/line.rt": f'\nconst VERSION: &str = "{VERSION}";\n',
+    "crates/crs_desk/src/line.rt": f'\nconst VERSION: &str = "{VERSION}";\n',
     "packaging/debian/changelog": f"crsdesk ({VERSION}-",
     "python/pyproject.toml": f'\nversion = "{VERSION}"\n',
     "man/crsdesk.1": f'"crsdesk {VERSION}"',
