@@ -1,33 +1,39 @@
-/* Refuses one growth of memory to the program that it is preloaded into.
+/* Refuses one growth of memory to the program that it is preloaded into, or to calls that are made by it.
 
-   A growth is a call of malloc, realloc or aligned_alloc. Growths are counted from 1 while the program is between a
-   write to standard output that begins with "call\n" and one that begins with "answered\n"; with REFUSE_FROM=start in
-   the environment all are counted, from before main on. With REFUSE=N the Nth is refused, it alone: it answers NULL
-   with ENOMEM, as where there is no memory. When the program ends, a line on standard error says how many there were:
+   A growth is a call of malloc, realloc or aligned_alloc. With REFUSE=N in the environment all are counted, from 1 and
+   from before main on, and the Nth is refused, it alone: it answers NULL with ENOMEM, as where there is no memory. When
+   the program ends, a line on standard error says how many there were:
 
        growths C refused R
+
+   Else those are counted that are made in refusing_call(), of which the `asked`th is refused; `counted` says how many
+   there were, and how many blocks were taken and not given back.
 
    For programs of one thread. glibc alone: the real calls are those that it keeps under other names. */
 #define _GNU_SOURCE
 #include <errno.h>
+#include <stdint.h>
 #include <stdio.h>
 #include <stdlib.h>
-#include <string.h>
 #include <sys/syscall.h>
 #include <unistd.h>
 
 void *__libc_malloc(size_t size);
 void *__libc_realloc(void *old, size_t size);
 void *__libc_memalign(size_t alignment, size_t size);
+void __libc_free(void *old);
 
-static unsigned long asked, growths, refused;
+struct {
+    unsigned long asked, growths, refused;
+    long in_use;
+} counted;
 static int counts_all, is_counting;
 
 __attribute__((constructor)) static void begin(void)
 {
-    const char *number = getenv("REFUSE"), *from = getenv("REFUSE_FROM");
-    asked = number ? strtoul(number, NULL, 10) : 0;
-    counts_all = is_counting = from && strcmp(from, "start") == 0;
+    const char *number = getenv("REFUSE");
+    counted.asked = number ? strtoul(number, NULL, 10) : 0;
+    counts_all = is_counting = number != NULL;
 }
 
 /* After main: these programs end by its return alone. */
@@ -35,51 +41,56 @@ __attribute__((destructor)) static void end(void)
 {
     char line[64];
     is_counting = 0;
-    int length = snprintf(line, sizeof line, "growths %lu refused %lu\n", growths, refused);
-    syscall(SYS_write, 2, line, length);
+    int length = snprintf(line, sizeof line, "growths %lu refused %lu\n", counted.growths, counted.refused);
+    if (counts_all)
+        syscall(SYS_write, 2, line, length);
+}
+
+/* A call of as many numbers and pointers as it takes; others are passed over. */
+uint64_t refusing_call(uint64_t (*call)(uint64_t, uint64_t, uint64_t, uint64_t, uint64_t, uint64_t, uint64_t, uint64_t,
+                                        uint64_t, uint64_t, uint64_t, uint64_t),
+                       const uint64_t it[12])
+{
+    is_counting = 1;
+    uint64_t answer = call(it[0], it[1], it[2], it[3], it[4], it[5], it[6], it[7], it[8], it[9], it[10], it[11]);
+    is_counting = 0;
+    return answer;
 }
 
 static int is_refused(void)
 {
-    if (!is_counting || ++growths != asked)
+    if (!is_counting || ++counted.growths != counted.asked)
         return 0;
-    refused++;
+    counted.refused++;
     errno = ENOMEM;
     return 1;
 }
 
-void *malloc(size_t size)
+static void *taken(void *new)
 {
-    return is_refused() ? NULL : __libc_malloc(size);
+    counted.in_use += is_counting && new;
+    return new;
 }
 
-void *realloc(void *old, size_t size)
+void *malloc(size_t size)
 {
-    return is_refused() ? NULL : __libc_realloc(old, size);
+    return is_refused() ? NULL : taken(__libc_malloc(size));
 }
 
 void *aligned_alloc(size_t alignment, size_t size)
 {
-    return is_refused() ? NULL : __libc_memalign(alignment, size);
+    return is_refused() ? NULL : taken(__libc_memalign(alignment, size));
 }
 
-static int begins(const void *bytes, size_t count, const char *front)
+void *realloc(void *old, size_t size)
 {
-    size_t length = strlen(front);
-    return count >= length && memcmp(bytes, front, length) == 0;
+    if (is_refused())
+        return NULL;
+    return old ? __libc_realloc(old, size) : taken(__libc_realloc(old, size));
 }
 
-ssize_t write(int file, const void *bytes, size_t count)
+void free(void *old)
 {
-    if (file == 1 && !counts_all && begins(bytes, count, "call\n"))
-        is_counting = 1;
-    if (file == 1 && !counts_all && begins(bytes, count, "answered\n"))
-        is_counting = 0;
-    return syscall(SYS_write, file, bytes, count);
-}
-
-/* The same, under the other name by which programs call it. */
-ssize_t __write(int file, const void *bytes, size_t count)
-{
-    return write(file, bytes, count);
+    counted.in_use -= is_counting && old;
+    __libc_free(old);
 }

@@ -10,7 +10,6 @@ a line '# REASON' or more, and then, each in its own line and as far as needed:
                      the values of a difference; its name ends in '-exchanged'
     input TEXT       a part of standard input; no line end is added
     times N TEXT     the same, N times over
-    pieces N TEXT    the same in parts of N bytes each, the last of which may have fewer
     input-file PATH  the same of a file of the repository
     input-by-lines   a read gives one line of standard input, as a pipe does that is written slowly
     input-in-turn    each line of standard input is written when a line of output has come for the one before
@@ -25,11 +24,6 @@ a line '# REASON' or more, and then, each in its own line and as far as needed:
     status N         the exit status
     error TEXT       a line of standard error, with its LF; none: with status 2 it isn't compared, else nothing is written
     error-none       nothing is written on standard error
-
-In place of words and a status a case may have one call of the library, for a program that makes it (test_growths.py):
-
-    call WORDS       the call, whose inputs are the parts and whose answer is the output
-    no-growth        it takes no memory; without this line it must take some
 
 Cases of one form are rows of a table. It begins with a line 'table COLUMN | COLUMN | ..' and with the lines that all its
 rows have. A row is a line 'case NAME | FIELD | FIELD | ..': a case with these lines and, for each field, with the line of
@@ -64,7 +58,7 @@ PLAIN = {b"n": b"\n", b"r": b"\r", b"t": b"\t", b"\\": b"\\"}
 # A line that tells a difference: its path, in which the name of a member may have any characters, and both values.
 TOLD = re.compile(rb'^([^:\[\n]*(?:\["(?:[^"\n]|"")*"\][^:\n]*)?): (.*) \| (.*)$', re.MULTILINE)
 FLAGS = set(b"exchanged input-by-lines input-in-turn input-unreadable output-any output-full output-closed".split())
-FLAGS |= {b"error-none", b"no-growth"}
+FLAGS.add(b"error-none")
 OTHER_SIDE = {b"first": b"second", b"second": b"first"}
 
 
@@ -78,8 +72,7 @@ class Case:
     has_reason: bool = False
     commands: List[bytes] = dataclasses.field(default_factory=list)
     words: List[bytes] = dataclasses.field(default_factory=list)
-    call: bytes = b""
-    parts: List[bytes] = dataclasses.field(default_factory=list)
+    input: bytes = b""
     files: Dict[bytes, bytes] = dataclasses.field(default_factory=dict)
     flags: Set[bytes] = dataclasses.field(default_factory=set)
     output: Optional[bytes] = b""
@@ -88,10 +81,6 @@ class Case:
 
     def __str__(self) -> str:
         return f"{self.place}-{self.name}"
-
-    @property
-    def input(self) -> bytes:
-        return b"".join(self.parts)
 
     @property
     def asks(self) -> bool:
@@ -127,17 +116,12 @@ class Case:
             self.words += map(self.text, rest.split(b" "))
         elif key == b"commands":
             self.commands = rest.split(b" ")
-        elif key == b"call":
-            self.call, self.status = rest, 0
         elif key == b"input":
-            self.parts.append(self.text(rest))
+            self.input += self.text(rest)
         elif key == b"times":
-            self.parts.append(self.times(rest))
-        elif key == b"pieces":
-            size, _, text = rest.partition(b" ")
-            self.parts += re.findall(b".{1,%d}" % int(size), self.text(text), flags=re.DOTALL)
+            self.input += self.times(rest)
         elif key == b"input-file":
-            self.parts.append((ROOT / os.fsdecode(rest)).read_bytes())
+            self.input += (ROOT / os.fsdecode(rest)).read_bytes()
         elif key in (b"file", b"file-times"):
             name, _, text = rest.partition(b" ")
             name = self.text(name)
@@ -251,9 +235,9 @@ def cases_of(path: pathlib.Path) -> List[Case]:
     return cases
 
 
-def all_cases(folder: pathlib.Path = HERE) -> List[Case]:
-    """The cases of a folder's files."""
-    return [case for path in sorted(folder.glob("*.rows")) for case in cases_of(path)]
+def all_cases() -> List[Case]:
+    """The cases of the files of this folder."""
+    return [case for path in sorted(HERE.glob("*.rows")) for case in cases_of(path)]
 
 
 # How a program is run.
@@ -304,10 +288,11 @@ def run_in_turn(folder: pathlib.Path, command: List[bytes], lines: List[bytes]) 
             timer.cancel()
 
 
-def run(program: pathlib.Path, case: Case) -> "subprocess.CompletedProcess[bytes]":
-    """Runs a program as a case says."""
+def run(program: pathlib.Path, case: Case, **more: str) -> "subprocess.CompletedProcess[bytes]":
+    """Runs a program as a case says, with more of an environment."""
     command, lines = [os.fsencode(program), *case.words], case.input.splitlines(keepends=True)
     settings: Dict[str, Any] = {"input": case.input, "stdout": subprocess.PIPE, "cwd": ROOT}
+    settings["env"] = {**os.environ, **more}
     with contextlib.ExitStack() as stack:
         if case.files:
             settings["cwd"] = folder = pathlib.Path(stack.enter_context(tempfile.TemporaryDirectory()))

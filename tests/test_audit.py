@@ -65,6 +65,21 @@ def folder() -> pathlib.Path:
 KEPT: List[Any] = []
 
 
+def written(name: str, texts: Dict[str, str]) -> pathlib.Path:
+    """A folder with these files."""
+    place = folder() / name
+    for file, text in texts.items():
+        (place / file).parent.mkdir(parents=True, exist_ok=True)
+        (place / file).write_bytes(text.encode("utf-8"))
+    return place
+
+
+def reports(name: str) -> Tuple[Dict[str, pathlib.Path], List[object]]:
+    """The files of a report's forms by their kinds, and the words that ask for them."""
+    files = {kind: folder() / f"{name}.{kind}" for kind in ("html", "json", "csv")}
+    return files, [word for kind, path in files.items() for word in (f"--{kind}", path)]
+
+
 class Audited:
     """The archive, what is wanted of it, and what the command writes of it with a number of jobs."""
 
@@ -76,9 +91,8 @@ class Audited:
         self.data = json.loads(self.runs[4]["json"])
 
     def run(self, jobs: int) -> Dict[str, str]:
-        files = {kind: folder() / f"report{jobs}.{kind}" for kind in ("html", "json", "csv")}
+        files, words = reports(f"report{jobs}")
         before = everything_below(self.archive)
-        words = [word for kind, path in files.items() for word in (f"--{kind}", path)]
         status, output, error = audit("--lines", "--jobs", jobs, *words, self.archive)
         assert (status, error) == (1, ""), (status, error[-2000:])
         assert everything_below(self.archive) == before, "an audit changes the archive"
@@ -406,16 +420,11 @@ def test_page_is_whole_and_asks_for_nothing() -> None:
 
 @functools.lru_cache(maxsize=None)
 def odd_folder() -> pathlib.Path:
-    odd = folder() / "odd"
-    odd.mkdir()
-    (odd / "empty.wkt").touch()
-    (odd / "blank.wkt").write_text(" \n")
+    lines = f"{HEIGHT}\r\n\n{HEIGHT[:-1]},REMARK[\"{'r' * 2_000_000}\"]]\n{HEIGHT}"
+    texts = {"empty.wkt": "", "blank.wkt": " \n", "lines.txt": lines, "other.xyz": ""}
+    odd = written("odd", {**texts, **dict.fromkeys(("na\udcefme.wkt", "<img src=x onerror=alert(1)>\n.wkt"), HEIGHT)})
     with open(odd / "huge.wkt", "wb") as file:
         file.truncate(100_000_000)
-    (odd / "lines.txt").write_text(f"{HEIGHT}\r\n\n{HEIGHT[:-1]},REMARK[\"{'r' * 2_000_000}\"]]\n{HEIGHT}")
-    with open(os.fsencode(odd) + b"/na\xefme.wkt", "w") as text:
-        text.write(HEIGHT)
-    (odd / "<img src=x onerror=alert(1)>\n.wkt").write_text(HEIGHT)
     (odd / "broken.wkt").symlink_to("missing")
     (odd / "round.wkt").symlink_to("round.wkt")
     (odd / "again").symlink_to(".")
@@ -433,7 +442,6 @@ def odd_folder() -> pathlib.Path:
     (odd / "damaged.zip").write_bytes(whole.replace(b"VDATUM", b"XDATUM"))
     (odd / "damaged.tif").write_bytes(b"II*\0\x08\0\0\0\xff\xff" + b"\xff" * 500)
     (odd / "damaged.nc").write_bytes(b"CDF\x01" + b"\xff" * 500)
-    (odd / "other.xyz").touch()
     return odd
 
 
@@ -516,10 +524,8 @@ def make_endless_database(path: pathlib.Path) -> None:
 
 @functools.lru_cache(maxsize=None)
 def odd_run() -> Tuple[int, str, str, Dict[str, str]]:
-    odd = odd_folder()
-    files = {kind: folder() / f"odd.{kind}" for kind in ("html", "json", "csv")}
-    words = [word for kind, path in files.items() for word in (f"--{kind}", path)]
-    status, output, error = audit("--lines", *words, ".", "missing.prj", "missing.tif", cwd=odd)
+    files, words = reports("odd")
+    status, output, error = audit("--lines", *words, ".", "missing.prj", "missing.tif", cwd=odd_folder())
     return status, output, error, {kind: path.read_bytes().decode() for kind, path in files.items()}
 
 
@@ -564,12 +570,9 @@ def test_what_cant_be_read_is_told() -> None:
 
 def test_what_may_not_be_read_is_told() -> None:
     """What another user has closed: a text, a database, a folder. Root may read all, so that nobody reads there."""
-    place = folder() / "closed"
-    (place / "in" / "shut").mkdir(parents=True)
-    (place / "out").mkdir(mode=0o777)
+    place = written("closed", dict.fromkeys(("in/a.wkt", "in/b.wkt", "in/c.gpkg", "in/shut/d.wkt"), HEIGHT))
+    (place / "out").mkdir()
     (place / "out").chmod(0o777)
-    for name in ("a.wkt", "b.wkt", "c.gpkg", "shut/d.wkt"):
-        (place / "in" / name).write_text(HEIGHT)
     for name in ("b.wkt", "c.gpkg", "shut"):
         (place / "in" / name).chmod(0)
     package = pathlib.Path(crsdesk.__file__).resolve().parent
@@ -626,10 +629,7 @@ class Alone:
 
 def test_a_file_vanishes() -> None:
     """Between the listing and the reading, and a folder between its listing and that of those in it."""
-    path = folder() / "vanishes"
-    path.mkdir()
-    for name in ("a.wkt", "b.wkt", "c.gpkg", "d.zip"):
-        (path / name).write_text(HEIGHT)
+    path = written("vanishes", dict.fromkeys(("a.wkt", "b.wkt", "c.gpkg", "d.zip"), HEIGHT))
     listing = collecting.listing_of([str(path)], False, False)
     for name in ("b.wkt", "c.gpkg", "d.zip"):
         (path / name).unlink()
@@ -717,10 +717,7 @@ def test_a_bar_is_shown_on_a_terminal() -> None:
 
 
 def test_files_are_written_whole() -> None:
-    place = folder() / "written"
-    place.mkdir()
-    (place / "a.wkt").write_text(HEIGHT)
-    (place / "real.json").write_text("old")
+    place = written("written", {"a.wkt": HEIGHT, "real.json": "old"})
     (place / "link.json").symlink_to("real.json")
     (place / "real.json").chmod(0o640)
     status, output, error = audit("--json", "link.json", "--csv", "new.csv", "a.wkt", cwd=place)
@@ -741,10 +738,7 @@ def test_files_are_written_whole() -> None:
 
 def test_outputs_that_are_inputs_are_refused() -> None:
     """By any name, and before anything is read or written; so are two reports in one file, but on a device."""
-    place = folder() / "clashes"
-    (place / "in").mkdir(parents=True)
-    (place / "in" / "a.wkt").write_text(HEIGHT)
-    (place / "in" / "b.wkt").write_text(HEIGHT)
+    place = written("clashes", {"in/a.wkt": HEIGHT, "in/b.wkt": HEIGHT})
     (place / "link").symlink_to("in/a.wkt")
     os.link(place / "in" / "b.wkt", place / "hard")
     before = everything_below(place)
@@ -765,11 +759,7 @@ def test_outputs_that_are_inputs_are_refused() -> None:
 
 
 def test_statuses() -> None:
-    place = folder() / "statuses"
-    place.mkdir()
-    (place / "a.wkt").write_text(HEIGHT)
-    (place / "b.txt").write_text("x[")
-    (place / "c.other").write_text(HEIGHT)
+    place = written("statuses", {"a.wkt": HEIGHT, "b.txt": "x[", "c.other": HEIGHT})
     assert audit(".", cwd=place)[::2] == (0, "")
     status, output, error = audit("--txt", ".", cwd=place)
     assert (status, error) == (1, "") and "refused      7 UnexpectedEnd: 1 text\n" in output
@@ -791,22 +781,15 @@ def test_statuses() -> None:
 
 
 def test_what_isnt_installed_is_told() -> None:
-    place = folder() / "lacking"
-    place.mkdir()
-    for name in ("jinja2", "osgeo"):
-        (place / name).mkdir()
-    (place / "osgeo" / "__init__.py").write_text("raise ImportError\n")
-    (place / "jinja2" / "__init__.py").write_text("raise ImportError\n")
+    absent = {"osgeo/__init__.py": "raise ImportError\n", "jinja2/__init__.py": "raise ImportError\n"}
+    place = written("lacking", {**absent, "a.tif": "II*\0", "b.wkt": HEIGHT})
     program = (
         "import sys; sys.modules['jinja2'] = None; from crsdesk.__main__ import main; sys.exit(main(sys.argv[1:]))"
     )
     done = run([sys.executable, "-c", program, "audit", "x"])
     assert (done.returncode, done.stdout) == (2, "")
     assert done.stderr == "crsdesk: audit needs jinja2: pip install jinja2 (or crsdesk[audit])\n", done.stderr
-    (place / "jinja2" / "__init__.py").unlink()
-    (place / "jinja2").rmdir()
-    (place / "a.tif").write_bytes(b"II*\0")
-    (place / "b.wkt").write_text(HEIGHT)
+    shutil.rmtree(place / "jinja2")
     with zipfile.ZipFile(place / "c.zip", "w") as archive:
         archive.writestr("a.wkt", HEIGHT)
         archive.writestr("b.shp", b"")

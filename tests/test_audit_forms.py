@@ -12,7 +12,7 @@ from typing import Any, Dict, List, Optional, Tuple
 import pytest
 from gdal_data import make_vector, reference_of
 from support import HEIGHT, ROOT, need
-from test_audit import audit, audited_data, folder
+from test_audit import audit, audited_data, folder, written
 from test_audit_hostile import server
 
 from crsdesk import Crs, Difference, canon, differences
@@ -37,14 +37,6 @@ def data_of(place: pathlib.Path, *words: object) -> Tuple[int, str, Any]:
     """The status of an audit of a folder, what it writes, and its data."""
     status, output, _, data = audited_data(*words, place)
     return status, output, data
-
-
-def written(name: str, texts: Dict[str, str]) -> pathlib.Path:
-    place = folder() / name
-    place.mkdir()
-    for file, text in texts.items():
-        (place / file).write_text(text, encoding="utf-8")
-    return place
 
 
 def by_file(data: Any) -> Dict[str, Tuple[int, str, Optional[str]]]:
@@ -190,12 +182,9 @@ def test_a_conversion_fetches_nothing() -> None:
 
 
 def test_what_isnt_there_is_told() -> None:
-    place = folder() / "without"
-    for name in ("osgeo", "pyproj"):
-        (place / name).mkdir(parents=True)
-        (place / name / "__init__.py").write_text("raise ImportError\n")
+    absent = dict.fromkeys(("osgeo/__init__.py", "pyproj/__init__.py"), "raise ImportError\n")
+    place = written("without", {**absent, "a.wkt": HEIGHT})
     path = f"{place}{os.pathsep}{os.environ.get('PYTHONPATH', '')}"
-    (place / "a.wkt").write_text(HEIGHT)
     for option in ("--convert", "--registry"):
         status, output, error = audit(option, "a.wkt", cwd=place, PYTHONPATH=path)
         assert (status, output) == (2, "") and error.startswith(f"crsdesk: {option} takes PROJ, which "), error

@@ -11,8 +11,8 @@ import pathlib
 
 from audit_archive import geographic, projected
 from support import HEIGHT, ROOT
-from test_audit import SCHEMA, Page, audit, everything_below, folder
-from test_audit_forms import by_file, by_proj, data_of, text_of, written
+from test_audit import SCHEMA, Page, audit, everything_below, folder, reports, written
+from test_audit_forms import by_file, by_proj, data_of, text_of
 
 from crsdesk import Rules, canon
 
@@ -126,8 +126,7 @@ def test_the_report_names_the_rules() -> None:
     place = written("named rules", {name: text_of(name) for name in UTM})
     odd = place / "<b>\n.rules"
     odd.write_bytes(b'# <script>alert(1)</script> \x1b[31m\r\nSAME[DATUM["a"],DATUM["b"]]\r\n')
-    out = {kind: folder() / f"named.{kind}" for kind in ("html", "json", "csv")}
-    words = [word for kind, path in out.items() for word in (f"--{kind}", path)]
+    out, words = reports("named")
     status, output, error = audit("--rules", PRODUCERS, "--rules", odd, *words, place)
     assert (status, error) == (0, ""), error
     shown = f"$'{place}/<b>\\n.rules'"

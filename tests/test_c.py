@@ -1,28 +1,35 @@
-"""The library for C as a C program takes it.
+"""The library for C, as Python and as a C program takes it.
 
-The programs of c/ are compiled against its header, and linked with the static library and with the shared object: rows.c,
-which runs the worked rows of the crates' folders data/ by one thread and by four, whole and cut off, each text and buffer
-between pages that can't be touched, with the caller's side under the address and undefined-behaviour sanitizers;
-growths.c, which refuses each growth of memory in turn; and threads.c, which hands a catalogue from thread to thread under
-the thread sanitizer of the first compiler that has one. The header must do for C99 and for C++ with every warning an
-error, the shared object must need the C library alone, both must show the header's calls and nothing else, pkg-config must
-find them, and both must answer the version that the program crsdesk prints. The comparison that tools/build.py
-makes must find headers whose structs differ from the library's.
+c_rows.py asks the shared object the rows of the .rows files, of one thread and of four, whole and cut off, and c_growths.py
+refuses it each growth of memory in turn. The programs of c/ are compiled against its header, and linked with the static
+library and with the shared object: calls.c, which makes each call, under the address and undefined-behaviour sanitizers;
+and threads.c, which hands a catalogue from thread to thread under the thread sanitizer of the first compiler that has one.
+The header must do for C99 and for C++ with every warning an error, the shared object must need the C library alone, both
+must show the header's calls and nothing else, pkg-config must find them, and both must answer the version that the program
+crsdesk prints. The comparison that tools/build.py makes must find headers whose structs differ from the library's.
 """
 from __future__ import annotations
 
+import ctypes
+import faulthandler
 import os
 import pathlib
 import re
-from typing import List, Tuple
+import sys
+import threading
+from concurrent.futures import ThreadPoolExecutor
+from typing import Callable, Iterator, List, Tuple
 
 import build
+import c_rows
 import pytest
+import rows
 from build import toolchain
+from c_library import PAGE, Block
 from support import HERE, ROOT, run, succeed
 
 MADE = build.FOLDER / "out" / "libcrs_c.a"
-ROWS = sorted((ROOT / "crates").glob("*/data/*.rows"))
+ROWS = c_rows.all_rows()
 WARNINGS = ["-Wall", "-Wextra", "-Wpedantic", "-Werror"]
 SANITIZERS = ["-g", "-O1", "-fsanitize=address,undefined", "-fno-sanitize-recover=all"]
 THREAD_SANITIZER = ["-std=gnu11", "-g", "-O1", "-fsanitize=thread"]
@@ -80,14 +87,78 @@ def assert_all_passed(told: str) -> None:
     assert re.search(r"^\d+ passed, 0 failed\n\Z", told, re.MULTILINE), told[-1500:]
 
 
-@both
-def test_rows(kind: str, prefix: pathlib.Path, tmp_path: pathlib.Path) -> None:
-    assert_all_passed(succeed([linked(HERE / "c" / "rows.c", kind, SANITIZERS, prefix, tmp_path), *ROWS]))
+@pytest.fixture(scope="session")
+def asker(library: pathlib.Path) -> c_rows.Asker:
+    return c_rows.Asker()
+
+
+@pytest.mark.parametrize("case", ROWS, ids=str)
+def test_row(case: rows.Case, asker: c_rows.Asker) -> None:
+    c_rows.hold(case, asker)
+
+
+def is_fatal(touch: Callable[[], object]) -> bool:
+    """Whether a touch ends a process."""
+    child = os.fork()
+    if child == 0:
+        faulthandler.disable()
+        touch()
+        os._exit(0)
+    return os.WIFSIGNALED(os.waitpid(child, 0)[1])
+
+
+@pytest.mark.parametrize("begins", [False, True])
+def test_blocks(begins: bool) -> None:
+    """Blocks are what is said of them."""
+    length = 5 if begins else PAGE + 5
+    block, text, none = Block(length, begins), Block(5, begins, b"12345"), Block(0, begins)
+    assert is_fatal(lambda: ctypes.string_at(block.at - 1 if begins else block.at + length, 1))
+    assert is_fatal(lambda: ctypes.memset(none.at, 0, 1)) and is_fatal(lambda: ctypes.memset(none.at - 1, 0, 1))
+    assert is_fatal(lambda: ctypes.memset(text.at, 0, 1)) and text.read() == b"12345"
+    assert not any(is_fatal(lambda: ctypes.memset(it, 0, 1)) for it in (block.at, block.at + length - 1))
+
+
+@pytest.fixture
+def small_stacks() -> Iterator[None]:
+    """Threads have the stack that the header asks for."""
+    before = threading.stack_size(256 * 1024)
+    yield
+    threading.stack_size(before)
+
+
+def test_rows_by_threads(library: pathlib.Path, small_stacks: None) -> None:
+    """Four threads ask at once, each in an order of its own, whose texts are also cut off at other places than the others'."""
+
+    def turn(number: int) -> None:
+        asker, start = c_rows.Asker(begins=number % 2 == 1), number * len(ROWS) // 4
+        for case in ROWS[start:] + ROWS[:start]:
+            c_rows.hold(case, asker)
+            if len(case.input) < 20_000:
+                c_rows.hold_fronts(case.input, asker, range(number, 20, 4), 20)
+
+    with ThreadPoolExecutor(4) as threads:
+        for it in [threads.submit(turn, number) for number in range(4)]:
+            it.result()
+
+
+@pytest.mark.parametrize("level, room", [(0, 41_000), (1, 2_000_000)])
+def test_rows_together(level: int, room: int, asker: c_rows.Asker) -> None:
+    c_rows.hold_together(asker, level, room)
+
+
+def test_names_of_refusals(asker: c_rows.Asker) -> None:
+    names = [asker.name(number) for number in (*range(100), 2**32 - 1)]
+    assert len(set(names)) == len(c_rows.NUMBERS) + 1
+
+
+def test_growths(library: pathlib.Path, refusing: pathlib.Path) -> None:
+    words = [sys.executable, HERE / "c_growths.py", refusing]
+    assert_all_passed(succeed(words, env={**os.environ, "LD_PRELOAD": str(refusing)}))
 
 
 @both
-def test_growths(kind: str, prefix: pathlib.Path, tmp_path: pathlib.Path) -> None:
-    assert_all_passed(succeed([linked(HERE / "c" / "growths.c", kind, ["-O1"], prefix, tmp_path)]))
+def test_calls(kind: str, prefix: pathlib.Path, tmp_path: pathlib.Path) -> None:
+    assert_all_passed(succeed([linked(HERE / "c" / "calls.c", kind, SANITIZERS, prefix, tmp_path)]))
 
 
 @pytest.fixture(scope="session")

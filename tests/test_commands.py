@@ -77,18 +77,12 @@ def test_same(files: Files) -> None:
 
 def test_group(files: Files) -> None:
     status, output, error = files.run("group", "height.wkt", "again.wkt", "other name.wkt", "blank.wkt", "old.prj")
-    assert (status, output) == (
-        1,
-        "group 1: height.wkt again.wkt\ngroup 2: 'other name.wkt'\nblank.wkt: blank\n"
-        "old.prj: refused 11 UnknownKeyword at 0\n",
-    )
+    groups = "group 1: height.wkt again.wkt\ngroup 2: 'other name.wkt'\nblank.wkt: blank\n"
+    assert (status, output) == (1, f"{groups}old.prj: refused 11 UnknownKeyword at 0\n")
     assert error.startswith("old.prj: refused 11 UnknownKeyword at 0, line 1, column 1\n") and "WKT1" in error
     assert files.run("group", "height.wkt", "noted.wkt")[1] == "group 1: height.wkt\ngroup 2: noted.wkt\n"
-    assert files.run("group", "height.wkt", "noted.wkt", "--level=definition") == (
-        0,
-        "group 1: height.wkt noted.wkt\n",
-        "",
-    )
+    wanted = (0, "group 1: height.wkt noted.wkt\n", "")
+    assert files.run("group", "height.wkt", "noted.wkt", "--level=definition") == wanted
     assert files.run("group", "height.wkt", "missing", "again.wkt")[:2] == (2, "group 1: height.wkt again.wkt\n")
 
 
@@ -106,17 +100,15 @@ def test_lines(files: Files) -> None:
     assert error.startswith(refusal)
     status, output, error = files.run("check", "--lines", "height.wkt", "blank.wkt")
     assert (status, output) == (0, "height.wkt:1: accepted vertical\nblank.wkt:1: blank\n")
-    status, output, error = files.run(
-        "group", "--lines", "lines.txt", "other name.wkt", "noted.wkt", "--level=definition"
-    )
-    assert output == (
+    words = ["group", "--lines", "lines.txt", "other name.wkt", "noted.wkt", "--level=definition"]
+    assert files.run(*words)[1] == (
         "group 1: lines.txt:1 lines.txt:4 noted.wkt:1\ngroup 2: 'other name.wkt:1'\n"
         "lines.txt:3: refused 7 UnexpectedEnd at 11\n"
     )
-    for words in (("check", "--lines"), ("group", "--lines"), ("canon", "--lines")):
-        status, output, error = files.run(*words, "missing", "blank.wkt")
-        assert status == 2 and error == "crsdesk: missing: No such file or directory\n"
-        assert files.run(*words, ".")[::2] == (2, "crsdesk: .: Is a directory\n")
+    for command in ("check", "group", "canon"):
+        missing = files.run(command, "--lines", "missing", "blank.wkt")
+        assert missing[::2] == (2, "crsdesk: missing: No such file or directory\n")
+        assert files.run(command, "--lines", ".")[::2] == (2, "crsdesk: .: Is a directory\n")
     assert files.run("canon", "--lines", "missing", "height.wkt")[:2] == (2, CANONICAL_HEIGHT + "\n")
     old = files.run("canon", "--lines", "-", source=b'\n\nGEOGCS["A"]\n')[2]
     assert old.startswith("-:3: refused 11") and '"$(sed -n 3p FILE)"' in old
@@ -188,15 +180,8 @@ def test_faults(files: Files) -> None:
     assert error == "crsdesk: none.wkt: No such file or directory\n"
     assert files.run("check", ".")[2] == "crsdesk: .: Is a directory\n"
     assert files.run("same", "none.wkt", "height.wkt")[0] == 2
-    for words in (
-        (),
-        ("frob",),
-        ("same", "a"),
-        ("check",),
-        ("check", "--level", "full", "a"),
-        ("canon", "--level=x", "a"),
-    ):
-        status, output, error = files.run(*words)
+    for words in ("", "frob", "same a", "check", "check --level full a", "canon --level=x a"):
+        status, output, error = files.run(*words.split())
         assert (status, output) == (2, "") and error.startswith("usage: python -m crsdesk"), words
     assert files.run("--version") == (0, f"crsdesk {crsdesk.__version__}\n", "")
     with open("/dev/full", "wb") as full:

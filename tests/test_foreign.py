@@ -206,20 +206,14 @@ def other_forms() -> None:
         assert again.transformation == crs.transformation and (is_bound or again == crs), text
     for text, part in NOT_TAKEN.items():
         refused = refusal_of(text, Crs.from_user)
-        assert part in (refused.proj or "") and refused.proj and str(refused).endswith(refused.proj), (
-            text[:99],
-            refused,
-        )
-        assert "\n" not in refused.proj and (refused.number, refused.place) == (
-            refusal_of(text).number,
-            refusal_of(text).place,
-        )
+        assert refused.proj and part in refused.proj and str(refused).endswith(refused.proj), (text[:99], refused)
+        plain = refusal_of(text)
+        assert "\n" not in refused.proj and (refused.number, refused.place) == (plain.number, plain.place)
     for text in NOT_ASKED:
         assert refusal_of(text, Crs.from_user).proj is None, text
     # The library judges what PROJ writes.
-    refused = refusal_of(
-        'LOCAL_CS["L",LOCAL_DATUM["D",0],UNIT["metre",1],AXIS["x",EAST],AXIS["y",NORTH]]', Crs.from_user
-    )
+    local = 'LOCAL_CS["L",LOCAL_DATUM["D",0],UNIT["metre",1],AXIS["x",EAST],AXIS["y",NORTH]]'
+    refused = refusal_of(local, Crs.from_user)
     assert refused.proj == f"{read_by} wrote this text of WKT1" and refused.text and refused.text.startswith(b"ENGCRS[")
     assert Crs.from_user("EPSG:28992") == Crs.from_file(EXAMPLES / "exports" / "rd_projinfo_2019.wkt")
 
@@ -289,13 +283,8 @@ def readings_depend_on_nothing_else() -> None:
 
 def json_is_read_whole() -> None:
     """PROJJSON of PROJ's own is read, and refused where a member has another name, or a number more digits."""
-    for code in (
-        "EPSG:4326",
-        "EPSG:28992",
-        "EPSG:7415",
-        "EPSG:5773",
-        "+proj=utm +zone=31 +ellps=bessel +towgs84=1,2,3",
-    ):
+    string = "+proj=utm +zone=31 +ellps=bessel +towgs84=1,2,3"
+    for code in ("EPSG:4326", "EPSG:28992", "EPSG:7415", "EPSG:5773", string):
         words = ["projinfo", "-q", "-o", "PROJJSON", code + (" +type=crs" if code[0] == "+" else "")]
         text = succeed(words)
         crs = Crs.from_user(text)
@@ -331,10 +320,8 @@ def command_convert() -> None:
         assert files.run("same", "--convert", "old.prj", "bound.prj")[:2] == (1, "different transformation\n")
         status, output, _ = files.run("same", "--convert", "--all", "bound.prj", "old.prj")
         assert status == 1 and output.startswith("transformation: TARGETCRS[") and output.endswith(" | none\n")
-        assert files.run("same", "--convert", "old.prj", "damaged.prj")[:2] == (
-            1,
-            "second refused 11 UnknownKeyword at 0\n",
-        )
+        damaged = files.run("same", "--convert", "old.prj", "damaged.prj")
+        assert damaged[:2] == (1, "second refused 11 UnknownKeyword at 0\n")
         status, output, error = files.run("group", "--convert", "--lines", "codes.txt")
         assert (status, output) == (1, "group 1: 1 5\ngroup 2: 4\nline 3: refused 6 Unexpected at 4\n"), output
         assert f"codes.txt:1: read by {by}\n" in error

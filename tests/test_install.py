@@ -388,11 +388,7 @@ def test_closed_pipe(tmp_path: pathlib.Path) -> None:
         with closed_pipe() as closed:
             done = support.run([ROOT / "install", *words], stdout=closed)
         told = done.stderr
-        assert (done.returncode, "Broken" in told, "Error" in told) == (
-            0,
-            False,
-            False,
-        ), f"./install {words[-1]} unread"
+        assert done.returncode == 0 and "Broken" not in told and "Error" not in told, f"./install {words[-1]} unread"
         if words == [str(prefix)]:
             assert files_below(prefix) == wanted_files(told), "what it installed"
     assert not prefix.exists(), "what it took away"
@@ -420,20 +416,11 @@ def test_without_leave() -> None:
 
 def test_faults(tmp_path: pathlib.Path) -> None:
     usage = "crsdesk: usage: ./install [PREFIX] [--libdir DIR | --uninstall], or ./install --postgresql [--uninstall]\n"
-    two_libdirs = ["--libdir", "a", "--libdir=b"]
-    wrong_lines = [
-        ["--frob"],
-        ["a", "b"],
-        [""],
-        ["--uninstall", "--uninstall"],
-        ["--libdir"],
-        ["--libdir="],
-        two_libdirs,
-        ["--postgresql", "--postgresql"],
-        ["--postgresql", "a"],
-        ["--postgresql", "--libdir", "lib"],
-    ]
-    for words in [*wrong_lines, ["--uninstall", "--libdir", "lib"]]:
+    wrong_lines = (
+        "--frob,a b,--uninstall --uninstall,--libdir,--libdir=,--libdir a --libdir=b,--postgresql --postgresql,"
+    )
+    wrong_lines += "--postgresql a,--postgresql --libdir lib,--uninstall --libdir lib"
+    for words in [[""], *(line.split() for line in wrong_lines.split(","))]:
         done = run([ROOT / "install", *words])
         assert (done.returncode, done.stdout, done.stderr) == (2, "", usage), f"./install {words}"
     done = run([ROOT / "install", "--help"])

@@ -24,6 +24,7 @@ from typing import Any, Callable, Dict, Iterator, List, Optional, Tuple, Type
 import documents
 import pytest
 import rows
+import sql_rows
 from rows import Case
 from support import CANONICAL_HEIGHT, EXAMPLES, HEIGHT, HERE, ROOT, run
 
@@ -162,9 +163,8 @@ def test_refusal_is_told() -> None:
     assert lines[1].index("#") == lines[2].index("^") and lines[2].strip() == "^"
     assert refused.summary == "refused 1 BadCharacter at 29" and refused.which is None
     assert repr(refused) == "Refused(number=1, name='BadCharacter', place=29)"
-    keywords = [
-        refusal_of(text).keyword for text in ('TIMECRS["T"]', 'VERTCSR["H"]', HEIGHT[:-1], f"{HEIGHT[:-1]},FOO[1]]")
-    ]
+    texts = 'TIMECRS["T"]', 'VERTCSR["H"]', HEIGHT[:-1], f"{HEIGHT[:-1]},FOO[1]]"
+    keywords = [refusal_of(text).keyword for text in texts]
     assert keywords == ["TIMECRS", "", "", "FOO"], "a keyword that is nowhere read there"
 
 
@@ -305,7 +305,6 @@ HINTS = [
     ("http://www.opengis.net/def/crs/EPSG/0/4326", "code"),
     ('{"type":"GeographicCRS"}', "JSON"),
     ("<gml:GeodeticCRS>", "XML"),
-    ("\ufeff" + HEIGHT, "byte order mark"),
     (HEIGHT.encode("utf-16"), "UTF-16"),
     (HEIGHT.encode("utf-16-le"), "UTF-16"),
     (HEIGHT.encode("utf-16-be"), "UTF-16"),
@@ -320,7 +319,6 @@ HINTS = [
     (b"\x03_\x07\x1a", "A control character is here, 0x03"),
     ("VERTCRS[\0", "0x00"),
     ("SRID=28992;" + HEIGHT, "SRID=28992; is before the text"),
-    ("SRID=4326;POINT(5 52)", "a geometry, POINT"),
     ("polygon ((0 0, 1 0, 1 1, 0 0))", "a geometry, POLYGON"),
     ("/data/a.prj", "the name of a file"),
     ("./a.wkt", "the name of a file"),
@@ -336,31 +334,24 @@ HINTS = [
     ('TIMECRS["A"]', "Temporal CRSs aren't read"),
     ('DATUM["D"]', "part of a CRS"),
     ('"VERTCRS[""H""]"', "quotes"),
-    ("", "There is nothing here"),
     (" \n", "There is nothing here"),
     ('GEOGCRS["A",BASEGEOGCRS["B"]]', "Derived CRSs aren't read"),
     ('VERTCRS["H",VDATUM["D"],CS[vertical,1],AXIS["h",up,UNIT["metre",1]],AUTHORITY["E","1"]]', "AUTHORITY is WKT1's"),
     (HEIGHT.replace("up,", "up,TOWGS84[1,2,3],"), "keep the transformation as part of a key"),
     ("VERTCRS[“H”]", "typographic"),
-    (HEIGHT.replace('"', "&quot;"), "&quot;"),
-    (HEIGHT.replace('"', '\\"'), "Its quotes are escaped"),
     ("GEOGCS[&quot;A&quot;]", "&quot;"),
     ("VERTCRS['H']", "double quotes"),
     ('VERTCRS["H";', "commas"),
     (b'VERTCRS["H\xe9"]', "Latin-1"),
     (HEIGHT + "\n" + HEIGHT, "A second text begins here"),
     (HEIGHT + "," + HEIGHT, "A second text begins here"),
-    (HEIGHT + "]", "one too many"),
     (HEIGHT + ";", "cut off what follows it"),
     (HEIGHT + " x", "cut off what follows it"),
     (HEIGHT[:-1], "VERTCRS[ at 0 is still open"),
     ('VERTCRS ("H",VDATUM["D"', "Still open at the end: VERTCRS( at 0, VDATUM[ at 13."),
     (HEIGHT.replace('"D"]', '"D"'), "CS[ at 23 is inside VDATUM[ at 12"),
     (HEIGHT.replace('"D"]', '"D"') + "]", "CS[ at 23 is inside VDATUM[ at 12"),
-    (HEIGHT.replace('"D"]', '"D")'), "VDATUM[ at 12 is closed by ], not by )"),
-    (HEIGHT.replace('"H"', '"H'), "the quoted text that is opened at 8"),
     (HEIGHT.replace('"H"', 'H"'), "the quoted text that is opened at 9"),
-    (HEIGHT.replace('["metre"', '["metre'), "this quoted text, VERTCRS[ at 0, AXIS[ at 39, LENGTHUNIT[ at 51."),
     (HEIGHT[:-1] + ',REMARK["r]]', "this quoted text, VERTCRS[ at 0, REMARK[ at 74."),
     ('GEOGCS["A"', "GEOGCS[ at 0 is still open"),
     (HEIGHT.replace('"metre",1', '"metre",1,0'), "a comma stands for a decimal point"),
@@ -617,8 +608,8 @@ def test_name_and_identifiers() -> None:
     for crs in crss:
         name, identifiers, boxes = facts_of(str(crs))
         assert (crs.name, crs.identifiers) == (name, tuple(identifiers)), crs.text[:500]
-        assert [list(box) for box in _facts.boxes_of(str(crs))] == [
-            list(it) for it in dict.fromkeys(tuple(box) for box in boxes)
+        assert [list(it) for it in _facts.boxes_of(str(crs))] == [
+            it for n, it in enumerate(boxes) if it not in boxes[:n]
         ]
     noted = Crs(HEIGHT[:-1] + ',ID["A",1],ID["B","x y"],REMARK["r"]]')
     assert (noted.name, noted.identifiers) == ("H", ("A:1", "B:x y"))
@@ -675,9 +666,8 @@ def test_subclasses_are_pickled_as_themselves() -> None:
                 assert type(twin) is type(crs) and twin == crs and twin.text == crs.text
                 assert getattr(twin, "note", None) == getattr(crs, "note", None)
     assert pickle.loads(pickle.dumps(Stated(HEIGHT))).state == (1, 2)
-    assert (
-        type(Slotted.from_user(Crs(HEIGHT))) is Slotted and type(Slotted.from_file(EXAMPLES / "wgs84.wkt")) is Slotted
-    )
+    for made in (Slotted.from_user(Crs(HEIGHT)), Slotted.from_file(EXAMPLES / "wgs84.wkt")):
+        assert type(made) is Slotted
     assert noted == Crs(HEIGHT) and hash(noted) == hash(Crs(HEIGHT)) and repr(noted) == "<Noted 'H' (vertical)>"
 
 
@@ -743,16 +733,12 @@ def test_levels() -> None:
 
 def test_all_parts() -> None:
     ensemble = HEIGHT.replace('VDATUM["D"]', 'ENSEMBLE["D",MEMBER["m"],MEMBER["n"],ENSEMBLEACCURACY[2]]')
-    assert [str(part) for part in differences(ensemble, HEIGHT)] == [
-        "datum/kind: ENSEMBLE | VDATUM",
-    ]
+    assert list(map(str, differences(ensemble, HEIGHT))) == ["datum/kind: ENSEMBLE | VDATUM"]
     other = ensemble.replace('MEMBER["n"]', 'MEMBER["o"]').replace("2.0", "2")
     assert differences(ensemble, other) == [Difference("datum/members", 'MEMBER["n"]', 'MEMBER["o"]')]
     dynamic = HEIGHT.replace("VDATUM", 'DYNAMIC[FRAMEEPOCH[2010],MODEL["g"]],VDATUM')
-    assert [str(part) for part in differences(HEIGHT, dynamic)] == [
-        "dynamic/epoch: none | 2010",
-        'dynamic/model: none | MODEL["g"]',
-    ]
+    wanted = ["dynamic/epoch: none | 2010", 'dynamic/model: none | MODEL["g"]']
+    assert list(map(str, differences(HEIGHT, dynamic))) == wanted
     odd = HEIGHT.replace('"H"', '"a],""b"""').replace("up", "down").replace("metre", "[,")
     assert [(part.path, part.second) for part in differences(HEIGHT, odd)] == [
         ("name", '"a],""b"""'),
@@ -913,29 +899,13 @@ def test_refused_texts_are_not_kept() -> None:
 
 def test_values_are_written_escaped() -> None:
     noted = HEIGHT[:-1] + ',REMARK["a\n\tb\\\x1b[31m\x85\u2028\u202e"]]'
-    assert [str(part) for part in differences(HEIGHT, noted)] == [
-        'remark: none | "a\\n\\tb\\\\\\x1B[31m\\u0085\\u2028\\u202E"'
-    ]
+    assert str(differences(HEIGHT, noted)[0]) == 'remark: none | "a\\n\\tb\\\\\\x1B[31m\\u0085\\u2028\\u202E"'
     assert differences(HEIGHT, noted)[0].second == '"a\n\tb\\\x1b[31m\x85\u2028\u202e"'
 
 
 def test_values_of_any_characters() -> None:
     """What separates the values of a line, and what escapes them, may be in them."""
-    values = [
-        "none",
-        " | ",
-        ": ",
-        '"" | ""',
-        'a" | "b',
-        "\\n",
-        "\\",
-        "\\x41",
-        "\n",
-        "\u2028 | \u202e",
-        "é高",
-        "\0",
-        "x" * 100_000,
-    ]
+    values = [*sql_rows.VALUES, 'a" | "b', "\\n", "\n", "\u2028 | \u202e", "\0", "x" * 100_000]
     names = [value.replace('"', '""') for value in values]
     for first in names:
         for second in names:
@@ -1032,9 +1002,7 @@ def test_four_threads_on_one_catalogue() -> None:
     with ThreadPoolExecutor(4) as pool:
         groups = list(pool.map(catalogue.add, texts, range(2000)))
     assert len(catalogue) == 50
-    assert [groups[name] for group in catalogue for name in group.names] == [
-        group.number for group in catalogue for _ in group.names
-    ]
+    assert all(groups[name] == group.number for group in catalogue for name in group.names)
     assert sorted(name for group in catalogue for name in group.names) == list(range(2000))
 
 
@@ -1076,14 +1044,12 @@ def test_texts_under_rules() -> None:
     for text in texts:
         assert canon(text, rules=rules) == FORM and canon(text, "definition", rules) == FORM
     assert same(HEIGHT, OTHER_HEIGHT, rules=rules) and not same(HEIGHT, OTHER_HEIGHT)
-    assert (
-        difference(HEIGHT, OTHER_HEIGHT, rules=rules) is None and differences(HEIGHT, OTHER_HEIGHT, rules=rules) == []
-    )
+    found = difference(HEIGHT, OTHER_HEIGHT, rules=rules), differences(HEIGHT, OTHER_HEIGHT, rules=rules)
+    assert found == (None, [])
     feet = OTHER_HEIGHT.replace('"metre",1', '"foot",0.3048')
     assert not same(HEIGHT, feet, rules=rules) and difference(HEIGHT, feet, rules=rules) == "system/axis1/unit"
-    assert [str(it) for it in differences(HEIGHT, feet, rules=rules)] == [
-        'system/axis1/unit: LENGTHUNIT["metre",1] | LENGTHUNIT["foot",0.3048]'
-    ]
+    wanted = 'system/axis1/unit: LENGTHUNIT["metre",1] | LENGTHUNIT["foot",0.3048]'
+    assert list(map(str, differences(HEIGHT, feet, rules=rules))) == [wanted]
     # Without rules all is as it was.
     for text in (HEIGHT, OTHER_HEIGHT):
         assert canon(text, rules=Rules()) == canon(text, rules=Rules("\n", b"# nothing")) == canon(text)
@@ -1203,9 +1169,8 @@ def test_many_rules_cost_a_text_no_more() -> None:
     feet = HEIGHT.replace('"metre",1', '"m",77')
     assert canon(feet, rules=units) == canon(feet.replace("77", "1"))
     for rules in (many, units):
-        least, most = (
-            seconds_of(lambda: [canon(it, rules=asked) for it in (text, other, feet) * 200]) for asked in (few, rules)
-        )
+        texts = (text, other, feet) * 200
+        least, most = (seconds_of(lambda: [canon(it, rules=asked) for it in texts]) for asked in (few, rules))
         assert most <= 2 * least + 0.02, f"under few rules {least} s, under many {most} s"
 
 
@@ -1236,12 +1201,8 @@ def test_a_crs_under_rules() -> None:
 
 def test_groups_under_rules() -> None:
     catalogue = Catalogue(rules=Rules(NAMES))
-    assert [catalogue.add(text) for text in (HEIGHT, OTHER_HEIGHT, "", HEIGHT.replace("metre", "meter"))] == [
-        1,
-        1,
-        None,
-        2,
-    ]
+    texts = HEIGHT, OTHER_HEIGHT, "", HEIGHT.replace("metre", "meter")
+    assert list(map(catalogue.add, texts)) == [1, 1, None, 2]
     assert catalogue.group(1).text == FORM and catalogue.group(1).names == [1, 2] and OTHER_HEIGHT in catalogue
     raised(Refused, lambda: catalogue.add("GEOGCRS["))
     assert [name for name, _ in catalogue.refused] == [5]

@@ -1,0 +1,134 @@
+"""`explain --json` and `group --json`: each line is of the schema, and says what the lines without the flag say."""
+from __future__ import annotations
+
+import dataclasses
+import json
+import pathlib
+from typing import Any, Dict, Iterator, List
+
+import pytest
+import rows
+from support import ROOT, need
+
+MARK = "the same by the rules: "
+# Objects that are not of a command's schema.
+BROKEN: Dict[bytes, List[Dict[str, Any]]] = {
+    b"explain": [{}, {"accepted": "local"}, {"same": False}, {"path": "id", "first": None}, {"refused": 7}],
+    b"group": [{}, {"group": 1, "lines": [1]}, {"group": 1, "lines": [], "canonical": ""}, {"line": 1, "refused": 7}],
+}
+# The cases that are answered in lines, but those of a whole answer on another stream.
+CASES = [
+    case
+    for case in rows.all_cases()
+    if case.words[:1] in ([b"explain"], [b"group"]) and case.status != 2 and case.output is not None
+    if not {b"--help", b"--json"} & {*case.words}
+]
+
+
+def objects_of(program: pathlib.Path, case: rows.Case) -> List[Dict[str, Any]]:
+    """What the command says with the flag, of which each line is an object."""
+    asked = dataclasses.replace(case, words=[case.words[0], b"--json", *case.words[1:]])
+    done = rows.run(program, asked)
+    assert done.returncode == case.status
+    return [json.loads(line) for line in done.stdout.decode().splitlines()]
+
+
+def listed(names: List[str]) -> str:
+    return " or ".join([", ".join(names[:-1]), names[-1]]) if len(names) > 1 else "".join(names)
+
+
+def refusal(told: Dict[str, Any]) -> str:
+    """The lines of a refusal."""
+    which = told["text"] + " " if "text" in told else ""
+    head = f"{which}refused {told['refused']} {told['name']} at {told['place']}"
+    lines = [f"{head}, line {told['line']}, column {told['column']}\n", told["excerpt"]]
+    if told["found"] is not None:
+        node = f"in {told['node']} " if told["node"] is not None else ""
+        there = f"{node}at {told['node_place']}: found {told['found']}"
+        lines.append(f"{there}, expected {listed(told['expected'])}\n")
+    sentences = [told["clue"], told["meaning"], told["hints"]]
+    return "".join(lines) + "".join(f"{sentence}\n" for sentence in sentences if sentence is not None)
+
+
+def shown(value: Any) -> str:
+    """A value as a line shows it."""
+    if value is None:
+        return "none"
+    names = {"\\": "\\\\", "\n": "\\n", "\t": "\\t", "\r": "\\r", "\0": "\\0"}
+    return "".join(names.get(c) or escaped(c) for c in value)
+
+
+def escaped(c: str) -> str:
+    if c < " " or c == "\x7f":
+        return f"\\x{ord(c):02X}"
+    steers = (
+        "\x80" <= c <= "\x9f" or c in "\u061c\u200e\u200f" or "\u2028" <= c <= "\u202e" or "\u2066" <= c <= "\u2069"
+    )
+    return f"\\u{ord(c):04X}" if steers else c
+
+
+def explained(told: Dict[str, Any]) -> str:
+    """What an object of `explain` says, in lines."""
+    if "accepted" in told:
+        return f"accepted {told['accepted']}\n"
+    if "same" in told:
+        return "same\n"
+    if "path" in told:
+        mark = MARK if "same_by_rules" in told else ""
+        return f"{mark}{shown(told['path'])}: {shown(told['first'])} | {shown(told['second'])}\n"
+    return refusal(told)
+
+
+def text_of(text: Any) -> str:
+    """A text as characters, U+FFFD for what is no UTF-8."""
+    return text if isinstance(text, str) else bytes.fromhex(text["bytes"]).decode(errors="replace")
+
+
+def grouped(told: Dict[str, Any]) -> Iterator[str]:
+    """What an object of `group` says, in a line."""
+    if "file" in told:
+        yield shown(told["file"]) + ":"
+    if "group" in told:
+        yield f"group {told['group']}:"
+        if "line_names" in told:
+            assert len(told["line_names"]) == len(told["lines"])
+            yield from ("\t" + shown(text_of(name)) for name in told["line_names"])
+        else:
+            yield from (f" {line}" for line in told["lines"])
+    else:
+        label = shown(text_of(told["line_name"])) if "line_name" in told else told["line"]
+        yield f"line {label}: refused {told['refused']} {told['name']} at {told['place']}"
+    yield "\n"
+
+
+@pytest.mark.parametrize("case", CASES, ids=str)
+def test_says_the_same(case: rows.Case, program: pathlib.Path) -> None:
+    lines_of = explained if case.words[0] == b"explain" else grouped
+    said = "".join(piece for told in objects_of(program, case) for piece in lines_of(told))
+    assert said.encode() == case.output
+
+
+@pytest.mark.parametrize("level", ["full", "definition"])
+def test_has_canonical_texts(level: str, program: pathlib.Path) -> None:
+    """The text of a group is that of each of its lines."""
+    words = [b"--level", level.encode(), b"examples/catalogue.txt"]
+    groups = objects_of(program, rows.Case("", "", {}, words=[b"group", *words], status=1))
+    lines = rows.run(program, rows.Case("", "", {}, words=[b"canon", b"--lines", *words])).stdout.decode().splitlines()
+    for told in groups:
+        if "group" in told:
+            assert {lines[line - 1] for line in told["lines"]} == {told["canonical"]}, told["group"]
+
+
+@pytest.mark.parametrize("command", BROKEN, ids=bytes.decode)
+def test_fits_the_schema(command: bytes, program: pathlib.Path) -> None:
+    need("python3:jsonschema")
+    import jsonschema
+
+    schema = json.loads((ROOT / "docs" / "json" / f"{command.decode()}.schema.json").read_text(encoding="utf-8"))
+    jsonschema.Draft202012Validator.check_schema(schema)
+    validator = jsonschema.Draft202012Validator(schema)
+    for case in CASES:
+        for told in objects_of(program, case) if case.words[0] == command else []:
+            errors = list(validator.iter_errors(told))
+            assert not errors, (case.name, [error.message[:300] for error in errors])
+    assert not any(map(validator.is_valid, BROKEN[command]))
