@@ -1,7 +1,5 @@
 //! Groups of texts: two texts are in one group exactly where their CRSs are the same. Crates above know places, groups
 //! and refusals alone, or hand over a reader and a writer.
-//!
-//! The runs over lines are here, and the rest below: `rt ci` checks once more the crates of the wrong bodies that it tries.
 #![tactic(auto)]
 
 mod catalogue;
