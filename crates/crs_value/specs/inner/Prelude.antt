@@ -1,6 +1,6 @@
 -- The names that proofs of the crates above cite, passed on from one place. Declares nothing.
 pub use Rattle.crs_value.specs.Checks.{BadComponent, IsNotEllipsoidal, IsNotHorizontal, IsNotPlane, BadDynamic, IsUnsteady, BadOrder, BadOrders, IsBadOrder, IsPosition, LacksOrder, OneHas, ReadsOrder, orders_in, BadOwnUnit, Misfits, units_in, IsAboveZero, NotAbove, AnyOf, FirstIs, at, AtClass, BadSystems, Breaks, BreaksAmong, OfCompound, OfCrs, OfEllipsoid, OfHead, OfUnit, anchors, horizontal_classes, once, IsRepeated, RepeatsAny, UnknownDirection, UnknownType}
-pub use Rattle.crs_value.specs.inner.ReadOnce.{IsSound}
+pub use Rattle.crs_value.specs.inner.ReadOnce.{IsSound, IsReadAs, IsReadOnce}
 unfoldable pub use Rattle.crs_value.specs.Checks.{Own}
 pub use Rattle.crs_value.specs.CompoundValues.{CompoundParts}
 pub use Rattle.crs_value.specs.Values.{ConversionParts, GeoidModelParts, MethodParts, ParameterParts, DeformationModelParts, DynamicParts, AxisMeridianParts, AxisParts, BoxParts, DatumParts, EllipsoidParts, EnsembleParts, ExtentParts, MemberParts, MeridianParts, SaysSome, SystemParts, TailParts, UnitParts, UsageParts}
@@ -11,7 +11,6 @@ pub use Rattle.crs_value.specs.Kept.{kept, kept_one}
 pub use Rattle.crs_value.specs.inner.KeptLaws.{kept-each, kept-if_some, kept-joined, kept-made, kept-made_one, kept-none, kept-where_none, kept-where_none-one}
 pub use Rattle.crs_value.specs.Members.{AreIn, HaveSameMembers, IsIn}
 pub use Rattle.crs_value.specs.NamedValues.{NamedParts}
-pub use Rattle.crs_value.specs.inner.ReadOnce.{IsReadAs, IsReadOnce}
 pub use Rattle.crs_value.specs.Reading.{IsReading, OneIs, ReadsAll, ReadsEach, ReadsElse, ReadsFirst, ReadsIfAny, ReadsOne, ReadsOptional, is_a, is_same, those}
 pub use Rattle.crs_value.specs.inner.Arguments.{Holds, IsFound, ahead, item_at}
 pub use Rattle.crs_value.specs.Reads.{LacksUsage, ReadsAxis, ReadsAxisMeridian, ReadsBare, ReadsBox, ReadsDatum, ReadsDirection, ReadsEllipsoid, ReadsEnsemble, ReadsExtent, ReadsHead, ReadsIdent, ReadsIds, ReadsKind, ReadsMember, ReadsMeridian, ReadsNumber, ReadsNumberOf, ReadsSystem, ReadsTail, ReadsText, ReadsTextOf, ReadsType, ReadsUnit, ReadsUsage, single_of, ReadsAsUnit, ReadsConversion, ReadsGeoidModel, ReadsMethod, ReadsParameter, ReadsUnitOf, parameter_units, ReadsDeformationModel, ReadsDynamic}
