@@ -1,5 +1,5 @@
 -- The names that proofs of the crates above cite, passed on from one place. Declares nothing.
-pub use Rattle.crs_same.specs.inner.Agreement.{AgreeAt, AgreeAxes, AgreeBase, AgreeCompound, AgreeConversion, AgreeCrs, AgreeDatum, AgreeDynamic, AgreeEllipsoid, AgreeEnsemble, AgreeFrame, AgreeGeodetic, AgreeGiven, AgreeHorizontal, AgreeMeridian, AgreeMethod, AgreeProjected, AgreeSystem, AgreeTail, AgreeVertical}
+pub use Rattle.crs_same.specs.inner.Agreement.{AgreeAt, AgreeAxes, AgreeBase, AgreeCompound, AgreeConversion, AgreeCrs, AgreeDatum, AgreeDynamic, AgreeEllipsoid, AgreeEnsemble, AgreeFrame, AgreeGeodetic, AgreeGiven, AgreeHorizontal, AgreeMeridian, AgreeMethod, AgreeProjected, AgreeSystem, AgreeTail, AgreeVertical, IsZero, SameRemark, SameUsages}
 unfoldable pub use Rattle.crs_same.specs.inner.Agreement.{AgreeAxis}
 pub use Rattle.crs_same.specs.Contents.{given}
 pub use Rattle.crs_same.specs.Parts.{DifferenceParts, Differences, Parts, exchanged, part, ◌⨾◌}
@@ -13,7 +13,6 @@ pub use Rattle.crs_same.specs.SameCrs.{IsHorizontalPart}
 unfoldable pub use Rattle.crs_same.specs.SameCrs.{SameCrs, SameDynamic}
 pub use Rattle.crs_same.specs.SingleParts.{identifiers, numbers, units}
 pub use Rattle.crs_same.specs.SameParts.{SameGeoidModel, SameParameter, SameDeformationModel, SameMember, HasAt, IsPositionOf, SameAxisAlone, SameAxisMeridian, StandsAt, own_or, SameLength, SameUnit, SameUnitAsked, kind_as, or_metre, SameBox, SameExtent, SameUsage, usages_of}
-pub use Rattle.crs_same.specs.inner.Agreement.{IsZero, SameRemark, SameUsages}
 pub use Rattle.crs_same.specs.SameIdents.{SameIdent, SameIdents, SameNamed}
 unfoldable pub use Rattle.crs_same.specs.SameParts.{SameValue}
 pub use Rattle.crs_same.specs.Sameness.{IsSameness, IsSamenessOf}
