@@ -127,6 +127,12 @@ def each(texts: List[bytes], level: int) -> Trial:
     return trial
 
 
+def fields_of(struct: Any) -> List[Any]:
+    """The values of a struct, without the bytes between."""
+    values = (getattr(struct, name) for name, _ in struct._fields_)
+    return [fields_of(it) if isinstance(it, ctypes.Structure) else it for it in values]
+
+
 def under(files: List[bytes], lines: List[bytes], level: int) -> Trial:
     """Rules, the form of each line under them, and a catalogue of all lines."""
 
@@ -136,7 +142,7 @@ def under(files: List[bytes], lines: List[bytes], level: int) -> Trial:
         if told.code == NO_MEMORY:
             assert state() == before, "a call without memory left something"
             told = calls.call(name, *given)
-        return bytes(told)
+        return fields_of(told)
 
     def trial(calls: Calls) -> List[Any]:
         asker = c_rows.Asker()
@@ -145,7 +151,8 @@ def under(files: List[bytes], lines: List[bytes], level: int) -> Trial:
         to, at = ctypes.addressof(rules), ctypes.addressof(catalogue)
 
         def form() -> bytes:
-            return bytes(calls.library.crsdesk_rules_piece(to, 0))
+            piece = calls.library.crsdesk_rules_piece(to, 0)
+            return bytes(piece.bytes)[: piece.length]
 
         def groups() -> List[Any]:
             every = range(1, calls.library.crsdesk_catalogue_groups(at) + 1)

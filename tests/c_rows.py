@@ -38,18 +38,18 @@ Answer = Tuple[int, bytes, Tuple[int, int]]
 
 def words_of(case: rows.Case) -> Tuple[List[bytes], List[bytes]]:
     """The words of a case without its level and its rules files, and the names of those."""
-    _, words = case.level
-    rest, names = list[bytes](), list[bytes]()
+    rest, names, words = list[bytes](), list[bytes](), iter(case.level[1])
     for word in words:
-        (names if rest and rest[-1] == b"--rules" else rest).append(word)
-        if names and rest[-1] == b"--rules":
-            rest.pop()
+        if word == b"--rules":
+            names.append(next(words, b""))
+        else:
+            rest.append(word)
     return rest, names
 
 
 def is_asked(case: rows.Case) -> bool:
     """Whether a case asks for an answer that calls of the library give."""
-    if case.error is not None and REFUSED_RULES.fullmatch(case.error) and len(case.error) < 200:
+    if case.error is not None and REFUSED_RULES.fullmatch(case.error):
         return all(it in case.files for it in words_of(case)[1])
     if not case.asks:
         return False
@@ -375,13 +375,11 @@ class Asker:
                 found = self.in_groups(rules, case.input, level)
                 return (found[1] or self.refusal(found[2])) + b"\n"
         if words[1:]:
-            lines = case.input.splitlines()
-            ends = [sum(len(it) + 1 for it in lines[:index]) for index in range(len(lines) + 1)]
-            places = [(begin, begin + len(it)) for begin, it in zip(ends, lines)]
-            found_lines = zip(lines, self.each(case.input, places, level, 10_000))
-            return b"".join(
-                (it[1] or (self.refusal(it[2]) if line.strip() else b"")) + b"\n" for line, it in found_lines
-            )
+            lines = case.input.removesuffix(b"\n").split(b"\n")
+            begins = [sum(map(len, lines[:index])) + index for index in range(len(lines))]
+            places = [(begin, begin + len(it)) for begin, it in zip(begins, lines)]
+            answers = zip(self.each(case.input, places, level, 2 * len(case.input) + 1000), lines)
+            return b"".join((it[1] or (self.refusal(it[2]) if line.strip() else b"")) + b"\n" for it, line in answers)
         found, kind, explained = self.one(case.input, level)
         good = found[1] if words == [b"canon"] else kind
         if found[0] == OK:
@@ -423,6 +421,6 @@ def hold_together(asker: Asker, level: int, room: int) -> None:
         other = [2**64 - 1 - index, end + 5, begin + index % 3 - 2, begin + index % 3 - 3][index % 4]
         places += [(begin, end), (begin + index % 3, max(other, 0))]
         whole += text
-    for (begin, end), found in zip(places, asker.each(whole, places, level, room)):
+    for found, (begin, end) in zip(asker.each(whole, places, level, room), places):
         code, written, why = asker.text("canon", whole[begin : max(begin, end)], level)
         assert found == (code, written, (0, 0) if code == OK else why), (begin, end)

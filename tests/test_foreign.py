@@ -91,30 +91,26 @@ FOREIGN = {
     "proj=utm zone=31 type=crs": ("projected", False),
     "+proj=longlat +ellps=bessel +towgs84=1,2,3 +no_defs": ("geographic", True),
     "+proj=longlat +ellps=bessel +nadgrids=a.gsb": ("geographic", True),
-    "+proj=tmerc +lat_0=52d9'22.17\"N +lon_0=5d23E +k=0.9999079 +x_0=155000 +y_0=463000 +ellps=bessel": (
-        "projected",
-        False,
-    ),
-    "+proj=lcc +lat_1=49 +lat_2=44 +lat_0=46.5 +lon_0=3 +x_0=700000 +y_0=6600000 +ellps=GRS80 +units=m": (
-        "projected",
-        False,
-    ),
     "+proj=omerc +lat_0=4 +lonc=102.25 +alpha=323.0257 +k=0.99984 +x_0=804671 +y_0=0 +gamma=323.13 +a=6377304.063 "
     "+b=6356103.03899315 +no_uoff": ("projected", False),
     "+proj=stere +lat_0=-90 +lat_ts=-71 +lon_0=0 +k=1 +x_0=0 +y_0=0 +datum=WGS84 +units=m": ("projected", False),
     "+proj=merc +lon_0=0 +k=1 +x_0=0 +y_0=0 +a=6378137 +b=6378137 +nadgrids=@null +no_defs": ("projected", False),
+    "+proj=utm +zone=31 +ellps=bessel +towgs84=1,2,3 +geoidgrids=egm96.gtx +vunits=m": ("compound", True),
     "+proj=laea +lat_0=52 +lon_0=10 +x_0=4321000 +y_0=3210000 +ellps=GRS80 +towgs84=0,0,0,0,0,0,0 +units=m +no_defs": (
         "projected",
         True,
     ),
-    "+proj=utm +zone=31 +ellps=bessel +towgs84=1,2,3 +geoidgrids=egm96.gtx +vunits=m": ("compound", True),
     # Words that say what another one says too.
-    "+proj=lcc +lat_1=46.8 +lat_0=46.8 +lon_0=0 +k_0=0.99987742 +x_0=600000 +y_0=2200000 +ellps=clrk80ign +pm=paris": (
-        "projected",
-        False,
-    ),
     "+proj=utm +zone=33 +ellps=WGS84 +datum=WGS84 +units=m +no_defs": ("projected", False),
     "+proj=geos +h=35785831 +lon_0=0 +sweep=y +ellps=GRS80": ("projected", False),
+    **dict.fromkeys(
+        [
+            "+proj=lcc +lat_1=46.8 +lat_0=46.8 +lon_0=0 +k_0=0.99987742 +x_0=600000 +y_0=2200000 +ellps=clrk80ign +pm=paris",
+            "+proj=tmerc +lat_0=52d9'22.17\"N +lon_0=5d23E +k=0.9999079 +x_0=155000 +y_0=463000 +ellps=bessel",
+            "+proj=lcc +lat_1=49 +lat_2=44 +lat_0=46.5 +lon_0=3 +x_0=700000 +y_0=6600000 +ellps=GRS80 +units=m",
+        ],
+        ("projected", False),
+    ),
 }
 # Texts that PROJ reads, or repairs, and a part of why its reading isn't taken.
 NOT_TAKEN = {
@@ -155,19 +151,9 @@ NOT_TAKEN = {
     '{"a":' * 100_000: "JSON: ",
 }
 # Texts of which PROJ isn't asked: it would look names up, open files, or repair WKT2.
-NOT_ASKED = [
-    "WGS 84",
-    "4326",
-    "",
-    "https://example.org/crs",
-    "/etc/passwd",
-    "@a.wkt",
-    "EPSG: 4326",
-    "EPSG:WGS 84",
-    HEIGHT[:-1],
-    HEIGHT.replace('"metre",1', '"metre",1,0'),
-    'GEOGCRS["A",DATUM["D",ELLIPSOID["E",6377397,155,299]]]',
-]
+NOT_ASKED = ["WGS 84", "4326", "", "https://example.org/crs", "/etc/passwd", "@a.wkt", "EPSG: 4326", "EPSG:WGS 84"]
+NOT_ASKED += [HEIGHT[:-1], HEIGHT.replace('"metre",1', '"metre",1,0')]
+NOT_ASKED += ['GEOGCRS["A",DATUM["D",ELLIPSOID["E",6377397,155,299]]]']
 
 
 def without_proj() -> None:
