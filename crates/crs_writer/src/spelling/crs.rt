@@ -154,9 +154,9 @@ fn write_base<
     level: Level,
 ) -> Appended
     ensures { OnOk result ((n : List ℕ) (d : Option DynamicParts) (f : Frame) (m : Option MeridianParts)
-        (u : Option UnitParts) (is : List IdentParts) → n ≡ fields.entry.name.now → SaysIfAny D.Says fields.entry.dynamic d →
-        F.SaysGeodetic fields.entry.frame f → SaysIfAny M.Says fields.entry.meridian m →
-        SaysIfAny U.Says fields.entry.unit u → I.Says fields.entry.ids is →
+        (u : Option UnitParts) (is : List IdentParts) → n ≡ fields.entry.name.now →
+        SaysIfAny D.Says fields.entry.dynamic d → F.SaysGeodetic fields.entry.frame f →
+        SaysIfAny M.Says fields.entry.meridian m → SaysIfAny U.Says fields.entry.unit u → I.Says fields.entry.ids is →
         out.new.items ≡ out.old.items ++ named_node opening.now n (opt item_dynamic (option_map (norm_dynamic level) d)
         (More (item_frame (codes "DATUM") (norm_frame level f)) (opt item_meridian (norm_meridian level m)
         (opt item_unit (norm_units level kinds.Angle u) (each item_ident (set_idents level is) End)))))) }

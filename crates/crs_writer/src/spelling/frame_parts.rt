@@ -42,10 +42,10 @@ fn write_ellipsoid<N: NumberPart, U: UnitPart, I: IdentsPart>(
     fields: EllipsoidFields<'_, N, U, I>,
     level: Level,
 ) -> Appended
-    ensures { OnOk result ((e : EllipsoidParts) → e.name ≡ fields.entry.name.now → N.Says fields.entry.semi_major_axis e.semi_major_axis →
-        N.Says fields.entry.inverse_flattening e.inverse_flattening →
-        SaysIfAny U.Says fields.entry.unit e.unit → I.Says fields.entry.ids e.identifiers →
-        out.new.items ≡ out.old.items ++ named_node opening.now e.name
+    ensures { OnOk result ((e : EllipsoidParts) → e.name ≡ fields.entry.name.now →
+        N.Says fields.entry.semi_major_axis e.semi_major_axis →
+        N.Says fields.entry.inverse_flattening e.inverse_flattening → SaysIfAny U.Says fields.entry.unit e.unit →
+        I.Says fields.entry.ids e.identifiers → out.new.items ≡ out.old.items ++ named_node opening.now e.name
         (More (number_item e.semi_major_axis) (More (number_item e.inverse_flattening)
         (opt item_unit (Some (norm_length level e.unit)) (each item_ident (set_idents level e.identifiers) End))))) }
 {
