@@ -1,6 +1,5 @@
-//! The library's calls, task by task, over lines, a text each. `docs/CALLING.md` shows
-//! functions of the other files as they are here.
-
+//! The library's calls, task by task, over the parts of a row. `docs/CALLING.md` shows functions of the other files as they
+//! are here.
 mod catalogue;
 mod difference;
 mod ellipsoid;
@@ -8,73 +7,66 @@ mod faults;
 mod key;
 mod pieces;
 
-use bstr::ByteSlice;
-use crs_canon::Canon;
-use crs_suite::kind_word;
+use crate::about::kind_word;
+use crate::answer::Answer;
+use crate::row::Row;
+use crs_text::Fault;
+use crs_value::Kind;
 use indexmap::IndexMap;
-use std::io;
+use std::alloc::{AllocError, Global};
 
-/// Prints what each example answers for the lines of these bytes.
-pub fn print_all(rt: &(impl Print + AllocGlobal), bytes: &[u8]) -> io::Result<()> {
-    let mut lines = Vec::new(rt.alloc());
-    for line in bytes.lines() {
-        lines.push(line)?;
+/// What an example answers for each part, with `; ` between two, or for the two parts, or for the lines of a catalogue.
+pub fn put_example(out: &mut Answer, row: &Row<'_>, name: &str) {
+    let alloc = out.alloc();
+    match name {
+        "difference" => match difference::difference(alloc, row.part(0), row.part(1)) {
+            Ok(text) => out.put(text.as_str()),
+            Err(fault) => write!(out, "{fault}"),
+        },
+        "catalogue" => {
+            let text = catalogue::groups_of(alloc, row.text());
+            put_made(out, text);
+        }
+        "key" => put_keys(out, row),
+        _ => {
+            for index in 0..row.count() {
+                let text = told(alloc, row.part(index), name);
+                put_made(out, text);
+                out.put("; ");
+            }
+        }
     }
-    print_keys(rt, &lines)?;
-    print_differences(rt, &lines)?;
-    print_ellipsoids(rt, &lines)?;
-    print_kinds(rt, &lines)?;
-    print_groups(rt, bytes)
 }
 
-fn print_keys(rt: &(impl Print + AllocGlobal), lines: &[&[u8]]) -> io::Result<()> {
-    let mut cache: IndexMap<Canon, usize> = IndexMap::new(rt.alloc());
-    for line in lines {
-        let text = match key::number_of(rt.alloc(), &mut cache, line) {
-            Ok(number) => format!(in rt.alloc(); "entry {number}")?,
-            Err(fault) => faults::told(rt.alloc(), line, &fault)?,
-        };
-        println!(rt; "key: {text}")?;
+fn put_made(out: &mut Answer, text: Result<String, AllocError>) {
+    if let Some(text) = out.made(text) {
+        out.put(text.as_str());
     }
-    Ok(())
 }
 
-// Each line beside the next.
-fn print_differences(rt: &(impl Print + AllocGlobal), lines: &[&[u8]]) -> io::Result<()> {
-    for (line, next) in lines.iter().zip(lines.iter().skip(1)) {
-        let text = match difference::difference(rt.alloc(), line, next) {
-            Ok(text) => text,
-            Err(fault) => format!(in rt.alloc(); "{fault}")?,
-        };
-        println!(rt; "difference: {text}")?;
+fn put_keys(out: &mut Answer, row: &Row<'_>) {
+    let mut cache = IndexMap::new(out.alloc());
+    for index in 0..row.count() {
+        match key::number_of(out.alloc(), &mut cache, row.part(index)) {
+            Ok(number) => write!(out, "entry {number}; "),
+            Err(fault) => write!(out, "{fault}; "),
+        }
     }
-    Ok(())
 }
 
-fn print_ellipsoids(rt: &(impl Print + AllocGlobal), lines: &[&[u8]]) -> io::Result<()> {
-    for line in lines {
-        let text = match ellipsoid::flattening_of(rt.alloc(), line) {
-            Ok(Some(text)) => text,
-            Ok(None) => String::from_str(rt.alloc(), "none")?,
-            Err(fault) => faults::told(rt.alloc(), line, &fault)?,
-        };
-        println!(rt; "inverse flattening: {text}")?;
+fn told(alloc: Global, text: &[u8], name: &str) -> Result<String, AllocError> {
+    let found = match name {
+        "ellipsoid" => ellipsoid::flattening_of(alloc, text),
+        _ => pieces::kind_in_pieces(alloc, text).and_then(|kind| named(alloc, kind)),
+    };
+    match found {
+        Ok(Some(text)) => Ok(text),
+        Ok(None) => String::from_str(alloc, "none"),
+        Err(fault) => faults::told(alloc, text, &fault),
     }
-    Ok(())
 }
 
-fn print_kinds(rt: &(impl Print + AllocGlobal), lines: &[&[u8]]) -> io::Result<()> {
-    for line in lines {
-        let text = match pieces::kind_in_pieces(rt.alloc(), line) {
-            Ok(kind) => String::from_str(rt.alloc(), kind_word(kind))?,
-            Err(fault) => faults::told(rt.alloc(), line, &fault)?,
-        };
-        println!(rt; "in pieces: {text}")?;
-    }
-    Ok(())
-}
-
-fn print_groups(rt: &(impl Print + AllocGlobal), bytes: &[u8]) -> io::Result<()> {
-    let text = catalogue::groups_of(rt.alloc(), bytes)?;
-    print!(rt; "{text}")
+fn named(alloc: Global, kind: Kind) -> Result<Option<String>, Fault> {
+    let name = String::from_str(alloc, kind_word(kind));
+    name.map(Some).map_err(Fault::Memory)
 }
