@@ -1,12 +1,11 @@
 //! From the name of a call to its answer.
 use crate::answer::Answer;
 use crate::examples::put_example;
+use crate::failures::put_failed;
 use crate::nodes::put_part;
 use crate::row::Row;
 use crate::written::put_whole;
-use crate::{
-    canonical, catalogues, failures, numbers, pieces, runs, sameness, shapes, texts, values,
-};
+use crate::{canonical, catalogues, numbers, pieces, runs, sameness, shapes, texts, values};
 
 /// Puts the answer of a row's call.
 pub fn put_answer(out: &mut Answer, row: &Row<'_>) {
@@ -17,7 +16,6 @@ pub fn put_answer(out: &mut Answer, row: &Row<'_>) {
         "Decimal::digits" => numbers::put_parts(out, input),
         "Decimal::same_number" => numbers::put_equality(out, row),
         "Decimal::write" => numbers::put_appended(out, row),
-        "NumberFault" => numbers::put_displayed(out, input),
         "Refusal::new" => numbers::put_name(out, input),
         "feed" => pieces::put_fed(out, row),
         "read_items" => texts::put_tree(out, input),
@@ -37,9 +35,7 @@ fn put_answer_of_value(out: &mut Answer, row: &Row<'_>) {
         "class_of" => shapes::put_keywords(out, input),
         "slots" => shapes::put_slots(out, input),
         "known" => shapes::put_known(out, input),
-        "class_in" => shapes::put_classes(out, row),
         "read" => values::put_read(out, input),
-        "first_axis" => values::put_axis(out, input),
         "canon" => canonical::put_canon(out, row),
         "same" => sameness::put_same(out, row),
         "same_axis" => sameness::put_same_axis(out, row),
@@ -53,8 +49,8 @@ fn put_answer_of_words(out: &mut Answer, row: &Row<'_>) {
         ("written", how) => put_whole(out, row, how),
         ("example", name) => put_example(out, row, name),
         ("Catalogue", _) => catalogues::put_catalogue(out, row),
-        ("failed_reads", words) => failures::put_failed_reads(out, words, row),
-        ("failed_writes", words) => failures::put_failed_writes(out, words, row),
+        ("failed_reads", words) => put_failed(out, words, row, "reads"),
+        ("failed_writes", words) => put_failed(out, words, row, "writes"),
         ("Source", _) => runs::put_handed(out, row.text()),
         ("Filling", words) => runs::put_filled(out, words, row.text()),
         _ => runs::put_run(out, row),

@@ -5,13 +5,13 @@ use crs_group::{Catalogue, Placed};
 use crs_text::Refusal;
 use std::str;
 
-/// The answers of a catalogue's calls, one a part of the input, with `; ` between two: `add N TEXT`, `groups`, `lines N`,
+/// The answers of a catalogue's calls, one a line, with `; ` between two: `add N TEXT`, `groups`, `lines N`,
 /// `text N` and `refused`.
 pub fn put_catalogue(out: &mut Answer, row: &Row<'_>) {
     let mut catalogue = Catalogue::new(out.alloc(), row.level);
-    for index in 0..row.count() {
+    for (index, line) in row.text().split(|byte| *byte == b'\n').enumerate() {
         out.put(if index > 0 { "; " } else { "" });
-        put_call(out, &mut catalogue, row.part(index));
+        put_call(out, &mut catalogue, line);
     }
 }
 

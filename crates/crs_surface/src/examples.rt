@@ -48,9 +48,13 @@ fn put_keys(out: &mut Answer, row: &Row<'_>) {
     let mut cache = IndexMap::new(out.alloc());
     for index in 0..row.count() {
         match key::number_of(out.alloc(), &mut cache, row.part(index)) {
-            Ok(number) => write!(out, "entry {number}; "),
-            Err(fault) => write!(out, "{fault}; "),
+            Ok(number) => write!(out, "entry {number}"),
+            Err(fault) => {
+                let text = faults::told(out.alloc(), row.part(index), &fault);
+                put_made(out, text);
+            }
         }
+        out.put("; ");
     }
 }
 

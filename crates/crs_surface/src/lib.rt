@@ -31,7 +31,7 @@ pub use catalogues::{put_all, put_placed};
 pub use nodes::append_part;
 pub use pieces::{answer_of, fed, put_taken};
 pub use requests::put_request;
-pub use row::{Row, unusable};
+pub use row::{Row, parts_of, unusable};
 pub use runs::{Run, put_outcome, put_written};
 pub use streams::Page;
 pub use texts::put_read;

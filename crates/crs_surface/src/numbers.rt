@@ -5,7 +5,7 @@ use crs_decimal::{Decimal, NumberFault};
 use crs_text::Refusal;
 use std::str;
 
-/// `plain` and the plain spelling of the number that is read, or `fault` and its name.
+/// `plain` and the plain spelling of the number that is read, or `fault` and what it displays.
 pub fn put_plain(out: &mut Answer, input: &[u8]) {
     if let Some(number) = parsed(out, input) {
         out.put("plain ");
@@ -17,8 +17,7 @@ pub fn put_plain(out: &mut Answer, input: &[u8]) {
 fn parsed(out: &mut Answer, input: &[u8]) -> Option<Decimal> {
     match Decimal::parse(input) {
         Ok(number) => return Some(number),
-        Err(NumberFault::Malformed) => out.put("fault Malformed"),
-        Err(NumberFault::Range) => out.put("fault Range"),
+        Err(fault @ (NumberFault::Malformed | NumberFault::Range)) => write!(out, "fault {fault}"),
     }
     None
 }
@@ -65,14 +64,6 @@ pub fn put_appended(out: &mut Answer, row: &Row<'_>) {
         out.note(number.write(&mut text));
         out.put("text ");
         out.put_bytes(&text);
-    }
-}
-
-/// The displayed fault of a run that is no number in bounds; `none` where it is one.
-pub fn put_displayed(out: &mut Answer, input: &[u8]) {
-    match Decimal::parse(input) {
-        Ok(_number) => out.put("none"),
-        Err(fault) => write!(out, "{fault}"),
     }
 }
 

@@ -53,7 +53,8 @@ impl<'t> Row<'t> {
         for _turn in 0..count {
             self.input.extend_from_slice(text)?;
         }
-        self.ends.push(self.input.len())
+        self.ends.push(self.input.len())?;
+        Ok(())
     }
 
     /// All parts, one after the other.
@@ -74,6 +75,15 @@ impl<'t> Row<'t> {
         let end = self.ends.get(index).copied().unwrap_or(begin);
         self.input.get(begin..end).unwrap_or(&[])
     }
+}
+
+/// The parts of a row.
+pub fn parts_of<'r>(alloc: Global, row: &'r Row<'_>) -> Result<Vec<&'r [u8]>, AllocError> {
+    let mut parts = Vec::new(alloc);
+    for index in 0..row.count() {
+        parts.push(row.part(index))?;
+    }
+    Ok(parts)
 }
 
 /// The input is none of the call's.

@@ -1,13 +1,9 @@
 //! The calls on the shapes of texts.
-ghost use Rattle.crs_text.specs.Items.{HasId};
-
 use crate::answer::Answer;
 use crate::pieces::read_agreed;
 use crate::row::Row;
-use crs_shape::{
-    Class, Slot, class_in, class_of, fit, fit_root, keywords, known, root_class, slots, stands_as,
-};
-use crs_text::{ItemId, Items, read_items};
+use crs_shape::{Class, Slot, class_of, fit, fit_root, keywords, known, root_class, slots};
+use crs_text::read_items;
 
 /// `class` and the first keyword of the root's class, or the refusal of the text or of its shape; `another answer in
 /// pieces` where a cut into pieces gives one.
@@ -110,33 +106,5 @@ pub fn put_fit(out: &mut Answer, row: &Row<'_>) {
             Ok(()) => out.put("fits"),
             Err(refusal) => out.put_refusal(refusal),
         }
-    }
-}
-
-/// The classes of the arguments of a text's node in the class that the keywords of the part before it lead to, `none`
-/// for an argument that has none there; or the text's refusal.
-pub fn put_classes(out: &mut Answer, row: &Row<'_>) {
-    if let Some(class) = class_at(out, row.part(0))
-        && let Some(items) = out.accepted(read_items(out.alloc(), row.part(1)))
-    {
-        out.put("classes");
-        let root = items.root();
-        for i in 0..items.arg_count(root) {
-            if let Some(id) = items.arg(root, i) {
-                put_class_in(out, &items, id, class);
-            }
-        }
-    }
-}
-
-// An argument's class behind a blank; `another` where one call denies what the other says.
-fn put_class_in(out: &mut Answer, items: &Items<'_>, id: ItemId, parent: Class)
-    requires { HasId items.now id }
-{
-    out.put(" ");
-    match class_in(items, id, parent) {
-        None => out.put("none"),
-        Some(class) if stands_as(items, id, parent, class) => put_class_word(out, class),
-        Some(_) => out.put("another"),
     }
 }

@@ -1,10 +1,9 @@
 //! The calls on the values of texts.
 use crate::about::{about_crs, about_items, kind_word};
 use crate::answer::Answer;
-use crate::numbers::put_spelling;
 use crate::pieces::agree;
 use crs_text::{Fault, read_items};
-use crs_value::{Axis, Crs, Kind};
+use crs_value::Kind;
 use std::alloc::Global;
 
 /// `kind` and the kind of the CRS that a text spells, or its refusal; `another answer in pieces` where a cut into pieces
@@ -32,40 +31,4 @@ fn kind_told(alloc: Global, found: Result<Kind, Fault>) -> Answer {
         out.put(kind_word(kind));
     }
     out
-}
-
-/// The name, the order and the unit's name of the first axis of a vertical CRS, as they are written; `no axis` for
-/// another CRS.
-pub fn put_axis(out: &mut Answer, input: &[u8]) {
-    let asked = about_crs(out.alloc(), input, |crs| put_axis_of(out, crs));
-    out.accepted(asked);
-}
-
-fn put_axis_of(out: &mut Answer, crs: &Crs<'_>) {
-    match crs {
-        Crs::Vertical(vertical) => put_first_axis(out, vertical.system.axes.as_slice()),
-        Crs::Geodetic(_) | Crs::Projected(_) | Crs::Compound(_) => out.put("no axis"),
-    }
-}
-
-fn put_first_axis(out: &mut Answer, axes: &[Axis<'_>]) {
-    let [axis, ..] = axes else {
-        return out.put("no axis");
-    };
-    out.put("axis ");
-    out.put_bytes(axis.name);
-    match &axis.order {
-        Some(order) => {
-            out.put(", order ");
-            put_spelling(out, order);
-        }
-        None => out.put(", no order"),
-    }
-    match &axis.unit {
-        Some(unit) => {
-            out.put(", unit ");
-            out.put_bytes(unit.name);
-        }
-        None => out.put(", no unit"),
-    }
 }

@@ -16,7 +16,7 @@ macro_rules! put_node {
         $out.open($keyword);
         $(put_field!($out, $field $(, $how $(($word))?)?);)+
         $out.close();
-        let is_same: bool = $same($value, $value, Level::Full);
+        let is_same: bool = parts::$same($value, $value, Level::Full);
         $out.look($value, is_same, stringify!($kind));
     };
 }

@@ -76,7 +76,8 @@ impl<'t> Reader<'t> {
             "let" => {
                 let (name, text) = split_word(rest);
                 let text = self.text_of(text)?;
-                self.names.push((name, text))
+                self.names.push((name, text))?;
+                Ok(())
             }
             "table" => {
                 self.columns = rest;
@@ -120,6 +121,14 @@ impl<'t> Reader<'t> {
                 let (count, text) = split_word(rest);
                 let text = self.text_of(text)?;
                 self.row.add(count.parse().unwrap_or(0), &text)
+            }
+            "pieces" => {
+                let (size, text) = split_word(rest);
+                let text = self.text_of(text)?;
+                for piece in text.chunks(size.parse().unwrap_or(1)) {
+                    self.row.add(1, piece)?;
+                }
+                Ok(())
             }
             "output" => {
                 self.expected = self.text_of(rest)?;

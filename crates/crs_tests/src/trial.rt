@@ -28,8 +28,8 @@ pub struct Turn<'r, R> {
 }
 
 impl<'r, R: Print + AllocGlobal> Turn<'r, R> {
-    // Writes `call`: the call that is tried comes next.
-    fn begin(rt: &'r R) -> io::Result<Turn<'r, R>> {
+    /// Writes `call`: the call that is tried comes next.
+    pub fn begin(rt: &'r R) -> io::Result<Turn<'r, R>> {
         io::writer(rt).write_all(b"call\n")?;
         Ok(Turn {
             rt,
@@ -53,12 +53,23 @@ impl<'r, R: Print + AllocGlobal> Turn<'r, R> {
         &mut self.out
     }
 
-    // Prints that memory ran out, and whether all that the call was handed is as it was before: the same call comes next.
-    fn again(&mut self, is_kept: bool) -> io::Result<()> {
+    /// Whether memory ran out.
+    pub fn ran_out(&self) -> bool {
+        self.out.bytes().is_err()
+    }
+
+    /// Prints that memory ran out, and whether all that the call was handed is as it was before: the same call comes next.
+    pub fn again(&mut self, is_kept: bool) -> io::Result<()> {
         self.is_tried = false;
         self.out = Answer::new(self.rt.alloc());
         let kept = if is_kept { "yes" } else { "no" };
         println!(self.rt; "answer memory\nkept {kept}")
+    }
+
+    /// Puts these bytes, and prints the answer.
+    pub fn end_with(&mut self, bytes: &[u8]) -> io::Result<()> {
+        self.out.put_bytes(bytes);
+        self.print()
     }
 
     // Prints the answer; the error is that memory ran out, too.
@@ -76,7 +87,7 @@ impl<'r, R: Print + AllocGlobal> Turn<'r, R> {
 pub fn run_trial<T: Trial>(rt: &(impl Print + AllocGlobal), trial: &mut T) -> io::Result<()> {
     let mut turn = Turn::begin(rt)?;
     trial.call(&mut turn);
-    if turn.out.bytes().is_err() {
+    if turn.ran_out() {
         turn.again(trial.is_kept(rt.alloc())?)?;
         trial.call(&mut turn);
     }
@@ -92,7 +103,7 @@ pub fn run_call<R: Print + AllocGlobal, C: FnMut(&mut Turn<'_, R>) + Drop>(
 {
     let mut turn = Turn::begin(rt)?;
     call(&mut turn);
-    if turn.out.bytes().is_err() {
+    if turn.ran_out() {
         turn.again(true)?;
         call(&mut turn);
     }

@@ -1,12 +1,6 @@
 //! The values of texts: CRSs, frames, systems, conversions and the ends of CRSs.
 use super::{Text, Written};
-use crs_same::parts::{
-    same_axis, same_axis_meridian, same_base, same_box, same_compound, same_conversion, same_datum,
-    same_deformation_model, same_dynamic, same_ellipsoid, same_ensemble, same_extent, same_frame,
-    same_geodetic, same_geoid_model, same_horizontal, same_ident, same_member, same_meridian,
-    same_method, same_parameter, same_projected, same_unit, same_usage, same_vertical,
-};
-use crs_same::same;
+use crs_same::{parts, same};
 use crs_value::{
     Axis, AxisMeridian, Base, BoundingBox, Compound, Conversion, Crs, Datum, DeformationModel,
     Dynamic, Ellipsoid, Ensemble, Extent, Frame, Geodetic, GeoidModel, Horizontal, Ident, Level,
@@ -75,7 +69,11 @@ impl Written for Horizontal<'_> {
             Horizontal::Geodetic(crs) => crs.put(out),
             Horizontal::Projected(crs) => crs.put(out),
         }
-        out.look(self, same_horizontal(self, self, Level::Full), "Horizontal");
+        out.look(
+            self,
+            parts::same_horizontal(self, self, Level::Full),
+            "Horizontal",
+        );
     }
 }
 
@@ -85,7 +83,7 @@ impl Written for Frame<'_> {
             Frame::Datum(datum) => datum.put(out),
             Frame::Ensemble(ensemble) => ensemble.put(out),
         }
-        out.look(self, same_frame(self, self, Level::Full), "Frame");
+        out.look(self, parts::same_frame(self, self, Level::Full), "Frame");
     }
 }
 
@@ -226,7 +224,7 @@ impl Written for Usage<'_> {
         out.open("USAGE");
         out.parts(self);
         out.close();
-        out.look(self, same_usage(self, self, Level::Full), "Usage");
+        out.look(self, parts::same_usage(self, self, Level::Full), "Usage");
     }
 }
 

@@ -1,6 +1,6 @@
 //! Calls that read the items of a text, as a whole and in pieces.
 use crate::trial::{Trial, Turn, run_call, run_trial};
-use crs_surface::{Answer, Row, answer_of, put_read, put_taken};
+use crs_surface::{Row, answer_of, fed, parts_of, put_read, put_taken};
 use crs_text::{Fault, Feeder, read_items};
 use std::alloc::{AllocError, Global};
 use std::io;
@@ -9,7 +9,7 @@ use std::io;
 #[derive(Drop)]
 struct Feed<'p, 't> {
     feeder: Feeder,
-    row: &'p Row<'t>,
+    pieces: &'p [&'t [u8]],
     count: usize,
 }
 
@@ -26,7 +26,7 @@ impl Trial for Feed<'_, '_> {
 
     // Whether the feeder holds what one does that was fed the pieces before the refused one, and nothing else.
     fn is_kept(&self, alloc: Global) -> Result<bool, AllocError> {
-        let before = fed(alloc, self.row, self.count)?;
+        let before = fed(alloc, self.pieces.get(..self.count).unwrap_or(&[]))?;
         answer_of(before.finish(), alloc).is(&answer_of(self.feeder.finish(), alloc))
     }
 }
@@ -35,32 +35,14 @@ impl Feed<'_, '_> {
     // What the last piece is answered. After out of memory the refused piece is the next one again.
     fn feed(&mut self) -> Result<(), Fault> {
         let mut taken = Ok(());
-        for index in self.count..self.row.count() {
-            taken = self.feeder.feed(self.row.part(index));
+        for piece in self.pieces.iter().skip(self.count) {
+            taken = self.feeder.feed(piece);
             if let Err(Fault::Memory(_)) = &taken {
                 return taken;
             }
             self.count = self.count.saturating_add(1);
         }
         taken
-    }
-}
-
-// `Feeder::finish`, and what it answered before.
-#[derive(Drop)]
-struct Finish<'f> {
-    feeder: &'f Feeder,
-    before: Answer,
-}
-
-impl Trial for Finish<'_> {
-    fn call<R: Print + AllocGlobal>(&mut self, turn: &mut Turn<'_, R>) {
-        let read = self.feeder.finish();
-        put_read(turn.end(), read);
-    }
-
-    fn is_kept(&self, alloc: Global) -> Result<bool, AllocError> {
-        answer_of(self.feeder.finish(), alloc).is(&self.before)
     }
 }
 
@@ -74,28 +56,21 @@ pub fn try_read(rt: &(impl Print + AllocGlobal), text: &[u8]) -> io::Result<()> 
 
 /// `Feeder::feed` of each piece in turn, after so many others.
 pub fn try_feed(rt: &(impl Print + AllocGlobal), row: &Row<'_>, count: usize) -> io::Result<()> {
-    let feeder = fed(rt.alloc(), row, count)?;
-    run_trial(rt, &mut Feed { feeder, row, count })
+    let pieces = parts_of(rt.alloc(), row)?;
+    let feeder = fed(rt.alloc(), pieces.get(..count).unwrap_or(&[]))?;
+    let mut feed = Feed {
+        feeder,
+        pieces: &pieces,
+        count,
+    };
+    run_trial(rt, &mut feed)
 }
 
 /// `Feeder::finish` after all pieces.
 pub fn try_finish(rt: &(impl Print + AllocGlobal), row: &Row<'_>) -> io::Result<()> {
-    let feeder = fed(rt.alloc(), row, row.count())?;
-    let before = answer_of(feeder.finish(), rt.alloc());
-    let mut finish = Finish {
-        feeder: &feeder,
-        before,
-    };
-    run_trial(rt, &mut finish)
-}
-
-// A feeder of so many pieces; `finish` answers the refusal of one again.
-fn fed(alloc: Global, row: &Row<'_>, count: usize) -> Result<Feeder, AllocError> {
-    let mut feeder = Feeder::new(alloc);
-    for index in 0..count {
-        if let Err(Fault::Memory(error)) = feeder.feed(row.part(index)) {
-            return Err(error);
-        }
-    }
-    Ok(feeder)
+    let feeder = fed(rt.alloc(), &parts_of(rt.alloc(), row)?)?;
+    run_call(rt, |turn| {
+        let read = feeder.finish();
+        put_read(turn.end(), read);
+    })
 }
