@@ -101,7 +101,10 @@ impl<'t> Reader<'t> {
         self.expected.clear();
         self.is_readable = true;
         for (column, field) in self.columns.split(" | ").zip(fields) {
-            self.add(column, field)?;
+            match split_word(column) {
+                (key, "") => self.add(key, field)?,
+                (key, count) => self.add_many(key, count, field)?,
+            }
         }
         Ok(())
     }
@@ -117,18 +120,9 @@ impl<'t> Reader<'t> {
                 let text = self.text_of(rest)?;
                 self.row.add(1, &text)
             }
-            "times" => {
+            "times" | "pieces" => {
                 let (count, text) = split_word(rest);
-                let text = self.text_of(text)?;
-                self.row.add(count.parse().unwrap_or(0), &text)
-            }
-            "pieces" => {
-                let (size, text) = split_word(rest);
-                let text = self.text_of(text)?;
-                for piece in text.chunks(size.parse().unwrap_or(1)) {
-                    self.row.add(1, piece)?;
-                }
-                Ok(())
+                self.add_many(key, count, text)
             }
             "output" => {
                 self.expected = self.text_of(rest)?;
@@ -139,6 +133,18 @@ impl<'t> Reader<'t> {
                 Ok(())
             }
         }
+    }
+
+    // A text so many times, or in pieces of so many bytes.
+    fn add_many(&mut self, key: &str, count: &str, text: &str) -> Result<(), AllocError> {
+        let text = self.text_of(text)?;
+        if key == "times" {
+            return self.row.add(count.parse().unwrap_or(0), &text);
+        }
+        for piece in text.chunks(count.parse().unwrap_or(1).max(1)) {
+            self.row.add(1, piece)?;
+        }
+        Ok(())
     }
 
     // The bytes that a text means: `\n`, `\r`, `\t`, `\\`, `\xhh` and `\{NAME}`, every other character for itself.
