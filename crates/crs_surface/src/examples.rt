@@ -1,21 +1,16 @@
 //! The library's calls, task by task, over the parts of a row. `docs/CALLING.md` shows functions of the other files as they
 //! are here.
-mod catalogue;
 mod difference;
 mod ellipsoid;
 mod faults;
 mod key;
-mod pieces;
 
-use crate::about::kind_word;
 use crate::answer::Answer;
 use crate::row::Row;
-use crs_text::Fault;
-use crs_value::Kind;
 use indexmap::IndexMap;
 use std::alloc::{AllocError, Global};
 
-/// What an example answers for each part, with `; ` between two, or for the two parts, or for the lines of a catalogue.
+/// What an example answers for each part, with `; ` between two, or for the two parts.
 pub fn put_example(out: &mut Answer, row: &Row<'_>, name: &str) {
     let alloc = out.alloc();
     match name {
@@ -23,14 +18,10 @@ pub fn put_example(out: &mut Answer, row: &Row<'_>, name: &str) {
             Ok(text) => out.put(text.as_str()),
             Err(fault) => write!(out, "{fault}"),
         },
-        "catalogue" => {
-            let text = catalogue::groups_of(alloc, row.text());
-            put_made(out, text);
-        }
         "key" => put_keys(out, row),
         _ => {
             for index in 0..row.count() {
-                let text = told(alloc, row.part(index), name);
+                let text = told(alloc, row.part(index));
                 put_made(out, text);
                 out.put("; ");
             }
@@ -58,19 +49,10 @@ fn put_keys(out: &mut Answer, row: &Row<'_>) {
     }
 }
 
-fn told(alloc: Global, text: &[u8], name: &str) -> Result<String, AllocError> {
-    let found = match name {
-        "ellipsoid" => ellipsoid::flattening_of(alloc, text),
-        _ => pieces::kind_in_pieces(alloc, text).and_then(|kind| named(alloc, kind)),
-    };
-    match found {
-        Ok(Some(text)) => Ok(text),
+fn told(alloc: Global, text: &[u8]) -> Result<String, AllocError> {
+    match ellipsoid::flattening_of(alloc, text) {
+        Ok(Some(digits)) => Ok(digits),
         Ok(None) => String::from_str(alloc, "none"),
         Err(fault) => faults::told(alloc, text, &fault),
     }
-}
-
-fn named(alloc: Global, kind: Kind) -> Result<Option<String>, Fault> {
-    let name = String::from_str(alloc, kind_word(kind));
-    name.map(Some).map_err(Fault::Memory)
 }

@@ -129,18 +129,13 @@ impl<'t> Run<'t> {
 pub fn put_outcome(out: &mut Answer, outcome: &Result<Outcome, RunFault>) {
     match outcome {
         Ok(Status(status)) => write!(out, "status {status}"),
-        Ok(
-            Groups(
-                Summary {
-                    lines,
-                    blank,
-                    refused,
-                    groups,
-                },
-            ),
-        ) => {
-            write!(out, "lines {lines}, blank {blank}");
-            write!(out, ", refused {refused}, groups {groups}");
+        Ok(Groups(counts)) => {
+            write!(out, "lines {}, blank {}", counts.lines, counts.blank);
+            write!(
+                out,
+                ", refused {}, groups {}",
+                counts.refused, counts.groups
+            );
         }
         Err(RunFault::Memory) => out.note(Err(AllocError)),
         Err(fault) => write!(out, "fault {fault}"),

@@ -64,7 +64,6 @@ fn axes_of<'a>(first: &Crs<'a>, second: &Crs<'a>, level: Level) -> &'static str 
 fn axes_told<'a>(first: &[Axis<'a>], second: &[Axis<'a>], level: Level) -> &'static str {
     match (first, second) {
         ([x, ..], [y, ..]) if same_axis(x, y, level) && same_axis(y, x, level) => "same",
-        ([_x, ..], [_y, ..]) => "different",
-        _ => "no axes",
+        _ => "different",
     }
 }

@@ -61,7 +61,8 @@ pub fn put_keywords(out: &mut Answer, input: &[u8]) {
 pub fn put_slots(out: &mut Answer, input: &[u8]) {
     if let Some(class) = class_at(out, input) {
         out.put("slots");
-        for slot in slots(class) {
+        let slots: &'static [Slot] = slots(class);
+        for slot in slots {
             out.put(" ");
             put_slot(out, slot);
         }
@@ -69,7 +70,8 @@ pub fn put_slots(out: &mut Answer, input: &[u8]) {
 }
 
 fn put_slot(out: &mut Answer, slot: &Slot) {
-    for (index, class) in slot.classes().iter().enumerate() {
+    let classes: &'static [Class] = slot.classes();
+    for (index, class) in classes.iter().enumerate() {
         if index > 0 {
             out.put("|");
         }

@@ -120,7 +120,8 @@ fn put_cell(out: &mut Answer, items: &Items<'_>, id: ItemId, column: &str) -> Op
     requires { HasId items.now id }
 {
     match column {
-        "places" => write!(out, "{}", items.place(id)),
+        "places" if items.contains(id) => write!(out, "{}", items.place(id)),
+        "places" => return None,
         "closes" => write!(out, "{}", items.close(id)?),
         "numbers" => put_spelling(out, &items.number(id)?),
         "sizes" => write!(out, "{}", items.size(id)),
