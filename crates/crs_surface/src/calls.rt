@@ -1,6 +1,6 @@
 //! From the name of a call to its answer.
 use crate::answer::Answer;
-use crate::examples::put_example;
+use crate::examples::{put_difference, put_keys};
 use crate::failures::put_failed;
 use crate::nodes::put_part;
 use crate::row::Row;
@@ -47,7 +47,8 @@ fn put_answer_of_words(out: &mut Answer, row: &Row<'_>) {
     match row.call.split_once(' ').unwrap_or((row.call, "")) {
         ("write", part) => put_part(out, row, part),
         ("written", how) => put_whole(out, row, how),
-        ("example", name) => put_example(out, row, name),
+        ("example", "key") => put_keys(out, row),
+        ("example", _) => put_difference(out, row),
         ("Catalogue", _) => catalogues::put_catalogue(out, row),
         ("failed_reads", words) => put_failed(out, words, row, "reads"),
         ("failed_writes", words) => put_failed(out, words, row, "writes"),

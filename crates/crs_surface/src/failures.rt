@@ -45,17 +45,16 @@ fn is_left(run: Run<'_>, written: &[u8], whole: &[u8]) -> bool {
 }
 
 fn is_failed_read(done: &Done, nth: u32) -> bool {
-    let ended = &done.ended;
-    matches!(ended.outcome, Err(RunFault::ReadFailed))
-        && ended.reads == u64::from(nth)
-        && ended.source_failed
-        && !ended.sink_failed
+    matches!(done.outcome, Err(RunFault::ReadFailed))
+        && done.reads == u64::from(nth)
+        && done.source_failed
+        && !done.sink_failed
 }
 
 // Whether a write failed after others, which took so many bytes of the whole answer at least.
 fn is_failed_write(done: &Done, least: usize, whole: &[u8]) -> bool {
-    matches!(done.ended.outcome, Err(RunFault::WriteFailed))
-        && done.ended.sink_failed
+    matches!(done.outcome, Err(RunFault::WriteFailed))
+        && done.sink_failed
         && done.written.len() >= least
         && whole.starts_with(&done.written)
 }

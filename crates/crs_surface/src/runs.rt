@@ -41,21 +41,14 @@ pub enum Outcome {
     Groups(Summary),
 }
 
-/// How a run ended.
+/// What a run did.
 #[derive(Drop)]
-pub struct Ended {
+pub struct Done {
     pub outcome: Result<Outcome, RunFault>,
     /// How often it has read.
     pub reads: u64,
     pub source_failed: bool,
     pub sink_failed: bool,
-}
-
-/// What a run did.
-#[derive(Drop)]
-pub struct Done {
-    pub ended: Ended,
-    /// What it wrote.
     pub written: Vec<u8>,
 }
 
@@ -90,13 +83,13 @@ impl<'t> Run<'t> {
     /// What the run does.
     pub fn done(self, alloc: Global) -> Done {
         let mut page = Page::new(alloc, self.manner);
-        let ended = self.fill(alloc, &mut page);
-        let written = page.written;
-        Done { ended, written }
+        let mut done = self.fill(alloc, &mut page);
+        done.written = page.written;
+        done
     }
 
-    /// Runs the command onto a page; a text that it reads is read in the run's manner.
-    pub fn fill(self, alloc: Global, page: &mut Page) -> Ended {
+    /// Runs the command onto a page, which has what is written; a text that it reads is read in the run's manner.
+    pub fn fill(self, alloc: Global, page: &mut Page) -> Done {
         let level = self.level;
         let [text, second] = self.texts;
         let mut source = Source::new(Pieces::new(text, self.manner));
@@ -116,16 +109,17 @@ impl<'t> Run<'t> {
             Command::Group => run_group(alloc, level, &mut source, &mut sink).map(Groups),
             Command::Same => run_same(alloc, level, text, second, &mut sink).map(Status),
         };
-        Ended {
+        Done {
             outcome,
             reads: u64::from(source.reads()).saturating_add(stream.reads()),
             source_failed: source.failed() || stream.failed(),
             sink_failed: sink.failed(),
+            written: Vec::new(alloc),
         }
     }
 }
 
-/// How a run ended.
+/// How a run done.
 pub fn put_outcome(out: &mut Answer, outcome: &Result<Outcome, RunFault>) {
     match outcome {
         Ok(Status(status)) => write!(out, "status {status}"),
@@ -152,15 +146,14 @@ pub fn put_run(out: &mut Answer, row: &Row<'_>) {
 
 /// What a run did: how it ended, the count of its reads, which of source and sink has failed, and what it wrote.
 pub fn put_done(out: &mut Answer, done: &Done) {
-    let ended = &done.ended;
-    put_outcome(out, &ended.outcome);
-    write!(out, ", reads {}", ended.reads);
-    out.put(if ended.source_failed {
+    put_outcome(out, &done.outcome);
+    write!(out, ", reads {}", done.reads);
+    out.put(if done.source_failed {
         ", source failed"
     } else {
         ""
     });
-    out.put(if ended.sink_failed {
+    out.put(if done.sink_failed {
         ", sink failed"
     } else {
         ""

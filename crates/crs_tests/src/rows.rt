@@ -33,7 +33,6 @@ struct Reader<'t> {
     case: &'t str,
     row: Row<'t>,
     expected: Vec<u8>,
-    is_readable: bool,
     rows: u64,
     differ: u64,
 }
@@ -47,13 +46,12 @@ impl<'t> Reader<'t> {
             case: "",
             row: Row::new(alloc),
             expected: Vec::new(alloc),
-            is_readable: true,
             rows: 0,
             differ: 0,
         }
     }
 
-    // Asks what the case asks, where there is one; one with a line that can't be read differs.
+    // Asks what the case asks, where there is one.
     fn finish(&mut self, rt: &(impl Print + AllocGlobal)) -> io::Result<()> {
         if self.case.is_empty() {
             return Ok(());
@@ -61,7 +59,7 @@ impl<'t> Reader<'t> {
         let mut came = Answer::new(rt.alloc());
         put_answer(&mut came, &self.row);
         self.rows = self.rows.saturating_add(1);
-        if !self.is_readable || came.bytes()? != self.expected.as_slice() {
+        if came.bytes()? != self.expected.as_slice() {
             self.differ = self.differ.saturating_add(1);
             let case = self.case;
             println!(rt; "{case}:")?;
@@ -77,20 +75,16 @@ impl<'t> Reader<'t> {
                 let (name, text) = split_word(rest);
                 let text = self.text_of(text)?;
                 self.names.push((name, text))?;
-                Ok(())
             }
             "table" => {
                 self.columns = rest;
                 self.table_call = "";
-                Ok(())
             }
-            "case" => self.read_case(rest),
-            "call" if self.case.is_empty() => {
-                self.table_call = rest;
-                Ok(())
-            }
-            _ => self.add(key, rest),
+            "case" => self.read_case(rest)?,
+            "call" if self.case.is_empty() => self.table_call = rest,
+            _ => self.add(key, rest)?,
         }
+        Ok(())
     }
 
     fn read_case(&mut self, rest: &'t str) -> Result<(), AllocError> {
@@ -99,7 +93,6 @@ impl<'t> Reader<'t> {
         self.row = Row::new(*self.expected.allocator());
         self.row.set_call(self.table_call);
         self.expected.clear();
-        self.is_readable = true;
         for (column, field) in self.columns.split(" | ").zip(fields) {
             match split_word(column) {
                 (key, "") => self.add(key, field)?,
@@ -111,28 +104,18 @@ impl<'t> Reader<'t> {
 
     fn add(&mut self, key: &str, rest: &'t str) -> Result<(), AllocError> {
         match key {
-            "" | "#" => Ok(()),
-            "call" => {
-                self.row.set_call(rest);
-                Ok(())
-            }
-            "input" => {
-                let text = self.text_of(rest)?;
-                self.row.add(1, &text)
-            }
+            "" | "#" => (),
+            "call" => self.row.set_call(rest),
+            "input" => self.add_many("times", "1", rest)?,
             "times" | "pieces" => {
                 let (count, text) = split_word(rest);
-                self.add_many(key, count, text)
+                self.add_many(key, count, text)?;
             }
-            "output" => {
-                self.expected = self.text_of(rest)?;
-                Ok(())
-            }
-            _ => {
-                self.is_readable = false;
-                Ok(())
-            }
+            "output" => self.expected = self.text_of(rest)?,
+            // no call is named so
+            _ => self.row.set_call("none"),
         }
+        Ok(())
     }
 
     // A text so many times, or in pieces of so many bytes.

@@ -22,16 +22,9 @@ impl Written for Crs<'_> {
 
 impl Written for Geodetic<'_> {
     fn put(&self, out: &mut Text) {
-        put_node!(self, out, same_geodetic, geodetic_keyword(system.system_type) => Geodetic {
+        put_node!(self, out, same_geodetic, match system.system_type { SystemType::Ellipsoidal => "GEOGCRS", _ => "GEODCRS" } => Geodetic {
             name, dynamic, frame, meridian, system, tail
         });
-    }
-}
-
-fn geodetic_keyword(system_type: SystemType) -> &'static str {
-    match system_type {
-        SystemType::Ellipsoidal => "GEOGCRS",
-        SystemType::Cartesian | SystemType::Spherical | SystemType::Vertical => "GEODCRS",
     }
 }
 
@@ -89,17 +82,10 @@ impl Written for Frame<'_> {
 
 impl Written for Datum<'_> {
     fn put(&self, out: &mut Text) {
-        put_node!(self, out, same_datum, datum_keyword(ellipsoid) => Datum {
+        put_node!(self, out, same_datum, match ellipsoid { Some(_) => "DATUM", None => "VDATUM" } => Datum {
             name, ellipsoid, anchor: optional_node("ANCHOR"),
             anchor_epoch: optional_node("ANCHOREPOCH"), identifiers
         });
-    }
-}
-
-fn datum_keyword(ellipsoid: &Option<Ellipsoid<'_>>) -> &'static str {
-    match ellipsoid {
-        Some(_ellipsoid) => "DATUM",
-        None => "VDATUM",
     }
 }
 
