@@ -119,7 +119,7 @@ impl<'t> Run<'t> {
     }
 }
 
-/// How a run done.
+/// How a run ended.
 pub fn put_outcome(out: &mut Answer, outcome: &Result<Outcome, RunFault>) {
     match outcome {
         Ok(Status(status)) => write!(out, "status {status}"),
