@@ -67,7 +67,7 @@ fn about_second<'t, A, Q: FnOnce(&Crs<'t>, &Crs<'t>) -> A + Drop>(
     }
 }
 
-/// What is answered of a value. It doesn't know the type: a function that owns a large one is slow to prove.
+/// What is answered of a value, whose type it doesn't know.
 pub fn about_value<T: Drop, A, Q: FnOnce(&T) -> A + Drop>(value: T, question: Q) -> A
     requires { Q.IsAlwaysCallable question }
 {

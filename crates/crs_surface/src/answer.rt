@@ -100,9 +100,8 @@ impl Answer {
 
     /// Puts `refused`, the number, the name and the place.
     pub fn put_refusal(&mut self, refusal: Refusal) {
-        let number = refusal.number();
-        let name = refusal.name();
-        let place = refusal.place();
+        let (number, place): (u8, usize) = (refusal.number(), refusal.place());
+        let name: &'static str = refusal.name();
         write!(self, "refused {number} {name} at {place}");
     }
 }

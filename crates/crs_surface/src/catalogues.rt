@@ -55,9 +55,7 @@ pub fn put_placed(out: &mut Answer, placed: Placed) {
 }
 
 fn put_refusal(out: &mut Answer, refusal: Refusal) {
-    let number = refusal.number();
-    let place = refusal.place();
-    write!(out, "{number} at {place}");
+    write!(out, "{} at {}", refusal.number(), refusal.place());
 }
 
 // The lines of a group; `none` where there is no such group.
@@ -73,10 +71,7 @@ fn put_lines(out: &mut Answer, lines: Option<&[u64]>) {
 
 // The text of a group; `none` where there is no such group.
 fn put_group_text(out: &mut Answer, text: Option<&[u8]>) {
-    match text {
-        Some(text) => out.put_bytes(text),
-        None => out.put("none"),
-    }
+    out.put_bytes(text.unwrap_or(b"none"));
 }
 
 // The lines that were refused.

@@ -148,16 +148,12 @@ pub fn put_run(out: &mut Answer, row: &Row<'_>) {
 pub fn put_done(out: &mut Answer, done: &Done) {
     put_outcome(out, &done.outcome);
     write!(out, ", reads {}", done.reads);
-    out.put(if done.source_failed {
-        ", source failed"
-    } else {
-        ""
-    });
-    out.put(if done.sink_failed {
-        ", sink failed"
-    } else {
-        ""
-    });
+    if done.source_failed {
+        out.put(", source failed");
+    }
+    if done.sink_failed {
+        out.put(", sink failed");
+    }
     put_written(out, &done.written);
 }
 

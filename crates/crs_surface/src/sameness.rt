@@ -41,12 +41,8 @@ fn put_compared(out: &mut Answer, forth: &(bool, Option<Path>), back: &(bool, Op
 /// Whether the first axes of two vertical CRSs are the same by themselves; `no axes` for other ones.
 pub fn put_same_axis(out: &mut Answer, row: &Row<'_>) {
     let level = row.level;
-    let asked = about_both(
-        out.alloc(),
-        row.part(0),
-        row.part(1),
-        |a, b| axes_of(a, b, level),
-    );
+    let (first, second) = (row.part(0), row.part(1));
+    let asked = about_both(out.alloc(), first, second, |a, b| axes_of(a, b, level));
     if let Some(told) = out.accepted(asked) {
         out.put(told);
     }

@@ -18,8 +18,8 @@ pub struct Manner {
     pub takes: usize,
     /// The write that fails, counted from 1; none where it is 0.
     pub stops_at: u32,
-    /// Whether what fails is interrupted.
-    pub is_interrupted: bool,
+    /// How it fails.
+    pub failure: ErrorKind,
 }
 
 impl Manner {
@@ -31,13 +31,13 @@ impl Manner {
             is_endless: false,
             takes: usize::MAX,
             stops_at: 0,
-            is_interrupted: false,
+            failure: ErrorKind::BrokenPipe,
         };
         for word in words.split(' ') {
             match (word, word.split_once('=')) {
                 ("", _) => (),
                 ("endless", _) => manner.is_endless = true,
-                ("interrupted", _) => manner.is_interrupted = true,
+                ("interrupted", _) => manner.failure = ErrorKind::Interrupted,
                 (_, Some(("pieces", count))) => manner.piece = count.parse().ok()?,
                 (_, Some(("fails", count))) => manner.fails_at = count.parse().ok()?,
                 (_, Some(("takes", count))) => manner.takes = count.parse().ok()?,
@@ -46,14 +46,6 @@ impl Manner {
             }
         }
         Some(manner)
-    }
-
-    fn failure(&self) -> io::Error {
-        io::Error::from(if self.is_interrupted {
-            ErrorKind::Interrupted
-        } else {
-            ErrorKind::BrokenPipe
-        })
     }
 }
 
@@ -81,7 +73,7 @@ impl Read for Pieces<'_> {
     fn read(&mut self, buf: &mut [u8]) -> io::Result<usize> {
         self.calls = self.calls.saturating_add(1);
         if self.calls == self.manner.fails_at {
-            return Err(self.manner.failure());
+            return Err(io::Error::from(self.manner.failure));
         }
         if self.left.is_empty() && self.manner.is_endless {
             self.left = self.text;
@@ -117,7 +109,7 @@ impl Write for Page {
     fn write(&mut self, buf: &[u8]) -> io::Result<usize> {
         self.calls = self.calls.saturating_add(1);
         if self.calls == self.manner.stops_at {
-            return Err(self.manner.failure());
+            return Err(io::Error::from(self.manner.failure));
         }
         let count = buf.len().min(self.manner.takes);
         self.written.extend_from_slice(&buf[..count])?;

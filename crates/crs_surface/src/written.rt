@@ -128,11 +128,6 @@ impl Text {
             self.node(keyword, part);
         }
     }
-
-    // A part that is of its own type, and in no box.
-    fn part<T: Written>(&mut self, part: &T) {
-        part.put(self);
-    }
 }
 
 // A text, in quotes.

@@ -52,7 +52,7 @@ impl Written for Vertical<'_> {
 
 impl Written for Compound<'_> {
     fn put(&self, out: &mut Text) {
-        put_node!(self, out, same_compound, "COMPOUNDCRS" => Compound { name, horizontal: part, vertical, tail });
+        put_node!(self, out, same_compound, "COMPOUNDCRS" => Compound { name, horizontal, vertical, tail });
     }
 }
 
