@@ -4,9 +4,6 @@ use crate::row::Row;
 use crate::runs::{Done, Run, put_done};
 use crs_group::RunFault;
 
-// No row reads or writes more often.
-const MOST: u32 = 10_000;
-
 /// Runs a command with its first read failing, then its second, and so on, or its writes. A run whose read fails must end with
 /// `ReadFailed` by this read, with nothing written, or with the first whole lines of the answer where lines are answered as
 /// they come; one whose write fails with `WriteFailed` and a front of the answer, which is longer with each write. How many
@@ -18,7 +15,8 @@ pub fn put_failed(out: &mut Answer, words: &str, row: &Row<'_>, what: &str) {
     let whole = run.done(out.alloc());
     let is_of_reads = what == "reads";
     let mut least: usize = 0;
-    for nth in 1..MOST {
+    // No row reads or writes more often.
+    for nth in 1..10_000 {
         if is_of_reads {
             run.manner.fails_at = nth;
         } else {

@@ -167,18 +167,15 @@ pub fn put_written(out: &mut Answer, written: &[u8]) {
     }
 }
 
-// No row fills its room more often.
-const MOST: u32 = 8;
-
 /// What a reader that fills its room, of 8 bytes, gives of an input that is read in the manner of the words, up to its
-/// end: the bytes of each read in brackets, `failure` for one that failed.
+/// end or its eighth read: the bytes of each read in brackets, `failure` for one that failed.
 pub fn put_filled(out: &mut Answer, words: &str, input: &[u8]) {
     let Some(manner) = Manner::read(words) else {
         return out.put("no such reader");
     };
     let mut reader = Filling::new(Pieces::new(input, manner));
     let mut room = [0; 8];
-    for _turn in 0..MOST {
+    for _turn in 0..8 {
         match reader.read(&mut room) {
             Ok(0) => return out.put("end"),
             Ok(count) => {

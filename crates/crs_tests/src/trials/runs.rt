@@ -4,9 +4,6 @@ use crs_surface::{Page, Row, Run, put_outcome, put_written, unusable};
 use std::alloc::{AllocError, Global};
 use std::io;
 
-// No row writes more bytes.
-const ROOM: usize = 65_536;
-
 // The run of a command, onto a page that has room for what is written.
 #[derive(Drop)]
 struct Filled<'t> {
@@ -36,6 +33,7 @@ pub fn try_run(rt: &(impl Print + AllocGlobal), row: &Row<'_>) -> io::Result<()>
         return Err(unusable());
     };
     let mut page = Page::new(rt.alloc(), run.manner);
-    page.written.reserve(ROOM)?;
+    // No row writes more bytes.
+    page.written.reserve(65_536)?;
     run_trial(rt, &mut Filled { run, page })
 }
