@@ -11,10 +11,6 @@ use crs_surface::Row;
 use std::env;
 use std::io::Read;
 
-const FILES: [&str; 7] = [
-    "numbers", "texts", "shapes", "values", "sameness", "streams", "examples",
-];
-
 fn main(rt: HostRuntime) -> Result<()> {
     let words: Vec<String> = env::args(&rt)?.collect(rt.alloc())?;
     if words.len() > 1 {
@@ -23,7 +19,7 @@ fn main(rt: HostRuntime) -> Result<()> {
         trials::try_call(&rt, &Row::of(rt.alloc(), &bytes)?)?;
         return Ok(());
     }
-    for name in FILES {
+    for name in "numbers texts shapes values sameness streams examples".split(' ') {
         rows::run_file(&rt, name)?;
     }
     Ok(())
