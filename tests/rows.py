@@ -10,6 +10,7 @@ a line '# REASON' or more, and then, each in its own line and as far as needed:
                      the values of a difference; its name ends in '-exchanged'
     input TEXT       a part of standard input; no line end is added
     times N TEXT     the same, N times over
+    pieces N TEXT    the same in parts of N bytes each, the last of which may have fewer
     input-file PATH  the same of a file of the repository
     input-by-lines   a read gives one line of standard input, as a pipe does that is written slowly
     input-in-turn    each line of standard input is written when a line of output has come for the one before
@@ -24,6 +25,11 @@ a line '# REASON' or more, and then, each in its own line and as far as needed:
     status N         the exit status
     error TEXT       a line of standard error, with its LF; none: with status 2 it isn't compared, else nothing is written
     error-none       nothing is written on standard error
+
+In place of words and a status a case may have one call of a crate, for a program that makes it (test_growths.py):
+
+    call WORDS       the call, whose inputs are the parts and whose answer is the output
+    no-growth        it takes no memory; without this line it must take some
 
 Cases of one form are rows of a table. It begins with a line 'table COLUMN | COLUMN | ..' and with the lines that all its
 rows have. A row is a line 'case NAME | FIELD | FIELD | ..': a case with these lines and, for each field, with the line of
@@ -58,7 +64,7 @@ PLAIN = {b"n": b"\n", b"r": b"\r", b"t": b"\t", b"\\": b"\\"}
 # A line that tells a difference: its path, in which the name of a member may have any characters, and both values.
 TOLD = re.compile(rb'^([^:\[\n]*(?:\["(?:[^"\n]|"")*"\][^:\n]*)?): (.*) \| (.*)$', re.MULTILINE)
 FLAGS = set(b"exchanged input-by-lines input-in-turn input-unreadable output-any output-full output-closed".split())
-FLAGS.add(b"error-none")
+FLAGS |= {b"error-none", b"no-growth"}
 OTHER_SIDE = {b"first": b"second", b"second": b"first"}
 
 
@@ -72,7 +78,8 @@ class Case:
     has_reason: bool = False
     commands: List[bytes] = dataclasses.field(default_factory=list)
     words: List[bytes] = dataclasses.field(default_factory=list)
-    input: bytes = b""
+    call: bytes = b""
+    parts: List[bytes] = dataclasses.field(default_factory=list)
     files: Dict[bytes, bytes] = dataclasses.field(default_factory=dict)
     flags: Set[bytes] = dataclasses.field(default_factory=set)
     output: Optional[bytes] = b""
@@ -81,6 +88,10 @@ class Case:
 
     def __str__(self) -> str:
         return f"{self.place}-{self.name}"
+
+    @property
+    def input(self) -> bytes:
+        return b"".join(self.parts)
 
     @property
     def asks(self) -> bool:
@@ -116,12 +127,17 @@ class Case:
             self.words += map(self.text, rest.split(b" "))
         elif key == b"commands":
             self.commands = rest.split(b" ")
+        elif key == b"call":
+            self.call, self.status = rest, 0
         elif key == b"input":
-            self.input += self.text(rest)
+            self.parts.append(self.text(rest))
         elif key == b"times":
-            self.input += self.times(rest)
+            self.parts.append(self.times(rest))
+        elif key == b"pieces":
+            size, _, text = rest.partition(b" ")
+            self.parts += re.findall(b".{1,%d}" % int(size), self.text(text), flags=re.DOTALL)
         elif key == b"input-file":
-            self.input += (ROOT / os.fsdecode(rest)).read_bytes()
+            self.parts.append((ROOT / os.fsdecode(rest)).read_bytes())
         elif key in (b"file", b"file-times"):
             name, _, text = rest.partition(b" ")
             name = self.text(name)

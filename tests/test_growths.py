@@ -1,18 +1,25 @@
-"""Each growth of memory refused in turn to the program.
+"""Each growth of memory refused in turn to the program, and to calls of the crates.
 
 It is run with refuse_growth.c preloaded: with ample memory, then with the Nth growth refused, for N = 1, 2, .. until a run
 meets no refusal. A growth is a call of malloc, realloc or aligned_alloc. A row must be answered as with ample memory; or
 nothing but 'crsdesk: out of memory' is written, on standard error, with status 2. test_c.py does so with calls of the
 library.
+
+growths/calls.rows has calls of the crates and growths/command_calls.rows those of commands, of which crates/crs_tests makes
+one with the word `call` or `command`: growths are counted while it is made. After out of memory, in the same process, all
+that the call was handed must be as before, and the same call made again must give the answer that comes with ample memory.
 """
 from __future__ import annotations
 
+import os
 import pathlib
 import re
+import subprocess
 from typing import Tuple
 
 import pytest
 import rows
+from support import ROOT, left_by_gate
 
 COUNTS = re.compile(rb"growths (\d+) refused (\d+)\n\Z")
 # More growths than any row has: a program that never stops meeting refusals is wrong.
@@ -29,6 +36,11 @@ NAMES = """
     json-refused-shape unknown-command version
 """.split()
 CASES = [case for case in rows.all_cases() if case.name in NAMES]
+CALLS = [
+    (kind, case)
+    for kind, name in (("call", "calls.rows"), ("command", "command_calls.rows"))
+    for case in rows.cases_of(rows.HERE / "growths" / name)
+]
 
 
 def ends_right(found: Answer, ample: Answer, is_by_line: bool) -> bool:
@@ -60,5 +72,31 @@ def test_command(case: rows.Case, program: pathlib.Path, refusing: pathlib.Path)
         else:
             assert ends_right(answer, ample, b"--lines" in case.words), f"growth {nth} refused: {answer}"
         if nth and int(counts[2]) == 0:
+            return
+    raise AssertionError(f"more than {MOST} growths")
+
+
+@pytest.mark.parametrize("kind, case", CALLS, ids=[str(case) for _, case in CALLS])
+def test_call(kind: str, case: rows.Case, refusing: pathlib.Path) -> None:
+    program = left_by_gate(ROOT / "crates" / "crs_tests" / "out" / "crs_tests")
+    head, answer = b"call\nanswered\nanswer ", case.output or b""
+    ample, want = head + answer, head + b"memory\nkept yes\nagain " + answer
+    given, takes_memory = case.call + b"\n" + b"\0".join(case.parts), b"no-growth" not in case.flags
+    for nth in range(MOST):
+        more = {"LD_PRELOAD": str(refusing), "REFUSE_FROM": "", "REFUSE": str(nth)}
+        done = subprocess.run(
+            [program, kind],
+            input=given,
+            env={**os.environ, **more},
+            capture_output=True,
+            timeout=rows.SECONDS,
+            check=False,
+        )
+        counts = COUNTS.fullmatch(done.stderr)
+        assert counts and done.returncode == 0, (nth, done.returncode, done.stderr[-200:])
+        is_refused = int(counts[2]) > 0
+        assert done.stdout == ample or is_refused and done.stdout == want, f"growth {nth} refused: {done.stdout!r}"
+        assert nth or (int(counts[1]) > 0) == takes_memory
+        if nth and not is_refused:
             return
     raise AssertionError(f"more than {MOST} growths")

@@ -40,6 +40,12 @@ def test_row(case: rows.Case, program: pathlib.Path) -> None:
     assert told is None or done.stderr == told
 
 
+@pytest.mark.parametrize("path", sorted(rows.ROOT.glob("crates/crs_tests/data/*.rows")), ids=lambda it: str(it.name))
+def test_calls(path: pathlib.Path) -> None:
+    """crs_tests reads the same form; its rows ask calls alone."""
+    assert all(case.call and not case.words for case in rows.cases_of(path))
+
+
 def read(text: str, folder: pathlib.Path) -> List[rows.Case]:
     (folder / "x.rows").write_text(text, encoding="utf-8")
     return rows.cases_of(folder / "x.rows")

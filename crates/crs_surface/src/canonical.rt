@@ -1,80 +1,51 @@
-//! Canonical texts, and sets.
-use crate::asking::{Tally, Texts, are_equal, hash_of, holds, is_refused_at};
-use crs_canon::{Canon, Set, canon, canon_of};
+//! The calls that write canonical texts.
+use crate::about::about_crs;
+use crate::answer::Answer;
+use crate::row::Row;
+use crs_canon::{Canon, Canonical, canon, canon_of};
 use crs_text::Fault;
-use crs_value::{Crs, Ident, Level};
+use crs_value::{Crs, Level};
 use std::alloc::{AllocError, Global};
 
-pub fn check(alloc: Global, tally: &mut Tally, texts: Texts<'_>) {
-    tally.count("crs_canon::canon", refuses(alloc));
-    let (text, canonical) = (texts.named("height"), texts.named("height_canonical"));
-    let is_spelled = holds(alloc, text, |crs| has_text(crs, canonical, alloc));
-    tally.count("crs_canon::canon_of", is_spelled);
-    match canon(alloc, text, Level::Full) {
-        Ok(text) => check_text(alloc, tally, texts, &text),
-        Err(_fault) => tally.count("crs_canon::Canon", false),
+/// `text` and the canonical text of a text, or its refusal; `another text` where the text's value has another one, or
+/// where the canonical text isn't its own, with everything too, or isn't that of the one with everything.
+pub fn put_canon(out: &mut Answer, row: &Row<'_>) {
+    let (alloc, input) = (out.alloc(), row.text());
+    if let Some(text) = out.accepted(canon(alloc, input, row.level))
+        && let Some(full) = out.accepted(canon(alloc, input, Level::Full))
+    {
+        let asked = about_crs(alloc, input, |crs| spells(crs, alloc, &text));
+        let is_own = has_text(out, text.bytes(), Level::Full, text.bytes())
+            && has_text(out, full.bytes(), row.level, text.bytes());
+        match out.accepted(asked) {
+            Some(spells) if out.holds(spells) && is_own => put_spelling(out, &text),
+            Some(_) => out.put("another text"),
+            None => (),
+        }
     }
-    let (codes, set) = (texts.named("codes"), texts.named("set_of_codes"));
-    let are_set = holds(alloc, codes, |crs| check_set(crs, tally, set, alloc));
-    tally.count("crs_canon::Set", are_set);
 }
 
-fn refuses(alloc: Global) -> bool {
-    let answer: Result<Canon, Fault> = canon(alloc, b"VERTCRS[\"H\"", Level::Full);
-    is_refused_at(answer, 7, 11)
+// Whether this is a CRS's canonical text at its level, and what the CRS appends by itself.
+fn spells(crs: &Crs<'_>, alloc: Global, text: &Canon) -> Result<bool, AllocError> {
+    let level = text.level();
+    let own = canon_of(alloc, crs, level)?;
+    let mut appended = Vec::from_slice(alloc, b"x")?;
+    crs.write(alloc, level, &mut appended)?;
+    let is_appended = matches!(appended.as_slice(), [b'x', own @ ..] if own == text.bytes());
+    Ok(own.level() == level && own.same(text) && is_appended)
 }
 
-// Whether this is the canonical text of a CRS.
-fn has_text(crs: &Crs<'_>, expected: &[u8], alloc: Global) -> bool {
-    let answer: Result<Canon, AllocError> = canon_of(alloc, crs, Level::Full);
-    matches!(answer, Ok(text) if text.bytes() == expected)
+// Whether this is the canonical text of a text.
+fn has_text(out: &mut Answer, input: &[u8], level: Level, text: &[u8]) -> bool {
+    match canon(out.alloc(), input, level) {
+        Ok(own) => own.bytes() == text,
+        Err(Fault::Refused(_)) => false,
+        Err(Fault::Memory(error)) => out.holds(Err(error)),
+    }
 }
 
-fn check_text(alloc: Global, tally: &mut Tally, texts: Texts<'_>, text: &Canon) {
-    let bytes: &[u8] = text.bytes();
-    let agrees = bytes == texts.named("height_canonical");
-    tally.count("crs_canon::Canon::bytes", agrees);
-    tally.count("crs_canon::Canon::level", text.level() == Level::Full);
-    let definition = canon(alloc, texts.named("height"), Level::Definition);
-    tally.count("crs_canon::Canon::same", is_other(text, definition));
-    let own = canon(alloc, texts.named("height_canonical"), Level::Full);
-    tally.count("crs_canon::Canon as a key", is_equal(text, own));
-}
-
-// The other text has equal bytes and another level.
-fn is_other(text: &Canon, other: Result<Canon, Fault>) -> bool {
-    matches!(other, Ok(other) if text.bytes() == other.bytes() && !text.same(&other))
-}
-
-fn is_equal(text: &Canon, other: Result<Canon, Fault>) -> bool {
-    let Ok(other) = &other else {
-        return false;
-    };
-    text.same(other) && are_equal(text, other) && hash_of(text) == hash_of(other)
-}
-
-// Looks at the set of a vertical CRS's identifiers; none of another one.
-fn check_set(crs: &Crs<'_>, tally: &mut Tally, expected: &[u8], alloc: Global) -> bool {
-    let Crs::Vertical(crs) = crs else {
-        return false;
-    };
-    let members = crs.tail.identifiers.as_slice();
-    tally.count("crs_canon::Set::same", set_is_same(members));
-    let is_written = set_is_written(members, expected, alloc);
-    tally.count("crs_canon::Set::write", is_written);
-    true
-}
-
-// Whether a set is the same as itself, and not as that of the members after the first.
-fn set_is_same(members: &[Ident<'_>]) -> bool {
-    let set: Set<'_, Ident<'_>> = Set::of(members);
-    set.same(&Set::of(members), Level::Full)
-        && !set.same(&Set::of(members.get(1..).unwrap_or(&[])), Level::Full)
-}
-
-// Whether a set is written as this text.
-fn set_is_written(members: &[Ident<'_>], expected: &[u8], alloc: Global) -> bool {
-    let mut out = Vec::new(alloc);
-    let written: Result<(), AllocError> = Set::of(members).write(alloc, Level::Full, &mut out);
-    written.is_ok() && out.as_slice() == expected
+/// `text` and a canonical text.
+pub fn put_spelling(out: &mut Answer, text: &Canon) {
+    out.put("text ");
+    out.put_bytes(text.bytes());
 }

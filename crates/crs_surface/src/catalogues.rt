@@ -1,57 +1,96 @@
-//! Catalogues.
-use crate::asking::{Tally, Texts, is_refusal_of};
+//! Catalogues of lines.
+use crate::answer::Answer;
+use crate::row::Row;
 use crs_group::{Catalogue, Placed};
 use crs_text::Refusal;
-use crs_value::Level;
-use std::alloc::{AllocError, Global};
+use std::str;
 
-pub fn check(alloc: Global, tally: &mut Tally, texts: Texts<'_>) {
-    let mut catalogue: Catalogue = Catalogue::new(alloc, Level::Full);
-    let is_new = catalogue.groups() == 0 && catalogue.refused().is_empty();
-    tally.count("crs_group::Catalogue::new", is_new);
-    let are_placed = add_lines(&mut catalogue, texts);
-    tally.count("crs_group::Catalogue::add", are_placed);
-    check_groups(tally, texts, &catalogue);
+/// The answers of a catalogue's calls, one a line, with `; ` between two: `add N TEXT`, `groups`, `lines N`,
+/// `text N` and `refused`.
+pub fn put_catalogue(out: &mut Answer, row: &Row<'_>) {
+    let mut catalogue = Catalogue::new(out.alloc(), row.level);
+    for (index, line) in row.text().split(|byte| *byte == b'\n').enumerate() {
+        out.put(if index > 0 { "; " } else { "" });
+        put_call(out, &mut catalogue, line);
+    }
 }
 
-// The lines of two groups, one line that is blank, and one that is refused.
-fn add_lines(catalogue: &mut Catalogue, texts: Texts<'_>) -> bool {
-    let (height, geographic) = (texts.named("height"), texts.named("geographic"));
-    let refused = Refusal::new(7, 11).map(Placed::Refused);
-    adds(catalogue, 5, height, Some(Placed::Group(1)))
-        && adds(catalogue, 5, b"  ", Some(Placed::Blank))
-        && adds(catalogue, 9, geographic, Some(Placed::Group(2)))
-        && adds(catalogue, 2, height, Some(Placed::Group(1)))
-        && adds(catalogue, 7, b"VERTCRS[\"H\"", refused)
+fn put_call(out: &mut Answer, catalogue: &mut Catalogue, line: &[u8]) {
+    let (call, rest) = split_blank(line);
+    match call {
+        b"add" => {
+            let (number, text) = split_blank(rest);
+            if let Some(placed) = out.made(catalogue.add(number_of(number) as u64, text)) {
+                put_placed(out, placed);
+            }
+        }
+        b"groups" => write!(out, "{}", catalogue.groups()),
+        b"lines" => put_lines(out, catalogue.lines(number_of(rest))),
+        b"text" => put_group_text(out, catalogue.text(number_of(rest))),
+        b"refused" => put_refused(out, catalogue.refused()),
+        _ => out.put("no such call"),
+    }
 }
 
-fn adds(catalogue: &mut Catalogue, line: u64, text: &[u8], expected: Option<Placed>) -> bool {
-    let added: Result<Placed, AllocError> = catalogue.add(line, text);
-    added.is_ok() && added.ok() == expected
+fn split_blank(text: &[u8]) -> (&[u8], &[u8]) {
+    let mut words = text.splitn(2, |byte| *byte == b' ');
+    (words.next().unwrap_or(&[]), words.next().unwrap_or(&[]))
 }
 
-fn check_groups(tally: &mut Tally, texts: Texts<'_>, catalogue: &Catalogue) {
-    let groups: usize = catalogue.groups();
-    tally.count("crs_group::Catalogue::groups", groups == 2);
-    tally.count("crs_group::Catalogue::lines", has_lines(catalogue));
-    let agrees = has_text(catalogue, texts.named("height_canonical"));
-    tally.count("crs_group::Catalogue::text", agrees);
-    tally.count("crs_group::Catalogue::refused", has_refused(catalogue));
+// 0 where it isn't a number.
+fn number_of(digits: &[u8]) -> usize {
+    str::from_utf8(digits)
+        .ok()
+        .and_then(|it| it.parse().ok())
+        .unwrap_or(0)
 }
 
-fn has_lines(catalogue: &Catalogue) -> bool {
-    let lines: Option<&[u64]> = catalogue.lines(1);
-    lines == Some([5u64, 2].as_slice())
-        && catalogue.lines(0).is_none()
-        && catalogue.lines(3).is_none()
+/// Where a line was placed.
+pub fn put_placed(out: &mut Answer, placed: Placed) {
+    match placed {
+        Placed::Blank => out.put("blank"),
+        Placed::Refused(refusal) => put_refusal(out, refusal),
+        Placed::Group(number) => write!(out, "group {number}"),
+    }
 }
 
-fn has_text(catalogue: &Catalogue, expected: &[u8]) -> bool {
-    let text: Option<&[u8]> = catalogue.text(1);
-    text == Some(expected) && catalogue.text(3).is_none()
+fn put_refusal(out: &mut Answer, refusal: Refusal) {
+    write!(out, "{} at {}", refusal.number(), refusal.place());
 }
 
-fn has_refused(catalogue: &Catalogue) -> bool {
-    let refused: &[(u64, Refusal)] = catalogue.refused();
-    matches!(refused, [(line, refusal)] if *line == 7 && is_refusal_of(refusal, 7, 11))
+// The lines of a group; `none` where there is no such group.
+fn put_lines(out: &mut Answer, lines: Option<&[u64]>) {
+    let Some(lines) = lines else {
+        return out.put("none");
+    };
+    out.put("lines");
+    for line in lines {
+        write!(out, " {line}");
+    }
+}
+
+// The text of a group; `none` where there is no such group.
+fn put_group_text(out: &mut Answer, text: Option<&[u8]>) {
+    out.put_bytes(text.unwrap_or(b"none"));
+}
+
+// The lines that were refused.
+fn put_refused(out: &mut Answer, refused: &[(u64, Refusal)]) {
+    out.put("refused");
+    for (line, refusal) in refused {
+        write!(out, " {line}: ");
+        put_refusal(out, *refusal);
+    }
+}
+
+/// All that a catalogue answers: each group's lines and text, then the refused lines.
+pub fn put_all(out: &mut Answer, catalogue: &Catalogue) {
+    for group in 1..=catalogue.groups() {
+        out.put("; ");
+        put_lines(out, catalogue.lines(group));
+        out.put("; ");
+        put_group_text(out, catalogue.text(group));
+    }
+    out.put("; ");
+    put_refused(out, catalogue.refused());
 }

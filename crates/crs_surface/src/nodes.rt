@@ -1,131 +1,82 @@
-//! Nodes that are compared and written by themselves: in a canonical text each is written as it stands.
-use crate::asking::{Tally, Texts, holds};
-use crate::values::is_text_of;
-use crate::written::Written;
-use crs_canon::Canonical;
-use crs_same::parts::{
-    same_axis, same_axis_meridian, same_base, same_box, same_compound, same_conversion, same_datum,
-    same_deformation_model, same_dynamic, same_ellipsoid, same_ensemble, same_extent, same_frame,
-    same_geodetic, same_geoid_model, same_horizontal, same_ident, same_member, same_meridian,
-    same_method, same_parameter, same_projected, same_unit, same_usage, same_vertical,
-};
-use crs_value::{
-    Base, Compound, Conversion, Crs, Frame, Geodetic, Level, Method, Projected, Tail, Vertical,
-};
-use std::alloc::{AllocError, Global};
+//! The parts of a vertical CRS: what each appends by itself, and a set of them.
+use crate::about::about_crs;
+use crate::answer::Answer;
+use crate::row::Row;
+use crs_canon::{Canonical, Set};
+use crs_value::{Crs, Ident, Level, Tail, Vertical};
+use std::alloc::AllocError;
 
-// Counts the two items of a node: the call that compares nodes of its kind, and what its type implements. After `is`
-// comes the node, after `in` an option of one.
-macro_rules! count_node {
-    ($tally:ident, $alloc:ident; $same:ident of $kind:ident is $node:expr) => {
-        let is_same = $same($node, $node, Level::Full);
-        $tally.count_in("crs_same::parts::", stringify!($same), is_same);
-        let is_own = is_own($node, $alloc);
-        $tally.count_in("crs_canon::Canonical for ", stringify!($kind), is_own);
-    };
-    ($tally:ident, $alloc:ident; $same:ident of $kind:ident in $node:expr) => {
-        if let Some(node) = $node {
-            count_node!($tally, $alloc; $same of $kind is node);
-        }
-    };
-}
+/// Whether a part is the same as itself, once it is appended; None where there is no such part.
+pub type Appended = Option<Result<bool, AllocError>>;
 
-/// Checks the nodes of canonical texts, which have all kinds of node.
-pub fn check(alloc: Global, tally: &mut Tally, texts: Texts<'_>) {
-    for name in "projected polar ensemble compound dynamic extent".split(' ') {
-        let agrees = holds(alloc, texts.named(name), |crs| walk_crs(crs, tally, alloc));
-        tally.count("crs_canon::Canonical for Crs", agrees);
-    }
-}
-
-// Looks at the nodes of a CRS, of each kind the first one, and then at itself. It comes first in each walk: a function that
-// is lent another thing before a CRS is slow to prove.
-fn walk_crs(crs: &Crs<'_>, tally: &mut Tally, alloc: Global) -> bool {
+/// Appends at a level what this name says of a CRS: `crs`, the CRS itself; of a vertical one `frame`, `dynamic part` and
+/// its `model`, the first `axis` and its `unit`, the first `usage` and its `extent`, the first `identifier`, or the `set`
+/// of all identifiers. None where there is no such part, also for any other name.
+pub fn append_part(crs: &Crs<'_>, part: &str, level: Level, out: &mut Vec<u8>) -> Appended {
     match crs {
-        Crs::Projected(crs) => walk_projected(crs, tally, alloc),
-        Crs::Geodetic(crs) => walk_geodetic(crs, tally, alloc),
-        Crs::Compound(crs) => walk_compound(crs, tally, alloc),
-        Crs::Vertical(crs) => walk_vertical(crs, tally, alloc),
-    }
-    is_own(crs, alloc)
-}
-
-// Whether a node is the same as itself, and its spelling is how it stands.
-fn is_own<T: Canonical + Written>(node: &T, alloc: Global) -> bool {
-    let mut out = Vec::new(alloc);
-    let written: Result<(), AllocError> = node.write(alloc, Level::Full, &mut out);
-    written.is_ok() && is_text_of(node, &out, alloc) && node.same(node, Level::Full)
-}
-
-fn walk_projected(crs: &Projected<'_>, tally: &mut Tally, alloc: Global) {
-    count_node!(tally, alloc; same_projected of Projected is crs);
-    walk_base(&crs.base, tally, alloc);
-    walk_conversion(&crs.conversion, tally, alloc);
-    if let [axis, ..] = crs.system.axes.as_slice() {
-        count_node!(tally, alloc; same_axis of Axis is axis);
-        count_node!(tally, alloc; same_axis_meridian of AxisMeridian in &axis.meridian);
+        _ if part == "crs" => append(crs, level, out),
+        Crs::Vertical(vertical) => append_of(vertical, part, level, out),
+        Crs::Geodetic(_) | Crs::Projected(_) | Crs::Compound(_) => None,
     }
 }
 
-fn walk_base(base: &Base<'_>, tally: &mut Tally, alloc: Global) {
-    count_node!(tally, alloc; same_base of Base is base);
-    count_node!(tally, alloc; same_meridian of Meridian in &base.meridian);
-    walk_frame(&base.frame, tally, alloc);
+fn append_of(crs: &Vertical<'_>, part: &str, level: Level, out: &mut Vec<u8>) -> Appended {
+    let axes = crs.system.axes.as_slice();
+    match part {
+        "axis" => append(axes.first()?, level, out),
+        "unit" => append(axes.first()?.unit.as_ref()?, level, out),
+        "frame" => append(&crs.frame, level, out),
+        "dynamic part" => append(crs.dynamic.as_ref()?, level, out),
+        "model" => append(crs.dynamic.as_ref()?.model.as_ref()?, level, out),
+        _ => append_behind(&crs.tail, part, level, out),
+    }
 }
 
-fn walk_frame(frame: &Frame<'_>, tally: &mut Tally, alloc: Global) {
-    count_node!(tally, alloc; same_frame of Frame is frame);
-    match frame {
-        Frame::Datum(datum) => {
-            count_node!(tally, alloc; same_datum of Datum is datum);
-            count_node!(tally, alloc; same_ellipsoid of Ellipsoid in &datum.ellipsoid);
+fn append_behind(tail: &Tail<'_>, part: &str, level: Level, out: &mut Vec<u8>) -> Appended {
+    let usages = tail.usages.as_slice();
+    let idents = tail.identifiers.as_slice();
+    match part {
+        "usage" => append(usages.first()?, level, out),
+        "extent" => append(usages.first()?.extent.as_ref()?, level, out),
+        "identifier" => append(idents.first()?, level, out),
+        "set" => append_set(idents, level, out),
+        _ => None,
+    }
+}
+
+fn append<T: Canonical>(node: &T, level: Level, out: &mut Vec<u8>) -> Appended {
+    let written = node.write(*out.allocator(), level, out);
+    Some(written.and(Ok(node.same(node, level))))
+}
+
+fn append_set(idents: &[Ident<'_>], level: Level, out: &mut Vec<u8>) -> Appended {
+    let set = Set::of(idents);
+    let written = set.write(*out.allocator(), level, out);
+    Some(written.and(Ok(set.same(&set, level))))
+}
+
+/// `text` and what a part of the CRS of a text appends by itself, or the refusal of the text; `no` and the part's name where
+/// it has no such part, `one way` where the part isn't the same as itself, and `nothing` for an empty set, which appends
+/// nothing.
+pub fn put_part(out: &mut Answer, row: &Row<'_>, part: &str) {
+    let level = row.level;
+    let mut text = Vec::new(out.alloc());
+    let asked = about_crs(
+        out.alloc(),
+        row.text(),
+        |crs| append_part(crs, part, level, &mut text),
+    );
+    match out.accepted(asked) {
+        Some(Some(is_itself)) if !out.holds(is_itself) => out.put("one way"),
+        Some(Some(_)) if text.is_empty() => out.put("nothing"),
+        Some(Some(_)) => {
+            out.put("text ");
+            out.put_bytes(&text);
         }
-        Frame::Ensemble(ensemble) => {
-            count_node!(tally, alloc; same_ensemble of Ensemble is ensemble);
-            let first = ensemble.members.as_slice().first();
-            count_node!(tally, alloc; same_member of Member in first);
+        Some(None) => {
+            out.put("no ");
+            out.put(part);
         }
-    }
-}
-
-fn walk_conversion(conversion: &Conversion<'_>, tally: &mut Tally, alloc: Global) {
-    count_node!(tally, alloc; same_conversion of Conversion is conversion);
-    count_node!(tally, alloc; same_method of Method is &conversion.method);
-    let first = conversion.method.identifiers.as_slice().first();
-    count_node!(tally, alloc; same_ident of Ident in first);
-    if let [parameter, ..] = conversion.parameters.as_slice() {
-        count_node!(tally, alloc; same_parameter of Parameter is parameter);
-        count_node!(tally, alloc; same_unit of Unit in &parameter.unit);
-    }
-}
-
-fn walk_geodetic(crs: &Geodetic<'_>, tally: &mut Tally, alloc: Global) {
-    count_node!(tally, alloc; same_geodetic of Geodetic is crs);
-    walk_frame(&crs.frame, tally, alloc);
-    walk_tail(&crs.tail, tally, alloc);
-}
-
-fn walk_compound(crs: &Compound<'_>, tally: &mut Tally, alloc: Global) {
-    count_node!(tally, alloc; same_compound of Compound is crs);
-    count_node!(tally, alloc; same_horizontal of Horizontal is &crs.horizontal);
-    walk_vertical(&crs.vertical, tally, alloc);
-}
-
-fn walk_vertical(crs: &Vertical<'_>, tally: &mut Tally, alloc: Global) {
-    count_node!(tally, alloc; same_vertical of Vertical is crs);
-    if let Some(dynamic) = &crs.dynamic {
-        count_node!(tally, alloc; same_dynamic of Dynamic is dynamic);
-        count_node!(tally, alloc; same_deformation_model of DeformationModel in &dynamic.model);
-    }
-    let first = crs.geoid_models.as_slice().first();
-    count_node!(tally, alloc; same_geoid_model of GeoidModel in first);
-    walk_tail(&crs.tail, tally, alloc);
-}
-
-fn walk_tail(tail: &Tail<'_>, tally: &mut Tally, alloc: Global) {
-    if let [usage, ..] = tail.usages.as_slice() {
-        count_node!(tally, alloc; same_usage of Usage is usage);
-        count_node!(tally, alloc; same_box of BoundingBox in &usage.bbox);
-        count_node!(tally, alloc; same_extent of Extent in &usage.extent);
+        None => (),
     }
 }

@@ -1,101 +1,65 @@
-//! Sameness, and the first part that differs.
-use crate::asking::{Tally, Texts};
-use crs_same::{Path, Step, first_part, same};
-use crs_suite::about_both;
-use crs_value::{Crs, Level};
-use std::alloc::{AllocError, Global};
+//! The calls that compare CRSs.
+use crate::about::about_both;
+use crate::answer::Answer;
+use crate::row::Row;
+use crs_same::parts::same_axis;
+use crs_same::{Path, first_part, same};
+use crs_value::{Axis, Crs, Level};
 
-// Two texts, whether they are the same, by definition and with everything, and the path to the first part that differs.
-const PAIRS: [(&str, [&str; 2], [bool; 2], &str); 4] = [
-    ("same", ["height", "identified"], [true, false], "id"),
-    ("first_part", ["geographic", "greenwich"], [true, true], ""),
-    (
-        "Path::steps",
-        ["utm_and_height", "utm_in_feet_and_height"],
-        [false, false],
-        "horizontal/base/datum/ellipsoid/unit",
-    ),
-    (
-        "Path::write",
-        ["paris", "paris_in_grads"],
-        [false, false],
-        "meridian/unit",
-    ),
-];
-
-pub fn check(alloc: Global, tally: &mut Tally, texts: Texts<'_>) {
-    for (item, [first, second], are_same, path) in PAIRS {
-        let (first, second) = (texts.named(first), texts.named(second));
-        let agrees = match about_both(alloc, first, second, compared) {
-            Ok(found) => found.are_same == are_same && found.has_path(alloc, path),
-            Err(_fault) => false,
-        };
-        tally.count_in("crs_same::", item, agrees);
+/// `same`, or `different` and the first part in which the CRSs of two texts differ, or the refusal of the first text that
+/// has one; `one way` where the orders of the two disagree, or where one call says that they are the same, and the other not.
+pub fn put_same(out: &mut Answer, row: &Row<'_>) {
+    let (alloc, level) = (out.alloc(), row.level);
+    let (first, second) = (row.part(0), row.part(1));
+    let forth = about_both(alloc, first, second, |a, b| compared(a, b, level));
+    let back = about_both(alloc, second, first, |a, b| compared(a, b, level));
+    if let Some(forth) = out.accepted(forth)
+        && let Some(back) = out.accepted(back)
+    {
+        put_compared(out, &forth, &back);
     }
 }
 
-// What is answered of two CRSs.
-#[derive(Drop)]
-struct Comparison {
-    // by definition, and with everything
-    are_same: [bool; 2],
-    part: Option<Path>,
+// Whether two CRSs are the same, and the first part in which they differ.
+fn compared<'a>(a: &Crs<'a>, b: &Crs<'a>, level: Level) -> (bool, Option<Path>) {
+    (same(a, b, level), first_part(a, b, level))
 }
 
-fn compared<'t>(first: &Crs<'t>, second: &Crs<'t>) -> Comparison {
-    let by_definition: bool = same(first, second, Level::Definition);
-    let with_everything: bool = same(first, second, Level::Full);
-    let part: Option<Path> = first_part(first, second, Level::Full);
-    Comparison {
-        are_same: [by_definition, with_everything],
-        part,
-    }
-}
-
-impl Comparison {
-    // Whether the part has the path of this text; whether there is none, where the text is empty.
-    fn has_path(&self, alloc: Global, text: &str) -> bool {
-        match &self.part {
-            Some(path) => has_steps(path.steps(), text) && is_written(alloc, path, text),
-            None => text.is_empty(),
+fn put_compared(out: &mut Answer, forth: &(bool, Option<Path>), back: &(bool, Option<Path>)) {
+    match (forth, back) {
+        ((true, None), (true, None)) => out.put("same"),
+        ((false, Some(path)), (false, Some(other))) if path.steps() == other.steps() => {
+            out.put("different ");
+            let mut text = Vec::new(out.alloc());
+            out.note(path.write(&mut text));
+            out.put_bytes(&text);
         }
+        _ => out.put("one way"),
     }
 }
 
-// Whether these are the steps of a text, which are at most five.
-fn has_steps(steps: &[Step], text: &str) -> bool {
-    let mut words = text.split('/');
-    for step in steps {
-        if words.next() != Some(step_word(step)) {
-            return false;
-        }
+/// Whether the first axes of two vertical CRSs are the same by themselves; `no axes` for other ones.
+pub fn put_same_axis(out: &mut Answer, row: &Row<'_>) {
+    let level = row.level;
+    let (first, second) = (row.part(0), row.part(1));
+    let asked = about_both(out.alloc(), first, second, |a, b| axes_of(a, b, level));
+    if let Some(told) = out.accepted(asked) {
+        out.put(told);
     }
-    words.next().is_none() && steps.len() <= 5
 }
 
-fn is_written(alloc: Global, path: &Path, text: &str) -> bool {
-    let mut out = Vec::new(alloc);
-    let written: Result<(), AllocError> = path.write(&mut out);
-    written.is_ok() && out.as_slice() == text.as_bytes()
-}
-
-// The word of a value's variant. These are all variants of the type: one more doesn't compile.
-macro_rules! word_of {
-    ($value:expr, $kind:ident { $($variant:ident $(($field:ident))? $word:literal),+ }) => {
-        match $value {
-            $($kind::$variant $(($field))? => $word,)+
+fn axes_of<'a>(first: &Crs<'a>, second: &Crs<'a>, level: Level) -> &'static str {
+    match (first, second) {
+        (Crs::Vertical(x), Crs::Vertical(y)) => {
+            axes_told(x.system.axes.as_slice(), y.system.axes.as_slice(), level)
         }
-    };
+        _ => "no axes",
+    }
 }
 
-// The word of a step; for an axis, without its position.
-fn step_word(step: &Step) -> &'static str {
-    word_of!(step, Step {
-        Kind "kind", Name "name", Dynamic "dynamic", Epoch "epoch", Model "model", Datum "datum", Meridian "meridian",
-        System "system", Usage "usage", Id "id", Remark "remark", Base "base", Conversion "conversion", Geoid "geoid",
-        Horizontal "horizontal", Vertical "vertical", Unit "unit", Ellipsoid "ellipsoid", Anchor "anchor",
-        AnchorEpoch "anchorepoch", Members "members", Accuracy "accuracy", SemiMajor "semimajor",
-        Flattening "flattening", Longitude "longitude", SystemType "type", Dimension "dimension",
-        Axis(_position) "axis", Direction "direction", Method "method", Parameters "parameters"
-    })
+fn axes_told<'a>(first: &[Axis<'a>], second: &[Axis<'a>], level: Level) -> &'static str {
+    match (first, second) {
+        ([x, ..], [y, ..]) if same_axis(x, y, level) && same_axis(y, x, level) => "same",
+        _ => "different",
+    }
 }

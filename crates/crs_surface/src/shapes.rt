@@ -1,89 +1,112 @@
-//! Classes, slots and shapes.
-use crate::asking::{Tally, Texts, is_refusal_of};
-use crs_shape::{Class, Slot, class_of, fit, fit_root, known, root_class, slots};
-use crs_text::{Items, Refusal, read_items};
-use std::alloc::Global;
+//! The calls on the shapes of texts.
+use crate::answer::Answer;
+use crate::pieces::read_agreed;
+use crate::row::Row;
+use crs_shape::{Class, Slot, class_of, fit, fit_root, keywords, known, root_class, slots};
+use crs_text::read_items;
 
-pub fn check(alloc: Global, tally: &mut Tally, texts: Texts<'_>) {
-    tally.count("crs_shape::Class", has_classes());
-    tally.count("crs_shape::slots", has_slots());
-    tally.count("crs_shape::Slot", has_slot());
-    tally.count("crs_shape::class_of", has_class());
-    tally.count("crs_shape::root_class", has_root_class());
-    tally.count("crs_shape::known", known(b"DATUM") && !known(b"BOUNDCRS"));
-    let text = texts.named("height");
-    tally.count("crs_shape::fit", fits(alloc, text));
-    tally.count("crs_shape::fit_root", fits_root(alloc, text));
-}
-
-fn has_classes() -> bool {
-    is_crs(Class::VerticalCrs) && !is_crs(Class::VerticalFrame)
-}
-
-fn is_crs(class: Class) -> bool {
-    is_one_of!(class, Class {
-        GeodeticCrs, GeographicCrs, ProjectedCrs, VerticalCrs, CompoundCrs
-    } not {
-        Number, Text, Word, BaseCrs, Dynamic, FrameEpoch, DeformationModel, GeodeticFrame, VerticalFrame,
-        GeodeticEnsemble, VerticalEnsemble, Member, EnsembleAccuracy, Anchor, AnchorEpoch, Ellipsoid, PrimeMeridian,
-        PlainUnit, LengthUnit, AngleUnit, ScaleUnit, AxisUnit, CoordinateSystem, Axis, AxisMeridian, Order, Conversion,
-        Method, Parameter, GeoidModel, Usage, Scope, Area, BoundingBox, VerticalExtent, Identifier, Citation, Uri, Remark
-    })
-}
-
-fn has_slots() -> bool {
-    let slots: &'static [Slot] = slots(Class::VerticalFrame);
-    slots.len() == 3
-}
-
-// The last slot of a vertical frame takes any number of identifiers.
-fn has_slot() -> bool {
-    match slots(Class::VerticalFrame) {
-        [name, _anchors, identifiers] => is_name(name) && are_identifiers(identifiers),
-        _ => false,
+/// `class` and the first keyword of the root's class, or the refusal of the text or of its shape; `another answer in
+/// pieces` where a cut into pieces gives one.
+pub fn put_class(out: &mut Answer, input: &[u8]) {
+    if let Some(items) = read_agreed(out, input) {
+        match fit_root(&items) {
+            Ok(class) => {
+                out.put("class ");
+                put_keyword(out, class);
+            }
+            Err(refusal) => out.put_refusal(refusal),
+        }
     }
 }
 
-fn is_name(slot: &Slot) -> bool {
+fn put_keyword(out: &mut Answer, class: Class) {
+    if let Some(keyword) = keywords(class).first() {
+        out.put_bytes(keyword.spelling());
+    }
+}
+
+// The class that keywords lead to, parted by blanks: the first names a root, each other one what it names in the class
+// before it. None where they lead to none, as is put.
+fn class_at(out: &mut Answer, path: &[u8]) -> Option<Class> {
+    let class = named_class(path);
+    if class.is_none() {
+        out.put("none");
+    }
+    class
+}
+
+fn named_class(path: &[u8]) -> Option<Class> {
+    let mut keywords = path.split(|byte| *byte == b' ');
+    let mut class = root_class(keywords.next()?)?;
+    for keyword in keywords {
+        class = class_of(class, keyword)?;
+    }
+    Some(class)
+}
+
+/// `keywords` and those of the class that keywords lead to from a root; `none` where they name nothing there.
+pub fn put_keywords(out: &mut Answer, input: &[u8]) {
+    if let Some(class) = class_at(out, input) {
+        out.put("keywords");
+        for keyword in keywords(class) {
+            out.put(" ");
+            out.put_bytes(keyword.spelling());
+        }
+    }
+}
+
+/// The slots of the class that keywords lead to: each with the classes that are allowed there by their first
+/// keywords, or as `number`, `text` and `word`, joined by `|`, and a mark: `?` where it may be left out, `+` where it
+/// may be repeated, `*` for both.
+pub fn put_slots(out: &mut Answer, input: &[u8]) {
+    if let Some(class) = class_at(out, input) {
+        out.put("slots");
+        let slots: &'static [Slot] = slots(class);
+        for slot in slots {
+            out.put(" ");
+            put_slot(out, slot);
+        }
+    }
+}
+
+fn put_slot(out: &mut Answer, slot: &Slot) {
     let classes: &'static [Class] = slot.classes();
-    classes == [Class::Text].as_slice() && slot.required() && !slot.many()
+    for (index, class) in classes.iter().enumerate() {
+        if index > 0 {
+            out.put("|");
+        }
+        put_class_word(out, *class);
+    }
+    out.put(match (slot.required(), slot.many()) {
+        (true, false) => "",
+        (false, false) => "?",
+        (true, true) => "+",
+        (false, true) => "*",
+    });
 }
 
-fn are_identifiers(slot: &Slot) -> bool {
-    slot.classes() == [Class::Identifier].as_slice() && !slot.required() && slot.many()
+fn put_class_word(out: &mut Answer, class: Class) {
+    match class {
+        Class::Number => out.put("number"),
+        Class::Text => out.put("text"),
+        Class::Word => out.put("word"),
+        _ => put_keyword(out, class),
+    }
 }
 
-fn has_class() -> bool {
-    class_of(Class::VerticalCrs, b"vrf") == Some(Class::VerticalFrame)
-        && class_of(Class::VerticalCrs, b"TRF").is_none()
+/// Whether any class has the keyword.
+pub fn put_known(out: &mut Answer, input: &[u8]) {
+    out.put(if known(input) { "known" } else { "unknown" });
 }
 
-fn has_root_class() -> bool {
-    root_class(b"VERTICALCRS") == Some(Class::VerticalCrs) && root_class(b"DATUM").is_none()
-}
-
-fn fits(alloc: Global, text: &[u8]) -> bool {
-    matches!(
-        read_items(alloc, text),
-        Ok(items) if fits_alone(&items, Class::VerticalCrs) && !fits_alone(&items, Class::Axis)
-    )
-}
-
-fn fits_alone(items: &Items<'_>, class: Class) -> bool {
-    let fitted: Result<(), Refusal> = fit(items, items.root(), class);
-    fitted.is_ok()
-}
-
-fn fits_root(alloc: Global, text: &[u8]) -> bool {
-    matches!(read_items(alloc, text), Ok(items) if fit_root(&items) == Ok(Class::VerticalCrs))
-        && misses_part(alloc)
-}
-
-fn misses_part(alloc: Global) -> bool {
-    matches!(read_items(alloc, b"VERTCRS[\"H\",FOO[\"D\"]]"), Ok(items) if is_unknown(&items))
-}
-
-fn is_unknown(items: &Items<'_>) -> bool {
-    let fitted: Result<Class, Refusal> = fit_root(items);
-    matches!(fitted, Err(refusal) if is_refusal_of(&refusal, 11, 12))
+/// `fits` where a text has the shape of the class that the keywords of the part before it lead to, or its refusal.
+pub fn put_fit(out: &mut Answer, row: &Row<'_>) {
+    if let Some(class) = class_at(out, row.part(0))
+        && let Some(items) = out.accepted(read_items(out.alloc(), row.part(1)))
+    {
+        match fit(&items, items.root(), class) {
+            Ok(()) => out.put("fits"),
+            Err(refusal) => out.put_refusal(refusal),
+        }
+    }
 }

@@ -9,14 +9,15 @@ macro_rules! put_fields {
     };
 }
 
-// The same as a node with this keyword, which may depend on a field; what comes `then` stands behind the node.
+// The same as a node with this keyword, which may depend on a field, and a look at the node by itself.
 macro_rules! put_node {
-    ($value:ident, $out:ident, $keyword:expr => $kind:ident { $($field:ident $(: $how:ident $(($word:literal))?)?),+ } $(then $more:ident)*) => {
-        let $kind { $($field,)+ $($more),* } = $value;
+    ($value:ident, $out:ident, $same:ident, $keyword:expr => $kind:ident { $($field:ident $(: $how:ident $(($word:literal))?)?),+ }) => {
+        let $kind { $($field),+ } = $value;
         $out.open($keyword);
         $(put_field!($out, $field $(, $how $(($word))?)?);)+
         $out.close();
-        $($more.put($out);)*
+        let is_same: bool = parts::$same($value, $value, Level::Full);
+        $out.look($value, is_same, stringify!($kind));
     };
 }
 
@@ -30,8 +31,12 @@ macro_rules! put_field {
 
 mod values;
 
+use crate::about::about_crs;
+use crate::answer::Answer;
+use crate::row::Row;
+use crs_canon::Canonical;
 use crs_decimal::Decimal;
-use crs_value::List;
+use crs_value::{Level, List};
 use std::alloc::{AllocError, Global};
 
 /// A value that is taken apart by a pattern of all its fields or variants.
@@ -40,64 +45,73 @@ pub trait Written {
     fn put(&self, out: &mut Text);
 }
 
+/// The CRS of a text, taken apart and written. Of one that is `canonical` each node is looked at by itself, too: `another` and
+/// the name of one that isn't the same as itself, or that appends another text than how it stands.
+pub fn put_whole(out: &mut Answer, row: &Row<'_>, how: &str) {
+    let mut text = Text::new(out.alloc());
+    let asked = about_crs(out.alloc(), row.text(), |crs| crs.put(&mut text));
+    if out.accepted(asked).is_some() {
+        match text.odd {
+            Some(name) if how == "canonical" => write!(out, "another {name}"),
+            _ => {
+                let bytes = out.made(text.out.bytes());
+                out.put_bytes(bytes.unwrap_or(&[]));
+            }
+        }
+    }
+}
+
 /// A text that is written part by part, with a comma before each part but the first one of a node.
 #[derive(Drop)]
 pub struct Text {
-    bytes: Vec<u8>,
+    out: Answer,
     // whether the next part is the first one of its node
     is_first: bool,
-    // whether there was memory for all of it
-    is_whole: bool,
+    // a node that isn't itself where it stands
+    odd: Option<&'static str>,
 }
 
 impl Text {
-    /// A text that has nothing yet.
-    pub fn new(alloc: Global) -> Text {
+    fn new(alloc: Global) -> Text {
         Text {
-            bytes: Vec::new(alloc),
+            out: Answer::new(alloc),
             is_first: true,
-            is_whole: true,
+            odd: None,
         }
     }
 
-    /// Whether it is the text of these bytes.
-    pub fn is(&self, bytes: &[u8]) -> bool {
-        self.is_whole && self.bytes.as_slice() == bytes
-    }
-
-    fn note(&mut self, appended: Result<(), AllocError>) {
-        if appended.is_err() {
-            self.is_whole = false;
+    // Looks whether a node is the same as itself, and appends what was just put of it.
+    fn look<T: Canonical>(&mut self, node: &T, is_same: bool, name: &'static str) {
+        let alloc = self.out.alloc();
+        let mut own = Vec::new(alloc);
+        let written: Result<(), AllocError> = node.write(alloc, Level::Full, &mut own);
+        self.out.note(written);
+        let stands = matches!(self.out.bytes(), Ok(bytes) if bytes.ends_with(&own));
+        if !(is_same && stands && node.same(node, Level::Full)) {
+            self.odd = Some(name);
         }
-    }
-
-    fn append(&mut self, bytes: &[u8]) {
-        let appended = self.bytes.extend_from_slice(bytes);
-        self.note(appended);
     }
 
     fn begin_part(&mut self) {
-        if !self.is_first {
-            self.append(b",");
-        }
+        self.out.put(if self.is_first { "" } else { "," });
         self.is_first = false;
     }
 
     // Characters as they are.
     fn word(&mut self, word: &[u8]) {
         self.begin_part();
-        self.append(word);
+        self.out.put_bytes(word);
     }
 
     // A node's keyword and its bracket.
     fn open(&mut self, keyword: &str) {
         self.word(keyword.as_bytes());
-        self.append(b"[");
+        self.out.put("[");
         self.is_first = true;
     }
 
     fn close(&mut self) {
-        self.append(b"]");
+        self.out.put("]");
         self.is_first = false;
     }
 
@@ -114,27 +128,22 @@ impl Text {
             self.node(keyword, part);
         }
     }
-
-    // A part that is of its own type, and in no box.
-    fn part<T: Written>(&mut self, part: &T) {
-        part.put(self);
-    }
 }
 
 // A text, in quotes.
 impl Written for &[u8] {
     fn put(&self, out: &mut Text) {
         out.word(b"\"");
-        out.append(self);
-        out.append(b"\"");
+        out.out.put_bytes(self);
+        out.out.put("\"");
     }
 }
 
 impl Written for Decimal {
     fn put(&self, out: &mut Text) {
-        out.begin_part();
-        let appended = self.write(&mut out.bytes);
-        out.note(appended);
+        let mut digits = Vec::new(out.out.alloc());
+        out.out.note(self.write(&mut digits));
+        out.word(&digits);
     }
 }
 

@@ -1,10 +1,11 @@
 //! The values of texts: CRSs, frames, systems, conversions and the ends of CRSs.
 use super::{Text, Written};
+use crs_same::{parts, same};
 use crs_value::{
     Axis, AxisMeridian, Base, BoundingBox, Compound, Conversion, Crs, Datum, DeformationModel,
-    Dynamic, Ellipsoid, Ensemble, Extent, Frame, Geodetic, GeoidModel, Horizontal, Ident, Member,
-    Meridian, Method, Parameter, Projected, System, SystemType, Tail, Unit, UnitKind, Usage,
-    Vertical,
+    Dynamic, Ellipsoid, Ensemble, Extent, Frame, Geodetic, GeoidModel, Horizontal, Ident, Level,
+    Member, Meridian, Method, Parameter, Projected, System, SystemType, Tail, Unit, UnitKind,
+    Usage, Vertical,
 };
 
 impl Written for Crs<'_> {
@@ -15,33 +16,27 @@ impl Written for Crs<'_> {
             Crs::Vertical(crs) => crs.put(out),
             Crs::Compound(crs) => crs.put(out),
         }
+        out.look(self, same(self, self, Level::Full), "Crs");
     }
 }
 
 impl Written for Geodetic<'_> {
     fn put(&self, out: &mut Text) {
-        put_node!(self, out, geodetic_keyword(system.system_type) => Geodetic {
+        put_node!(self, out, same_geodetic, match system.system_type { SystemType::Ellipsoidal => "GEOGCRS", _ => "GEODCRS" } => Geodetic {
             name, dynamic, frame, meridian, system, tail
         });
     }
 }
 
-fn geodetic_keyword(system_type: SystemType) -> &'static str {
-    match system_type {
-        SystemType::Ellipsoidal => "GEOGCRS",
-        SystemType::Cartesian | SystemType::Spherical | SystemType::Vertical => "GEODCRS",
-    }
-}
-
 impl Written for Projected<'_> {
     fn put(&self, out: &mut Text) {
-        put_node!(self, out, "PROJCRS" => Projected { name, base, conversion, system, tail });
+        put_node!(self, out, same_projected, "PROJCRS" => Projected { name, base, conversion, system, tail });
     }
 }
 
 impl Written for Base<'_> {
     fn put(&self, out: &mut Text) {
-        put_node!(self, out, "BASEGEOGCRS" => Base {
+        put_node!(self, out, same_base, "BASEGEOGCRS" => Base {
             name, dynamic, frame, meridian, unit, identifiers
         });
     }
@@ -49,7 +44,7 @@ impl Written for Base<'_> {
 
 impl Written for Vertical<'_> {
     fn put(&self, out: &mut Text) {
-        put_node!(self, out, "VERTCRS" => Vertical {
+        put_node!(self, out, same_vertical, "VERTCRS" => Vertical {
             name, dynamic, frame, system, geoid_models, tail
         });
     }
@@ -57,7 +52,7 @@ impl Written for Vertical<'_> {
 
 impl Written for Compound<'_> {
     fn put(&self, out: &mut Text) {
-        put_node!(self, out, "COMPOUNDCRS" => Compound { name, horizontal: part, vertical, tail });
+        put_node!(self, out, same_compound, "COMPOUNDCRS" => Compound { name, horizontal, vertical, tail });
     }
 }
 
@@ -67,6 +62,11 @@ impl Written for Horizontal<'_> {
             Horizontal::Geodetic(crs) => crs.put(out),
             Horizontal::Projected(crs) => crs.put(out),
         }
+        out.look(
+            self,
+            parts::same_horizontal(self, self, Level::Full),
+            "Horizontal",
+        );
     }
 }
 
@@ -76,28 +76,22 @@ impl Written for Frame<'_> {
             Frame::Datum(datum) => datum.put(out),
             Frame::Ensemble(ensemble) => ensemble.put(out),
         }
+        out.look(self, parts::same_frame(self, self, Level::Full), "Frame");
     }
 }
 
 impl Written for Datum<'_> {
     fn put(&self, out: &mut Text) {
-        put_node!(self, out, datum_keyword(ellipsoid) => Datum {
+        put_node!(self, out, same_datum, match ellipsoid { Some(_) => "DATUM", None => "VDATUM" } => Datum {
             name, ellipsoid, anchor: optional_node("ANCHOR"),
             anchor_epoch: optional_node("ANCHOREPOCH"), identifiers
         });
     }
 }
 
-fn datum_keyword(ellipsoid: &Option<Ellipsoid<'_>>) -> &'static str {
-    match ellipsoid {
-        Some(_ellipsoid) => "DATUM",
-        None => "VDATUM",
-    }
-}
-
 impl Written for Ensemble<'_> {
     fn put(&self, out: &mut Text) {
-        put_node!(self, out, "ENSEMBLE" => Ensemble {
+        put_node!(self, out, same_ensemble, "ENSEMBLE" => Ensemble {
             name, members, ellipsoid, accuracy: node("ENSEMBLEACCURACY"), identifiers
         });
     }
@@ -105,13 +99,13 @@ impl Written for Ensemble<'_> {
 
 impl Written for Member<'_> {
     fn put(&self, out: &mut Text) {
-        put_node!(self, out, "MEMBER" => Member { name, identifiers });
+        put_node!(self, out, same_member, "MEMBER" => Member { name, identifiers });
     }
 }
 
 impl Written for Ellipsoid<'_> {
     fn put(&self, out: &mut Text) {
-        put_node!(self, out, "ELLIPSOID" => Ellipsoid {
+        put_node!(self, out, same_ellipsoid, "ELLIPSOID" => Ellipsoid {
             name, semi_major_axis, inverse_flattening, unit, identifiers
         });
     }
@@ -119,33 +113,44 @@ impl Written for Ellipsoid<'_> {
 
 impl Written for Meridian<'_> {
     fn put(&self, out: &mut Text) {
-        put_node!(self, out, "PRIMEM" => Meridian { name, longitude, unit, identifiers });
+        put_node!(self, out, same_meridian, "PRIMEM" => Meridian { name, longitude, unit, identifiers });
     }
 }
 
 impl Written for Dynamic<'_> {
     fn put(&self, out: &mut Text) {
-        put_node!(self, out, "DYNAMIC" => Dynamic { epoch: node("FRAMEEPOCH"), model });
+        put_node!(self, out, same_dynamic, "DYNAMIC" => Dynamic { epoch: node("FRAMEEPOCH"), model });
     }
 }
 
 impl Written for DeformationModel<'_> {
     fn put(&self, out: &mut Text) {
-        put_node!(self, out, "MODEL" => DeformationModel { name, identifiers });
+        put_node!(self, out, same_deformation_model, "MODEL" => DeformationModel { name, identifiers });
     }
 }
 
 impl Written for System<'_> {
     fn put(&self, out: &mut Text) {
-        put_node!(self, out, "CS" => System {
-            system_type: as_word, dimension, identifiers
-        } then axes then unit);
+        let System {
+            system_type,
+            dimension,
+            identifiers,
+            axes,
+            unit,
+        } = self;
+        out.open("CS");
+        out.word(system_type.word().as_bytes());
+        dimension.put(out);
+        identifiers.put(out);
+        out.close();
+        axes.put(out);
+        unit.put(out);
     }
 }
 
 impl Written for Axis<'_> {
     fn put(&self, out: &mut Text) {
-        put_node!(self, out, "AXIS" => Axis {
+        put_node!(self, out, same_axis, "AXIS" => Axis {
             name, direction: as_word, meridian, order: optional_node("ORDER"), unit, identifiers
         });
     }
@@ -153,13 +158,13 @@ impl Written for Axis<'_> {
 
 impl Written for AxisMeridian<'_> {
     fn put(&self, out: &mut Text) {
-        put_node!(self, out, "MERIDIAN" => AxisMeridian { longitude, unit });
+        put_node!(self, out, same_axis_meridian, "MERIDIAN" => AxisMeridian { longitude, unit });
     }
 }
 
 impl Written for Unit<'_> {
     fn put(&self, out: &mut Text) {
-        put_node!(self, out, unit_keyword(*kind) => Unit {
+        put_node!(self, out, same_unit, unit_keyword(*kind) => Unit {
             kind: in_keyword, name, factor, identifiers
         });
     }
@@ -176,19 +181,19 @@ fn unit_keyword(kind: UnitKind) -> &'static str {
 
 impl Written for Conversion<'_> {
     fn put(&self, out: &mut Text) {
-        put_node!(self, out, "CONVERSION" => Conversion { name, method, parameters, identifiers });
+        put_node!(self, out, same_conversion, "CONVERSION" => Conversion { name, method, parameters, identifiers });
     }
 }
 
 impl Written for Method<'_> {
     fn put(&self, out: &mut Text) {
-        put_node!(self, out, "METHOD" => Method { name, identifiers });
+        put_node!(self, out, same_method, "METHOD" => Method { name, identifiers });
     }
 }
 
 impl Written for Parameter<'_> {
     fn put(&self, out: &mut Text) {
-        put_node!(self, out, "PARAMETER" => Parameter { name, value, unit, identifiers });
+        put_node!(self, out, same_parameter, "PARAMETER" => Parameter { name, value, unit, identifiers });
     }
 }
 
@@ -205,30 +210,31 @@ impl Written for Usage<'_> {
         out.open("USAGE");
         out.parts(self);
         out.close();
+        out.look(self, parts::same_usage(self, self, Level::Full), "Usage");
     }
 }
 
 impl Written for BoundingBox {
     fn put(&self, out: &mut Text) {
-        put_node!(self, out, "BBOX" => BoundingBox { south, west, north, east });
+        put_node!(self, out, same_box, "BBOX" => BoundingBox { south, west, north, east });
     }
 }
 
 impl Written for Extent<'_> {
     fn put(&self, out: &mut Text) {
-        put_node!(self, out, "VERTICALEXTENT" => Extent { minimum, maximum, unit });
+        put_node!(self, out, same_extent, "VERTICALEXTENT" => Extent { minimum, maximum, unit });
     }
 }
 
 impl Written for GeoidModel<'_> {
     fn put(&self, out: &mut Text) {
-        put_node!(self, out, "GEOIDMODEL" => GeoidModel { name, identifiers });
+        put_node!(self, out, same_geoid_model, "GEOIDMODEL" => GeoidModel { name, identifiers });
     }
 }
 
 impl Written for Ident<'_> {
     fn put(&self, out: &mut Text) {
-        put_node!(self, out, "ID" => Ident {
+        put_node!(self, out, same_ident, "ID" => Ident {
             authority, code: code, version: optional_code, citation: optional_node("CITATION"),
             uri: optional_node("URI")
         });

@@ -1,0 +1,107 @@
+//! The answer of a call, as a row writes it.
+use crs_text::{Fault, Refusal};
+use std::alloc::{AllocError, Global};
+use std::fmt::Display;
+use std::io;
+use std::io::Write;
+
+/// The bytes of an answer. It remembers that memory ran out, so that what puts a part of it needn't tell.
+#[derive(Drop)]
+pub struct Answer {
+    bytes: Vec<u8>,
+    had_memory: bool,
+}
+
+impl Answer {
+    /// An answer with nothing in it yet.
+    pub fn new(alloc: Global) -> Answer {
+        Answer {
+            bytes: Vec::new(alloc),
+            had_memory: true,
+        }
+    }
+
+    /// What its memory comes from.
+    pub fn alloc(&self) -> Global {
+        *self.bytes.allocator()
+    }
+
+    /// What was put; the error is that memory ran out.
+    pub fn bytes(&self) -> Result<&[u8], AllocError> {
+        if self.had_memory {
+            Ok(&self.bytes)
+        } else {
+            Err(AllocError)
+        }
+    }
+
+    /// Prints what was put, as a line; the error is that memory ran out, too.
+    pub fn print(&self, rt: &impl Print) -> io::Result<()> {
+        io::writer(rt).write_all(self.bytes()?)?;
+        io::writer(rt).write_all(b"\n")
+    }
+
+    /// Whether the same was put in another answer; the error is that memory ran out for one of them.
+    pub fn is(&self, other: &Answer) -> Result<bool, AllocError> {
+        Ok(self.bytes()? == other.bytes()?)
+    }
+
+    /// Remembers that memory ran out, where it did.
+    pub fn note(&mut self, done: Result<(), AllocError>) {
+        self.had_memory = self.had_memory && done.is_ok();
+    }
+
+    /// What was made; None where memory ran out, which it remembers.
+    pub fn made<T>(&mut self, made: Result<T, AllocError>) -> Option<T> {
+        self.had_memory = self.had_memory && made.is_ok();
+        made.ok()
+    }
+
+    /// Whether what was asked holds; not where memory ran out, which it remembers.
+    pub fn holds(&mut self, asked: Result<bool, AllocError>) -> bool {
+        self.made(asked).unwrap_or(false)
+    }
+
+    /// What was accepted; None where a text was refused, which is put.
+    pub fn accepted<T>(&mut self, found: Result<T, Fault>) -> Option<T> {
+        match found {
+            Ok(value) => Some(value),
+            Err(fault) => {
+                self.put_fault(fault);
+                None
+            }
+        }
+    }
+
+    pub fn put(&mut self, text: &str) {
+        self.put_bytes(text.as_bytes());
+    }
+
+    pub fn put_bytes(&mut self, bytes: &[u8]) {
+        let done = self.bytes.extend_from_slice(bytes);
+        self.note(done);
+    }
+
+    /// Puts what a format gives, as `write!` asks for it.
+    pub fn write_fmt<D: Display + Drop>(&mut self, value: D) {
+        let mut text = String::new(self.alloc());
+        let done = text.write_fmt(value);
+        self.note(done);
+        self.put(text.as_str());
+    }
+
+    /// Puts the refusal of a text, or remembers that memory ran out.
+    pub fn put_fault(&mut self, fault: Fault) {
+        match fault {
+            Fault::Refused(refusal) => self.put_refusal(refusal),
+            Fault::Memory(error) => self.note(Err(error)),
+        }
+    }
+
+    /// Puts `refused`, the number, the name and the place.
+    pub fn put_refusal(&mut self, refusal: Refusal) {
+        let (number, place): (u8, usize) = (refusal.number(), refusal.place());
+        let name: &'static str = refusal.name();
+        write!(self, "refused {number} {name} at {place}");
+    }
+}

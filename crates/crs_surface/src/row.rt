@@ -1,0 +1,92 @@
+//! What is asked in a row, or of a call that is tried.
+use crs_value::Level;
+use std::alloc::{AllocError, Global};
+use std::{io, str};
+
+/// A call and the parts of its input.
+#[derive(Drop)]
+pub struct Row<'t> {
+    /// The name of a call; after a blank it may have words.
+    pub call: &'t str,
+    pub level: Level,
+    // all parts, and where each ends
+    input: Vec<u8>,
+    ends: Vec<usize>,
+}
+
+impl<'t> Row<'t> {
+    pub fn new(alloc: Global) -> Row<'t> {
+        Row {
+            call: "",
+            level: Level::Full,
+            input: Vec::new(alloc),
+            ends: Vec::new(alloc),
+        }
+    }
+
+    /// A line with the call's name, and then the parts, a NUL byte between two. The error is a name that isn't UTF-8, or
+    /// out of memory.
+    pub fn of(alloc: Global, bytes: &'t [u8]) -> io::Result<Row<'t>> {
+        let mut row = Row::new(alloc);
+        let mut lines = bytes.splitn(2, |byte| *byte == b'\n');
+        row.call = str::from_utf8(lines.next().unwrap_or(&[])).map_err(|_| unusable())?;
+        for part in lines.next().unwrap_or(&[]).split(|byte| *byte == 0) {
+            row.input.extend_from_slice(part)?;
+            row.ends.push(row.input.len())?;
+        }
+        Ok(row)
+    }
+
+    /// Sets the call; its last two words may be `at definition`, its level.
+    pub fn set_call(&mut self, call: &'t str) {
+        let is_full = !call.ends_with(" at definition");
+        self.level = if is_full {
+            Level::Full
+        } else {
+            Level::Definition
+        };
+        self.call = call.strip_suffix(" at definition").unwrap_or(call);
+    }
+
+    /// Adds a part, which is a text so many times.
+    pub fn add(&mut self, count: u32, text: &[u8]) -> Result<(), AllocError> {
+        for _turn in 0..count {
+            self.input.extend_from_slice(text)?;
+        }
+        self.ends.push(self.input.len())?;
+        Ok(())
+    }
+
+    /// All parts, one after the other.
+    pub fn text(&self) -> &[u8] {
+        &self.input
+    }
+
+    pub fn count(&self) -> usize {
+        self.ends.len()
+    }
+
+    /// The part at an index; an empty one where there is none.
+    pub fn part(&self, index: usize) -> &[u8] {
+        let begin = match index {
+            0 => 0,
+            _ => self.ends.get(index - 1).copied().unwrap_or(0),
+        };
+        let end = self.ends.get(index).copied().unwrap_or(begin);
+        self.input.get(begin..end).unwrap_or(&[])
+    }
+}
+
+/// The parts of a row.
+pub fn parts_of<'r>(alloc: Global, row: &'r Row<'_>) -> Result<Vec<&'r [u8]>, AllocError> {
+    let mut parts = Vec::new(alloc);
+    for index in 0..row.count() {
+        parts.push(row.part(index))?;
+    }
+    Ok(parts)
+}
+
+/// The input is none of the call's.
+pub fn unusable() -> io::Error {
+    io::Error::from(io::ErrorKind::InvalidInput)
+}
