@@ -1,10 +1,11 @@
 //! The reading of command lines.
 use crs_desk::{
-    ExplainOptions, GroupFlags, Layout, LineWord, Request, RequestFault, Task, request,
+    Comparison, Layout, LineWord, LineWords, Listing, Manner, Request, RequestFault, Task,
+    WordKind, Work, request,
 };
 use crs_suite::{Answer, about_value};
 use std::alloc::{AllocError, Global};
-use std::str;
+use std::{slice, str};
 
 /// The command that the words ask for, one a line, and its words in brackets, the level first, after `files` the names,
 /// after `texts` the texts and after `rules` the names of rules files; `no command` where the line is wrong.
@@ -52,45 +53,66 @@ fn put_asked(out: &mut Answer, asked: &Request) {
             put_word(out, second);
         }
         Request::Group(level) => put_command(out, "group", level),
-        Request::Texts { task, texts, rules } => {
-            put_task(out, task);
-            put_named(out, " texts", texts.as_slice());
+        Request::Other { level, order, work } => put_work(out, work, level, order),
+    }
+}
+
+fn put_work(out: &mut Answer, work: &Work, level: &LineWord, order: &LineWords) {
+    match work {
+        Work::Standard(task) => put_task(out, *task, level, order),
+        Work::Text { how, text, rules } => {
+            put_task(out, Task::Explain(*how), level, order);
+            put_named(out, " texts", slice::from_ref(text));
             put_named(out, " rules", rules.as_slice());
         }
-        Request::Files { task, names, rules } => {
-            put_task(out, task);
+        Work::Pair(comparison, pair) => {
+            match comparison {
+                Comparison::Same => put_command(out, "same", level),
+                Comparison::Explain(how) => put_task(out, Task::Explain(*how), level, order),
+            }
+            out.put(match pair.kind {
+                WordKind::Text => " texts",
+                WordKind::FileName => " files",
+            });
+            put_word(out, &pair.first);
+            put_word(out, &pair.second);
+            put_named(out, " rules", pair.rules.as_slice());
+        }
+        Work::Files { task, names, rules } => {
+            put_task(out, *task, level, order);
             put_named(out, " files", names.as_slice());
             put_named(out, " rules", rules.as_slice());
         }
     }
 }
 
-fn put_task(out: &mut Answer, task: &Task) {
+// A task: its words, the level in brackets, and what is asked of it.
+fn put_task(out: &mut Answer, task: Task, level: &LineWord, order: &LineWords) {
     match task {
-        Task::Canon(level, Layout::Lines) => put_command(out, "canon lines", level),
-        Task::Canon(level, Layout::OneText) => put_command(out, "canon", level),
+        Task::Canon(Layout::Lines) => put_command(out, "canon lines", level),
+        Task::Canon(Layout::OneText) => put_command(out, "canon", level),
         Task::Check(Layout::Lines) => out.put("check lines"),
         Task::Check(Layout::OneText) => out.put("check"),
-        Task::Group(level, flags) => put_group(out, level, *flags),
-        Task::Same(level) => put_command(out, "same", level),
-        Task::Explain(options) => put_explain(out, options),
+        Task::Group(listing) => put_group(out, level, listing),
+        Task::Explain(how) => {
+            put_command(out, "explain", level);
+            out.put(if matches!(how, Manner::Objects) {
+                " json"
+            } else {
+                ""
+            });
+            put_named(out, " first", order.as_slice());
+        }
     }
 }
 
 // `group` with its flags.
-fn put_group(out: &mut Answer, level: &LineWord, flags: GroupFlags) {
+fn put_group(out: &mut Answer, level: &LineWord, listing: Listing) {
     out.put("group");
-    out.put(if flags.repeated { " repeated" } else { "" });
-    out.put(if flags.names { " names" } else { "" });
-    out.put(if flags.json { " json" } else { "" });
+    out.put(if listing.repeated { " repeated" } else { "" });
+    out.put(if listing.names { " names" } else { "" });
+    out.put(if listing.json { " json" } else { "" });
     put_word(out, level);
-}
-
-// The command, the level in brackets, and `json` and what is told `first` where they are asked for.
-fn put_explain(out: &mut Answer, options: &ExplainOptions) {
-    put_command(out, "explain", &options.level);
-    out.put(if options.json { " json" } else { "" });
-    put_named(out, " first", options.order.as_slice());
 }
 
 // The command, and its level in brackets.

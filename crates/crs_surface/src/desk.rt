@@ -86,7 +86,7 @@ fn asks(alloc: Global, line: &[&str], command: &str, words: &[&str]) -> bool {
     )
 }
 
-// The last two variants are additions.
+// The last variant is an addition.
 fn is_request(asked: &Request, command: &str, words: &[&str]) -> bool {
     match asked {
         Request::Canon(level) => command == "Canon" && [word(level)].as_slice() == words,
@@ -95,7 +95,7 @@ fn is_request(asked: &Request, command: &str, words: &[&str]) -> bool {
             command == "Same" && [word(first), word(second), word(level)].as_slice() == words
         }
         Request::Group(level) => command == "Group" && [word(level)].as_slice() == words,
-        Request::Texts { .. } | Request::Files { .. } => false,
+        Request::Other { .. } => false,
     }
 }
 
