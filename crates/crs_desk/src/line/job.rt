@@ -53,7 +53,7 @@ impl Request {
     {
         let order = Vec::new(alloc);
         match self {
-            Request::Canon(level) => job(
+            Request::Canon(level) => at_level(
                 &level,
                 order,
                 Work::Standard(Task::Canon(Layout::OneText)),
@@ -72,9 +72,9 @@ impl Request {
                     second,
                     rules,
                 };
-                job(&level, order, Work::Pair(Comparison::Same, pair))
+                at_level(&level, order, Work::Pair(Comparison::Same, pair))
             }
-            Request::Group(level) => job(&level, order, Work::Standard(Task::Group(PLAIN))),
+            Request::Group(level) => at_level(&level, order, Work::Standard(Task::Group(PLAIN))),
             Request::Other { level, order, work } => {
                 let level = level_of(&level)?;
                 let order = order_of(alloc, &order)?;
@@ -84,7 +84,7 @@ impl Request {
     }
 }
 
-fn job(level: &LineWord, order: Vec<StepWord>, work: Work) -> Result<Job, JobFault>
+fn at_level(level: &LineWord, order: Vec<StepWord>, work: Work) -> Result<Job, JobFault>
     ensures { IfOk result (DoesAt level.now work) }
 {
     let level = level_of(level)?;
