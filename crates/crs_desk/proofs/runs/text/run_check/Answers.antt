@@ -11,4 +11,13 @@ returns c =
     (λ status. check-answered c.args.r.now c.read_pieces.new.source c.args.w.now c.write_answer.new.w c.in_ok-feeder.feeder c.in_ok-found.found status
     c.in_ok-feeder.ensures.ok found)
     c.write_answer.ensures.answered in
-    search rules
+    record {
+      answered = answered;
+      reads = search rules;
+      past_end = search rules;
+      fault = search rules;
+      read_failed = search rules;
+      write_failed = search rules;
+      past_failure = search rules;
+      too_long = search rules;
+    }
