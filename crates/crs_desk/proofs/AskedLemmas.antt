@@ -13,12 +13,12 @@ use Rattle.clap.specs.Takes.{bundle_passes, default_passes, entered_passes, flag
 use Rattle.clap.specs.declared.parser.matches.ValueSource.TheVariants.{CommandLine}
 use Rattle.clap.proofs.OnLiterals.{clap_on_literals}
 use Rattle.clap.proofs.WalkLemmas.{both}
-use Rattle.crs_desk.specs.Requests.{over, request_of}
-use Rattle.crs_desk.specs.CommandLine.{asked, desk, file_operands, files_flag, first_option, is_plain_word, json_flag, level_option, lines_flag, names_flag, repeated_flag, rules_option, spare_operand}
+use Rattle.crs_desk.specs.Requests.{request_of}
+use Rattle.crs_desk.specs.CommandLine.{asked, desk, file_operands, first_option, flag, is_plain_word, level_option, rules_option, spare_operand}
 use Rattle.crs_desk.specs.declared.line.requests.Request.{Request}
-use Rattle.crs_desk.specs.declared.line.requests.Request.TheVariants.{Files}
+use Rattle.crs_desk.specs.declared.line.requests.Request.TheVariants.{Other}
 use Rattle.crs_desk.specs.declared.line.requests.Task.{Task}
-use Rattle.crs_desk.specs.declared.line.word.WordKind.TheVariants.{FileName}
+use Rattle.crs_desk.specs.declared.line.requests.Work.TheVariants.{Files}
 use Rattle.crs_desk.proofs.OperandLemmas.{built_same}
 
 -- ---- words, of which some are written out
@@ -163,12 +163,12 @@ built_with name own = record (new_shape name) {
 
 -- the commands, as `clap` builds them
 abbrev pub built_at : CommandName → Shape
-built_at canon = built_with (codes "canon") (level_option ∷ rules_option ∷ lines_flag ∷ file_operands ∷ help_rule ∷ [])
-built_at check = built_with (codes "check") (lines_flag ∷ file_operands ∷ help_rule ∷ [])
-built_at group = built_with (codes "group") (level_option ∷ rules_option ∷ json_flag ∷ repeated_flag ∷ names_flag ∷ file_operands ∷ help_rule ∷ [])
+built_at canon = built_with (codes "canon") (level_option ∷ rules_option ∷ flag (codes "lines") ∷ file_operands ∷ help_rule ∷ [])
+built_at check = built_with (codes "check") (flag (codes "lines") ∷ file_operands ∷ help_rule ∷ [])
+built_at group = built_with (codes "group") (level_option ∷ rules_option ∷ flag (codes "json") ∷ flag (codes "repeated") ∷ flag (codes "names") ∷ file_operands ∷ help_rule ∷ [])
 built_at same = built_same
 built_at explain = built_with (codes "explain")
-    (spare_operand (codes "first") ∷ spare_operand (codes "second") ∷ json_flag ∷ first_option ∷ level_option ∷ rules_option ∷ files_flag ∷ help_rule ∷ [])
+    (spare_operand (codes "first") ∷ spare_operand (codes "second") ∷ flag (codes "json") ∷ first_option ∷ level_option ∷ rules_option ∷ flag (codes "files") ∷ help_rule ∷ [])
 
 abbrev top : Shape
 top = (built desk).top
@@ -264,12 +264,16 @@ with_files (name ∷ names) last =
 abbrev at_files : List Text → Text → Walk
 at_files names last = before (with_files names last) positional 1
 
+-- a task over files
+abbrev over_files : Task → List Text → Request
+over_files wanted names = Other (codes "full") [] (Files wanted names [])
+
 -- a command goes to a first file and on to a next, and at the end its task is asked for over the files
 abbrev pub ReadsFiles : CommandName → Task → Type 0
 ReadsFiles n wanted = (names : List Text) (last word : Text)
     → (is_plain_word word ≡ true → Goes (built_at n) (walk_from nothing_held) word (at_files [] word))
     × (is_plain_word word ≡ true → Goes (built_at n) (at_files names last) word (at_files (names ++ last ∷ []) word))
-    × (request_of (name_of n, finished (built_at n).rules (with_files names last)) ≡ Some (over wanted FileName (names ++ last ∷ []) []))
+    × (request_of (name_of n, finished (built_at n).rules (with_files names last)) ≡ Some (over_files wanted (names ++ last ∷ [])))
     × (ends (built_at n) (at_files names last) ≡ true)
 
 -- names are taken to the last
@@ -287,17 +291,12 @@ files_run n wanted reads names last (word ∷ words) usual =
           ((reads names last word).1 each.0) rest.3,
     )
 
--- files are asked for where there are some
-over-some : (wanted : Task) (names : List Text) (last : Text) → over wanted FileName (names ++ last ∷ []) [] ≡ Files wanted (names ++ last ∷ []) []
-over-some wanted [] last = refl
-over-some wanted (name ∷ names) last = refl
-
 pub files_asked : (n : CommandName) (wanted : Task) → ReadsFiles n wanted → (program name : Text) (names : List Text)
-    → list_all is_plain_word (name ∷ names) ≡ true → asked (program ∷ name_of n ∷ name ∷ names) ≡ Some (Files wanted (name ∷ names) [])
+    → list_all is_plain_word (name ∷ names) ≡ true → asked (program ∷ name_of n ∷ name ∷ names) ≡ Some (Other (codes "full") [] (Files wanted (name ∷ names) []))
 files_asked n wanted reads program name names usual =
     let each = both (is_plain_word name) _ usual in
     let run = files_run n wanted reads [] name names each.1 in
     let to = at_files run.0 run.1 in
     let end = reads run.0 run.1 name in
     line_asked n program (name ∷ names) to (goes_on (built_at n) (walk_from nothing_held) (at_files [] name) to name names (end.0 each.0) run.3) end.3
-    ∙ end.2 ∙ ap Some (over-some wanted run.0 run.1) ∙ sym (ap (λ l. Some (Files wanted l [])) run.2)
+    ∙ end.2 ∙ sym (ap (λ l. Some (over_files wanted l)) run.2)

@@ -11,7 +11,7 @@ use Rattle.clap.specs.Walk.{Held, Outcome, Step, Waiting, Walk, plain, idle, opt
 use Rattle.clap.specs.Takes.{bundle_passes, bundle_step_passes, flag_word_passes, flags_pass, is_given, level_passes, long_passes, other_passes, short_passes, turn_passes, walk_passes, word_passes}
 use Rattle.clap.proofs.OnLiterals.{clap_on_literals}
 use Rattle.clap.proofs.WalkLemmas.{both}
-use Rattle.crs_desk.specs.CommandLine.{desk, files_flag, level_option, rules_option}
+use Rattle.crs_desk.specs.CommandLine.{desk, flag, level_option, rules_option}
 use Rattle.crs_desk.proofs.OperandLemmas.{built_same, second_given}
 use Rattle.crs_desk.proofs.AskedLemmas.{none_met}
 
@@ -26,7 +26,7 @@ abbrev ruling : Rule
 ruling = with_index 3 (filled rules_option)
 
 abbrev files : Rule
-files = with_index 3 (filled files_flag)
+files = with_index 3 (filled (flag (codes "files")))
 
 abbrev help : Rule
 help = with_index 3 (filled help_rule)

@@ -46,26 +46,6 @@ first_option = record (new_rule (codes "order")) {
 abbrev pub flag : Text → Rule
 flag name = record (new_rule name) { long = Some name; action = Some SetTrue }
 
--- the flag `--lines`
-abbrev pub lines_flag : Rule
-lines_flag = flag (codes "lines")
-
--- the flag `--repeated`
-abbrev pub repeated_flag : Rule
-repeated_flag = flag (codes "repeated")
-
--- the flag `--names`
-abbrev pub names_flag : Rule
-names_flag = flag (codes "names")
-
--- the flag `--files`
-abbrev pub files_flag : Rule
-files_flag = flag (codes "files")
-
--- the flag `--json`
-abbrev pub json_flag : Rule
-json_flag = flag (codes "json")
-
 -- names of files, as many words as there are
 abbrev pub file_operands : Rule
 file_operands = record (spare_operand (codes "file")) { action = Some Append }
@@ -73,32 +53,32 @@ file_operands = record (spare_operand (codes "file")) { action = Some Append }
 -- `canon`, which takes a level, rules, the flag `--lines` and files
 abbrev pub canon_shape : Shape
 canon_shape = record (new_shape (codes "canon")) {
-  rules = level_option ∷ rules_option ∷ lines_flag ∷ file_operands ∷ [];
+  rules = level_option ∷ rules_option ∷ flag (codes "lines") ∷ file_operands ∷ [];
 }
 
 -- `check`, which takes that flag and files
 abbrev pub check_shape : Shape
-check_shape = record (new_shape (codes "check")) { rules = lines_flag ∷ file_operands ∷ [] }
+check_shape = record (new_shape (codes "check")) { rules = flag (codes "lines") ∷ file_operands ∷ [] }
 
 -- `group`, which takes a level, rules, the flags `--json`, `--repeated` and `--names`, and files
 abbrev pub group_shape : Shape
 group_shape = record (new_shape (codes "group")) {
-  rules = level_option ∷ rules_option ∷ json_flag ∷ repeated_flag ∷ names_flag ∷ file_operands ∷ [];
+  rules = level_option ∷ rules_option ∷ flag (codes "json") ∷ flag (codes "repeated") ∷ flag (codes "names") ∷ file_operands ∷ [];
 }
 
 -- `same`, which needs a first operand and a second, and takes a level, rules and the flag `--files`
 abbrev pub same_shape : Shape
 same_shape = record (new_shape (codes "same")) {
   rules = operand (codes "first") ∷ operand (codes "second") ∷ level_option ∷ rules_option
-      ∷ files_flag ∷ [];
+      ∷ flag (codes "files") ∷ [];
 }
 
 -- `explain`, which may have a first operand and a second, and takes the flag `--json`, the option
 -- `--first`, and what `same` takes
 abbrev pub explain_shape : Shape
 explain_shape = record (new_shape (codes "explain")) {
-  rules = spare_operand (codes "first") ∷ spare_operand (codes "second") ∷ json_flag
-      ∷ first_option ∷ level_option ∷ rules_option ∷ files_flag ∷ [];
+  rules = spare_operand (codes "first") ∷ spare_operand (codes "second") ∷ flag (codes "json")
+      ∷ first_option ∷ level_option ∷ rules_option ∷ flag (codes "files") ∷ [];
 }
 
 -- `crsdesk` alone; it has a version, and needs one of its commands
@@ -107,14 +87,11 @@ lone_desk =
     on_top (λ s. record s { has_version = true; subcommand_required = true })
     (new_app (codes "crsdesk"))
 
--- `crsdesk` with `canon`, `check` and `group`, which read standard input or files
-abbrev pub input_desk : App
-input_desk = with_subcommand (with_subcommand (with_subcommand lone_desk
-    canon_shape) check_shape) group_shape
-
 -- `crsdesk` with all its commands
 abbrev pub desk : App
-desk = with_subcommand (with_subcommand input_desk same_shape) explain_shape
+desk =
+    with_subcommand (with_subcommand (with_subcommand (with_subcommand (with_subcommand lone_desk
+    canon_shape) check_shape) group_shape) same_shape) explain_shape
 
 -- what the words ask for, where the command takes them; the first of them is the program's name
 abbrev pub asked : List Text → Option Request

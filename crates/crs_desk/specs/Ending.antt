@@ -1,5 +1,6 @@
 -- How a run ends, over one text or without a source.
-use Rattle.std.specs.Prelude.{◌≡◌, ◌≤◌, ◌<◌, ℕ, List, true, false}
+use Rattle.std.specs.Prelude.{◌≡◌, ◌≤◌, ◌<◌, ◌↔◌, ℕ, List, true, false}
+use Rattle.std.specs.Prelude.{IfErr, IfOk, IsErrOf, Result}
 use Rattle.std.specs.Io.KnownBytes.{Appends}
 use Rattle.crs_streams.specs.Streams.{SourceState, SinkState}
 use Rattle.crs_desk.specs.Whole.{IsWhole}
@@ -45,3 +46,25 @@ IsRunFault source old new TooManyReads =
 IsRunFault source old new WriteFailed =
     (source.failed ≡ false) × (source.taken ≤ 1048576) × (source.ended ≡ true) × (new.failed ≡ true)
 IsRunFault source old new Memory = (source.failed ≡ false) × (source.taken ≤ 1048576) × (new ≡ old)
+
+-- how a run over one text ends: it is answered, or ends with a fault that says which side failed, or
+-- that the text is too long; no read follows the end, and no write a failure
+pub record IsRun (Output : List ℕ → List ℕ → ℕ → Type 0) (old_source new_source : SourceState)
+    (old_sink new_sink : SinkState) (result : Result ℕ RunFault) : Type 0 where
+  pub answered : IfOk result (IsAnswered Output old_source new_source old_sink new_sink)
+  pub reads : new_source.reads ≤ 1048576
+  pub past_end : new_source.past_end ≡ false
+  pub fault : IfErr result (IsRunFault new_source old_sink new_sink)
+  pub read_failed : IsErrOf result ReadFailed ↔ (new_source.failed ≡ true)
+  pub write_failed : IsErrOf result WriteFailed ↔ (new_sink.failed ≡ true)
+  pub past_failure : new_sink.past_failure ≡ false
+  pub too_long :
+      IsErrOf result (TooLong 0) ↔ (1048576 < new_source.taken) × (new_source.failed ≡ false)
+
+-- how a run without a source ends
+pub record IsSent (Output : List ℕ → ℕ → Type 0) (old new : SinkState)
+    (result : Result ℕ RunFault) : Type 0 where
+  pub answered : IfOk result (IsWritten Output old new)
+  pub fault : IfErr result (IsWriteFault old new)
+  pub write_failed : IsErrOf result WriteFailed ↔ (new.failed ≡ true)
+  pub past_failure : new.past_failure ≡ false

@@ -1,18 +1,27 @@
 -- What a command line asks for, by the name of its command and the matches that `clap` gives.
-use Rattle.std.specs.Prelude.{◌||◌, [], ◌∷◌, Bool, false, List, Option}
+use Rattle.std.specs.Prelude.{◌≡◌, ◌||◌, [], ◌∷◌, Bool, List, Option}
 use Rattle.std.specs.Prelude.{Some, None, codes, unwrap_or, if◌then◌else◌}
 use Rattle.std.specs.Str.{bytes_eq}
 use Rattle.clap.specs.Words.{Row, Text, all_of, first_of}
+use Rattle.crs_value.specs.declared.values.level.Level.{Level}
+use Rattle.crs_value.specs.declared.values.level.Level.TheVariants.{Full, Definition}
+use Rattle.crs_group.specs.GroupOutput.{plain}
+use Rattle.crs_group.specs.declared.listing.Listing.{Listing}
+use Rattle.crs_desk.specs.declared.line.job.Job.{Job}
 use Rattle.crs_desk.specs.declared.line.requests.Request.{Request}
-use Rattle.crs_desk.specs.declared.line.requests.Request.TheVariants.{Canon, Check, Same, Group, Texts, Files}
-use Rattle.crs_desk.specs.declared.line.requests.GroupFlags.{GroupFlags}
-use Rattle.crs_desk.specs.declared.line.requests.ExplainOptions.{ExplainOptions}
+use Rattle.crs_desk.specs.declared.line.requests.Request.TheVariants.{Canon, Check, Same, Group, Other}
+use Rattle.crs_desk.specs.declared.line.requests.Comparison.TheVariants as comparison
+use Rattle.crs_desk.specs.declared.line.requests.LinePair.{LinePair}
+use Rattle.crs_desk.specs.declared.line.requests.Work.{Work}
+use Rattle.crs_desk.specs.declared.line.requests.Work.TheVariants as work
 use Rattle.crs_desk.specs.declared.line.requests.Task.{Task}
 use Rattle.crs_desk.specs.declared.line.requests.Task.TheVariants as task
 use Rattle.crs_desk.specs.declared.line.requests.Layout.{Layout}
 use Rattle.crs_desk.specs.declared.line.requests.Layout.TheVariants.{Lines, OneText}
 use Rattle.crs_desk.specs.declared.line.word.WordKind.{WordKind}
 use Rattle.crs_desk.specs.declared.line.word.WordKind.TheVariants as word
+use Rattle.crs_desk.specs.declared.runs.manner.Manner.{Manner}
+use Rattle.crs_desk.specs.declared.runs.manner.Manner.TheVariants as manner
 
 -- the level among a command's matches: `full` where none is named
 abbrev pub level_of : List Row → Text
@@ -42,82 +51,110 @@ layout_of rows = if has_flag (codes "lines") rows then Lines else OneText
 abbrev pub kind_of_words : List Row → WordKind
 kind_of_words rows = if has_flag (codes "files") rows then word.FileName else word.Text
 
--- what a task asks of standard input, where there are neither texts nor rules
-abbrev pub over_standard : Task → List Text → List Text → Request
-over_standard (task.Canon level OneText) texts rules = Canon level
-over_standard (task.Check OneText) texts rules = Check
-over_standard (task.Group level flags) texts rules =
-    if (flags.repeated || flags.names) || flags.json then Texts (task.Group level flags) texts rules
-    else Group level
-over_standard asked texts rules = Texts asked texts rules
+-- how a command explains: with `--json` in objects
+abbrev pub manner_of : List Row → Manner
+manner_of rows = if has_flag (codes "json") rows then manner.Objects else manner.Lines
 
--- what a task asks of words of a kind, or of standard input where there are none, under the rules of
--- files where there are some
-abbrev pub over : Task → WordKind → List Text → List Text → Request
-over asked kind [] [] = over_standard asked [] []
-over asked kind [] rules = Files asked standard rules
-over asked word.Text texts rules = Texts asked texts rules
-over asked word.FileName names rules = Files asked names rules
-
--- what a task asks of the files among a command's matches, or of standard input where it names none
-abbrev pub over_files : Task → List Row → Request
-over_files asked rows = over asked word.FileName (words_of (codes "file") rows) (rules_of rows)
-
--- the flags of `group` among its matches
-abbrev pub group_flags : List Row → GroupFlags
-group_flags rows = record {
+-- which groups `group` writes, by its flags
+abbrev pub listing_of : List Row → Listing
+listing_of rows = record {
   repeated = has_flag (codes "repeated") rows;
   names = has_flag (codes "names") rows;
   json = has_flag (codes "json") rows;
 }
 
--- two operands are compared at a level where both are there: texts, alone or under rules, or files
-abbrev pub same_operands : Option Text → Option Text → WordKind → Text → List Text → Option Request
-same_operands (Some first) (Some second) word.Text level [] = Some (Same first second level)
-same_operands (Some first) (Some second) kind level rules =
-    Some (over (task.Same level) kind (first ∷ second ∷ []) rules)
-same_operands first second kind level rules = None
+-- the request to compare two texts or files as `same` does: texts alone are one of their own
+abbrev pub same_for : Text → List Text → WordKind → List Text → LinePair → Request
+same_for level order word.Text [] pair = Same pair.first pair.second level
+same_for level order kind rules pair = Other level order (work.Pair comparison.Same pair)
 
--- the level, the rules and the operands of `same`, among its matches
-abbrev pub same_of : List Row → Option Request
-same_of rows =
-    same_operands (first_of (codes "first") rows) (first_of (codes "second") rows)
-    (kind_of_words rows) (level_of rows) (rules_of rows)
+-- the request for some work, at a level, with words of paths
+abbrev pub request_for : Text → List Text → Work → Request
+request_for level order (work.Standard (task.Canon OneText)) = Canon level
+request_for level order (work.Standard (task.Check OneText)) = Check
+request_for level order (work.Standard (task.Group listing)) =
+    if (listing.repeated || listing.names) || listing.json then
+    Other level order (work.Standard (task.Group listing))
+    else Group level
+request_for level order (work.Pair comparison.Same pair) =
+    same_for level order pair.kind pair.rules pair
+request_for level order other = Other level order other
 
--- the options of `explain` among its matches
-abbrev pub options_of : List Row → ExplainOptions
-options_of rows = record {
-  level = level_of rows;
-  json = has_flag (codes "json") rows;
-  order = words_of (codes "order") rows;
+-- the request for some work, with the level and the words of `--first` among a command's matches
+abbrev pub asked_for : Work → List Row → Request
+asked_for wanted rows = request_for (level_of rows) (words_of (codes "order") rows) wanted
+
+-- a task over files, or over standard input where there are none, under rules where there are some
+abbrev pub file_work : Task → List Text → List Text → Work
+file_work asked [] [] = work.Standard asked
+file_work asked [] rules = work.Files asked standard rules
+file_work asked names rules = work.Files asked names rules
+
+-- a task over the files among a command's matches, or over standard input where it names none
+abbrev pub over_files : Task → List Row → Request
+over_files asked rows =
+    asked_for (file_work asked (words_of (codes "file") rows) (rules_of rows)) rows
+
+-- two operands, and the rules among a command's matches
+abbrev pub pair_of : List Row → Text → Text → LinePair
+pair_of rows first second = record {
+  kind = kind_of_words rows;
+  first = first;
+  second = second;
+  rules = rules_of rows;
 }
 
--- those where a level alone is named
-abbrev pub level_alone : Text → ExplainOptions
-level_alone level = record { level = level; json = false; order = [] }
+-- both operands of `same` are compared where they are there
+abbrev pub same_operands : List Row → Option Text → Option Text → Option Request
+same_operands rows (Some first) (Some second) =
+    Some (asked_for (work.Pair comparison.Same (pair_of rows first second)) rows)
+same_operands rows first second = None
 
--- both operands, the first alone, or none
-abbrev pub operands : Option Text → Option Text → List Text
-operands None second = []
-operands (Some first) None = first ∷ []
-operands (Some first) (Some second) = first ∷ second ∷ []
+-- those among its matches
+abbrev pub same_of : List Row → Option Request
+same_of rows =
+    same_operands rows (first_of (codes "first") rows) (first_of (codes "second") rows)
 
--- those among a command's matches
-abbrev pub operands_of : List Row → List Text
-operands_of rows = operands (first_of (codes "first") rows) (first_of (codes "second") rows)
+-- both operands of `explain` are compared, the first alone is explained, or else standard input
+abbrev pub explain_operands : List Row → Option Text → Option Text → Work
+explain_operands rows None second = file_work (task.Explain (manner_of rows)) [] (rules_of rows)
+explain_operands rows (Some first) None =
+    if has_flag (codes "files") rows then
+    work.Files (task.Explain (manner_of rows)) (first ∷ []) (rules_of rows)
+    else work.Text (manner_of rows) first (rules_of rows)
+explain_operands rows (Some first) (Some second) =
+    work.Pair (comparison.Explain (manner_of rows)) (pair_of rows first second)
 
--- what one text spells or why it is refused, or where two differ, as the options say
-abbrev pub explain_of : List Row → Request
-explain_of rows =
-    over (task.Explain (options_of rows)) (kind_of_words rows) (operands_of rows) (rules_of rows)
+-- those among its matches
+abbrev pub explain_work : List Row → Work
+explain_work rows =
+    explain_operands rows (first_of (codes "first") rows) (first_of (codes "second") rows)
 
 -- the request of a command's name and of its matches
 abbrev pub request_of : Text × List Row → Option Request
 request_of (name, rows) =
-    if bytes_eq name (codes "canon") then
-    Some (over_files (task.Canon (level_of rows) (layout_of rows)) rows)
+    if bytes_eq name (codes "canon") then Some (over_files (task.Canon (layout_of rows)) rows)
     else (if bytes_eq name (codes "check") then Some (over_files (task.Check (layout_of rows)) rows)
     else (if bytes_eq name (codes "same") then same_of rows
-    else (if bytes_eq name (codes "group") then
-    Some (over_files (task.Group (level_of rows) (group_flags rows)) rows)
-    else (if bytes_eq name (codes "explain") then Some (explain_of rows) else None))))
+    else (if bytes_eq name (codes "group") then Some (over_files (task.Group (listing_of rows)) rows)
+    else (if bytes_eq name (codes "explain") then Some (asked_for (explain_work rows) rows) else None))))
+
+-- the level that a word names
+abbrev pub level_named : Text → Option Level
+level_named level =
+    if bytes_eq level (codes "full") then Some Full
+    else (if bytes_eq level (codes "definition") then Some Definition else None)
+
+-- a job does some work at the level that a word names
+abbrev pub DoesAt : Text → Work → Job → Type 0
+DoesAt level wanted job = (Some job.level ≡ level_named level) × (job.work ≡ wanted)
+
+-- a job does what a request asks for
+abbrev pub IsJobOf : Request → Job → Type 0
+IsJobOf (Canon level) job = DoesAt level (work.Standard (task.Canon OneText)) job
+IsJobOf Check job = DoesAt (codes "full") (work.Standard (task.Check OneText)) job
+IsJobOf (Same first second level) job =
+    DoesAt level (work.Pair comparison.Same
+    (record { kind = word.Text; first = first; second = second; rules = [] })) job
+IsJobOf (Group level) job = DoesAt level (work.Standard (task.Group plain)) job
+IsJobOf (Other level order wanted) job = DoesAt level wanted job

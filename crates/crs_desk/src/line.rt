@@ -9,8 +9,9 @@ ghost use Rattle.crs_desk.specs.CommandLine.{check_shape, explain_shape, file_op
 ghost use Rattle.crs_desk.specs.CommandLine.{group_shape, level_option, rules_option, same_shape, spare_operand};
 ghost use Rattle.crs_desk.specs.Requests.{request_of};
 
+pub(crate) mod job;
 pub(crate) mod matches;
-pub mod reading;
+mod reading;
 pub(crate) mod requests;
 pub(crate) mod word;
 

@@ -1,5 +1,5 @@
 //! Why the program ends without an answer.
-use crs_desk::RunFault;
+use crs_desk::{JobFault, RunFault};
 use std::alloc::AllocError;
 use std::io;
 use thiserror::Error;
@@ -10,15 +10,9 @@ pub enum Fault {
     /// A word of the command line isn't UTF-8.
     #[error("a word of the command line isn't UTF-8")]
     Word,
-    /// The word after `--level` names no level.
-    #[error("no such level")]
-    Level,
-    /// A word after `--first` is in no path.
-    #[error("no such part")]
-    Part,
-    /// A request that no command line makes.
-    #[error("no such request")]
-    Unasked,
+    /// The request is no job.
+    #[error("{0}")]
+    Job(#[from] JobFault),
     /// A read of standard input failed, for this reason.
     #[error("read failed")]
     Read(io::Error),
@@ -27,16 +21,10 @@ pub enum Fault {
     Write(io::Error),
     /// A run ended with a fault.
     #[error("{0}")]
-    Run(RunFault),
+    Run(#[from] RunFault),
     /// The user was told already, or nobody reads standard output any more.
     #[error("told")]
     Told,
-}
-
-impl From<RunFault> for Fault {
-    fn from(fault: RunFault) -> Fault {
-        Fault::Run(fault)
-    }
 }
 
 impl From<AllocError> for Fault {

@@ -5,14 +5,12 @@
 mod fault;
 mod input;
 mod messages;
-mod order;
 mod output;
 mod runs;
 
-use crs_desk::{Request, RequestFault, RunFault, request};
+use crs_desk::{JobFault, PATH_WORDS, RequestFault, RunFault, request};
 use fault::Fault;
 use messages::tell_bad_words;
-use order::WORDS;
 use runs::answer;
 use std::process::ExitCode;
 use std::{env, io};
@@ -30,27 +28,10 @@ fn main(rt: HostRuntime) -> ExitCode {
 fn run(rt: &HostRuntime) -> Result<u8, Fault> {
     let owned: Vec<String> = env::args(rt)?.collect(rt.alloc())?;
     let words: Vec<&str> = owned.iter().map(|word| word.as_str()).collect(rt.alloc())?;
-    settled(rt, &words, request(rt.alloc(), &words))
-}
-
-// What the words of a line ask for, or why they ask for nothing.
-trait Asked {
-    // The status of what is asked for.
-    fn settle(&self, rt: &HostRuntime, words: &[&str]) -> Result<u8, Fault>;
-}
-
-// It alone owns a request, whose type it doesn't know: a function that owns one is slow to prove.
-fn settled<T: Asked + Drop>(rt: &HostRuntime, words: &[&str], asked: T) -> Result<u8, Fault> {
-    asked.settle(rt, words)
-}
-
-impl Asked for Result<Request, RequestFault> {
-    fn settle(&self, rt: &HostRuntime, words: &[&str]) -> Result<u8, Fault> {
-        match self {
-            Ok(wanted) => answer(rt, wanted),
-            Err(RequestFault::Line(error)) => Ok(tell_line(rt, words, error)),
-            Err(RequestFault::Memory(_)) => Err(Fault::Run(RunFault::Memory)),
-        }
+    match request(rt.alloc(), &words) {
+        Ok(asked) => answer(rt, &asked.into_job(rt.alloc())?),
+        Err(RequestFault::Line(error)) => Ok(tell_line(rt, &words, &error)),
+        Err(RequestFault::Memory(_)) => Err(Fault::Run(RunFault::Memory)),
     }
 }
 
@@ -62,8 +43,8 @@ fn report(rt: &HostRuntime, fault: &Fault) -> u8 {
     let _ = eprintln!(rt; "crsdesk: {fault}");
     match fault {
         Fault::Word => tell_bad_words(rt),
-        Fault::Part => {
-            let _ = eprintln!(rt; "crsdesk: --first takes words of paths: {WORDS}");
+        Fault::Job(JobFault::Part) => {
+            let _ = eprintln!(rt; "crsdesk: --first takes words of paths: {PATH_WORDS}");
         }
         Fault::Read(error) => {
             let _ = eprintln!(rt; "crsdesk: standard input: {error}");

@@ -2,11 +2,16 @@
 ghost use Rattle.std.specs.Prelude.{◌≡◌, ◌≢◌, ◌<◌, ℕ, [], ◌∷◌, ◌++◌, List, Some, IsSome, true, false, codes};
 ghost use Rattle.std.specs.List.{list_all};
 ghost use Rattle.clap.specs.Words.{Text, takes};
-ghost use Rattle.crs_desk.specs.Requests.{level_alone, standard};
+ghost use Rattle.crs_desk.specs.Requests.{standard};
+ghost use Rattle.crs_group.specs.GroupOutput.{plain};
 ghost use Rattle.crs_desk.specs.CommandLine.{asked, desk, is_plain_word};
 ghost use Rattle.crs_desk.specs.declared.line.requests.Layout.TheVariants.{Lines, OneText};
-ghost use Rattle.crs_desk.specs.declared.line.requests.Request.TheVariants.{Canon, Check, Same, Group, Texts, Files};
+ghost use Rattle.crs_desk.specs.declared.line.requests.Request.TheVariants.{Canon, Check, Same, Group, Other};
 ghost use Rattle.crs_desk.specs.declared.line.requests.Task.TheVariants as task;
+ghost use Rattle.crs_desk.specs.declared.line.requests.Work.TheVariants as work;
+ghost use Rattle.crs_desk.specs.declared.line.requests.Comparison.TheVariants as comparison;
+ghost use Rattle.crs_desk.specs.declared.runs.manner.Manner.TheVariants as manner;
+ghost use Rattle.crs_desk.specs.declared.line.word.WordKind.TheVariants.{Text as OfText, FileName};
 
 /// A line that the command takes asks for something: no text of `same` is missing there.
 #[tactic(auto, using(crate::proofs::CommandLemmas::taken_asks))]
@@ -57,19 +62,19 @@ pub fn the_level_is_a_word()
 /// writes names for numbers, with `--json` objects.
 pub fn group_has_flags()
     ensures repeated { (program : Text) → asked (program ∷ codes "group" ∷ codes "--repeated" ∷ [])
-        ≡ Some (Texts (task.Group (codes "full") (record { repeated = true; names = false; json = false })) [] []) }
+        ≡ Some (Other (codes "full") [] (work.Standard (task.Group (record { repeated = true; names = false; json = false })))) }
     ensures names { (program : Text) → asked (program ∷ codes "group" ∷ codes "--names" ∷ [])
-        ≡ Some (Texts (task.Group (codes "full") (record { repeated = false; names = true; json = false })) [] []) }
+        ≡ Some (Other (codes "full") [] (work.Standard (task.Group (record { repeated = false; names = true; json = false })))) }
     ensures json { (program : Text) → asked (program ∷ codes "group" ∷ codes "--json" ∷ [])
-        ≡ Some (Texts (task.Group (codes "full") (record { repeated = false; names = false; json = true })) [] []) }
+        ≡ Some (Other (codes "full") [] (work.Standard (task.Group (record { repeated = false; names = false; json = true })))) }
     ensures both { (program : Text) → asked (program ∷ codes "group" ∷ codes "--names" ∷ codes "--repeated" ∷ [])
-        ≡ Some (Texts (task.Group (codes "full") (record { repeated = true; names = true; json = false })) [] []) }
+        ≡ Some (Other (codes "full") [] (work.Standard (task.Group (record { repeated = true; names = true; json = false })))) }
     ensures before { (program level : Text) → is_plain_word level ≡ true →
         asked (program ∷ codes "group" ∷ codes "--repeated" ∷ codes "--level" ∷ level ∷ [])
-        ≡ Some (Texts (task.Group level (record { repeated = true; names = false; json = false })) [] []) }
+        ≡ Some (Other level [] (work.Standard (task.Group (record { repeated = true; names = false; json = false })))) }
     ensures after { (program level : Text) → is_plain_word level ≡ true →
         asked (program ∷ codes "group" ∷ codes "--level" ∷ level ∷ codes "--repeated" ∷ [])
-        ≡ Some (Texts (task.Group level (record { repeated = true; names = false; json = false })) [] []) }
+        ≡ Some (Other level [] (work.Standard (task.Group (record { repeated = true; names = false; json = false })))) }
 {}
 
 /// With `--lines`, before the level or after it, `canon` takes each line as a text. `check` takes each line as a text
@@ -77,15 +82,15 @@ pub fn group_has_flags()
 /// reads lines anyway, has no such flag.
 pub fn canon_and_check_have_lines()
     ensures canon { (program : Text) →
-        asked (program ∷ codes "canon" ∷ codes "--lines" ∷ []) ≡ Some (Texts (task.Canon (codes "full") Lines) [] []) }
+        asked (program ∷ codes "canon" ∷ codes "--lines" ∷ []) ≡ Some (Other (codes "full") [] (work.Standard (task.Canon Lines))) }
     ensures before { (program level : Text) → is_plain_word level ≡ true →
         asked (program ∷ codes "canon" ∷ codes "--lines" ∷ codes "--level" ∷ level ∷ [])
-        ≡ Some (Texts (task.Canon level Lines) [] []) }
+        ≡ Some (Other level [] (work.Standard (task.Canon Lines))) }
     ensures after { (program level : Text) → is_plain_word level ≡ true →
         asked (program ∷ codes "canon" ∷ codes "--level" ∷ level ∷ codes "--lines" ∷ [])
-        ≡ Some (Texts (task.Canon level Lines) [] []) }
+        ≡ Some (Other level [] (work.Standard (task.Canon Lines))) }
     ensures check { (program : Text) →
-        asked (program ∷ codes "check" ∷ codes "--lines" ∷ []) ≡ Some (Texts (task.Check Lines) [] []) }
+        asked (program ∷ codes "check" ∷ codes "--lines" ∷ []) ≡ Some (Other (codes "full") [] (work.Standard (task.Check Lines))) }
     ensures check_alone { (program : Text) → asked (program ∷ codes "check" ∷ []) ≡ Some Check }
     ensures canon_twice { (program : Text) →
         takes desk (program ∷ codes "canon" ∷ codes "--lines" ∷ codes "--lines" ∷ []) ≡ false }
@@ -102,34 +107,34 @@ pub fn canon_and_check_have_lines()
 /// which parts `explain` is to tell first.
 pub fn explain_takes_texts_and_options()
     ensures alone { (program : Text) →
-        asked (program ∷ codes "explain" ∷ []) ≡ Some (Texts (task.Explain (level_alone (codes "full"))) [] []) }
+        asked (program ∷ codes "explain" ∷ []) ≡ Some (Other (codes "full") [] (work.Standard (task.Explain manner.Lines))) }
     ensures one { (program first : Text) → is_plain_word first ≡ true →
         asked (program ∷ codes "explain" ∷ first ∷ [])
-        ≡ Some (Texts (task.Explain (level_alone (codes "full"))) (first ∷ []) []) }
+        ≡ Some (Other (codes "full") [] (work.Text manner.Lines first [])) }
     ensures two { (program first second : Text) → is_plain_word first ≡ true → is_plain_word second ≡ true →
         asked (program ∷ codes "explain" ∷ first ∷ second ∷ [])
-        ≡ Some (Texts (task.Explain (level_alone (codes "full"))) (first ∷ second ∷ []) []) }
+        ≡ Some (Other (codes "full") [] (work.Pair (comparison.Explain manner.Lines) (record { kind = OfText; first = first; second = second; rules = [] }))) }
     ensures dashes { (program first second : Text) →
         asked (program ∷ codes "explain" ∷ codes "--" ∷ first ∷ second ∷ [])
-        ≡ Some (Texts (task.Explain (level_alone (codes "full"))) (first ∷ second ∷ []) []) }
+        ≡ Some (Other (codes "full") [] (work.Pair (comparison.Explain manner.Lines) (record { kind = OfText; first = first; second = second; rules = [] }))) }
     ensures level { (program level : Text) → is_plain_word level ≡ true →
         asked (program ∷ codes "explain" ∷ codes "--level" ∷ level ∷ [])
-        ≡ Some (Texts (task.Explain (level_alone level)) [] []) }
+        ≡ Some (Other level [] (work.Standard (task.Explain manner.Lines))) }
     ensures before { (program level first second : Text) → is_plain_word level ≡ true →
         is_plain_word first ≡ true → is_plain_word second ≡ true →
         asked (program ∷ codes "explain" ∷ codes "--level" ∷ level ∷ first ∷ second ∷ [])
-        ≡ Some (Texts (task.Explain (level_alone level)) (first ∷ second ∷ []) []) }
+        ≡ Some (Other level [] (work.Pair (comparison.Explain manner.Lines) (record { kind = OfText; first = first; second = second; rules = [] }))) }
     ensures after { (program level first second : Text) → is_plain_word level ≡ true →
         is_plain_word first ≡ true → is_plain_word second ≡ true →
         asked (program ∷ codes "explain" ∷ first ∷ second ∷ codes "--level" ∷ level ∷ [])
-        ≡ Some (Texts (task.Explain (level_alone level)) (first ∷ second ∷ []) []) }
+        ≡ Some (Other level [] (work.Pair (comparison.Explain manner.Lines) (record { kind = OfText; first = first; second = second; rules = [] }))) }
     ensures json { (program : Text) → asked (program ∷ codes "explain" ∷ codes "--json" ∷ [])
-        ≡ Some (Texts (task.Explain (record { level = codes "full"; json = true; order = [] })) [] []) }
+        ≡ Some (Other (codes "full") [] (work.Standard (task.Explain manner.Objects))) }
     ensures once { (program word : Text) → asked (program ∷ codes "explain" ∷ (codes "--first=" ++ word) ∷ [])
-        ≡ Some (Texts (task.Explain (record { level = codes "full"; json = false; order = word ∷ [] })) [] []) }
+        ≡ Some (Other (codes "full") (word ∷ []) (work.Standard (task.Explain manner.Lines))) }
     ensures twice { (program one other : Text) →
         asked (program ∷ codes "explain" ∷ (codes "--first=" ++ one) ∷ (codes "--first=" ++ other) ∷ [])
-        ≡ Some (Texts (task.Explain (record { level = codes "full"; json = false; order = one ∷ other ∷ [] })) [] []) }
+        ≡ Some (Other (codes "full") (one ∷ other ∷ []) (work.Standard (task.Explain manner.Lines))) }
 {}
 
 /// The words after `canon`, `check` and `group` are files, however many they are, where no word is a flag. The level is
@@ -137,21 +142,22 @@ pub fn explain_takes_texts_and_options()
 /// word is a flag.
 pub fn words_are_files()
     ensures canon { (program name : Text) (names : List Text) → list_all is_plain_word (name ∷ names) ≡ true →
-        asked (program ∷ codes "canon" ∷ name ∷ names) ≡ Some (Files (task.Canon (codes "full") OneText) (name ∷ names) []) }
+        asked (program ∷ codes "canon" ∷ name ∷ names) ≡ Some (Other (codes "full") [] (work.Files (task.Canon OneText) (name ∷ names) [])) }
     ensures check { (program name : Text) (names : List Text) → list_all is_plain_word (name ∷ names) ≡ true →
-        asked (program ∷ codes "check" ∷ name ∷ names) ≡ Some (Files (task.Check OneText) (name ∷ names) []) }
+        asked (program ∷ codes "check" ∷ name ∷ names) ≡ Some (Other (codes "full") [] (work.Files (task.Check OneText) (name ∷ names) [])) }
     ensures group { (program name : Text) (names : List Text) → list_all is_plain_word (name ∷ names) ≡ true →
         asked (program ∷ codes "group" ∷ name ∷ names)
-        ≡ Some (Files (task.Group (codes "full") (record { repeated = false; names = false; json = false })) (name ∷ names) []) }
+        ≡ Some (Other (codes "full") [] (work.Files (task.Group plain) (name ∷ names) [])) }
     ensures same { (program first second : Text) → is_plain_word first ≡ true → is_plain_word second ≡ true →
         asked (program ∷ codes "same" ∷ codes "--files" ∷ first ∷ second ∷ [])
-        ≡ Some (Files (task.Same (codes "full")) (first ∷ second ∷ []) []) }
+        ≡ Some (Other (codes "full") [] (work.Pair comparison.Same (record { kind = FileName; first = first; second = second; rules = [] }))) }
     ensures one { (program first : Text) → is_plain_word first ≡ true →
         asked (program ∷ codes "explain" ∷ codes "--files" ∷ first ∷ [])
-        ≡ Some (Files (task.Explain (level_alone (codes "full"))) (first ∷ []) []) }
+        ≡ Some (Other (codes "full") [] (work.Files (task.Explain manner.Lines) (first ∷ []) [])) }
     ensures two { (program first second : Text) → is_plain_word first ≡ true → is_plain_word second ≡ true →
         asked (program ∷ codes "explain" ∷ codes "--files" ∷ first ∷ second ∷ [])
-        ≡ Some (Files (task.Explain (level_alone (codes "full"))) (first ∷ second ∷ []) []) }
+        ≡ Some (Other (codes "full") [] (work.Pair (comparison.Explain manner.Lines)
+        (record { kind = FileName; first = first; second = second; rules = [] }))) }
 {}
 
 /// The words after each `--rules` are rules files, where no word is a flag: a task over standard input, where the line
@@ -159,13 +165,14 @@ pub fn words_are_files()
 pub fn rules_are_named()
     ensures canon { (program file : Text) → is_plain_word file ≡ true →
         asked (program ∷ codes "canon" ∷ codes "--rules" ∷ file ∷ [])
-        ≡ Some (Files (task.Canon (codes "full") OneText) standard (file ∷ [])) }
+        ≡ Some (Other (codes "full") [] (work.Files (task.Canon OneText) standard (file ∷ []))) }
     ensures twice { (program one other : Text) →
         asked (program ∷ codes "canon" ∷ (codes "--rules=" ++ one) ∷ (codes "--rules=" ++ other) ∷ [])
-        ≡ Some (Files (task.Canon (codes "full") OneText) standard (one ∷ other ∷ [])) }
+        ≡ Some (Other (codes "full") [] (work.Files (task.Canon OneText) standard (one ∷ other ∷ []))) }
     ensures same { (program file first second : Text) → is_plain_word file ≡ true →
         is_plain_word first ≡ true → is_plain_word second ≡ true →
         asked (program ∷ codes "same" ∷ codes "--rules" ∷ file ∷ first ∷ second ∷ [])
-        ≡ Some (Texts (task.Same (codes "full")) (first ∷ second ∷ []) (file ∷ [])) }
+        ≡ Some (Other (codes "full") [] (work.Pair comparison.Same
+        (record { kind = OfText; first = first; second = second; rules = file ∷ [] }))) }
     ensures check { (program file : Text) → takes desk (program ∷ codes "check" ∷ codes "--rules" ∷ file ∷ []) ≡ false }
 {}

@@ -1,13 +1,22 @@
 //! The request of a command line, read of the matches that `clap` gives.
-ghost use Rattle.std.specs.Prelude.{◌≡◌, IfOk, IsSome, Some, option_and_then};
+ghost use Rattle.std.specs.Prelude.{◌≡◌, IfOk, IsSome, None, Some, option_and_then};
 ghost use Rattle.clap.specs.Words.{found_of, rows_of, subcommand_rows_of};
-ghost use Rattle.crs_desk.specs.Requests.{explain_of, kind_of_words, layout_of, operands_of, request_of};
-ghost use Rattle.crs_desk.specs.Requests.{same_of, same_operands};
+ghost use Rattle.crs_desk.specs.Requests.{asked_for, explain_operands, explain_work, file_work, over_files};
+ghost use Rattle.crs_desk.specs.Requests.{pair_of, request_for, request_of, same_for, same_of};
+ghost use Rattle.crs_desk.specs.declared.line.requests.Task.TheVariants as tasks;
+ghost use Rattle.crs_desk.specs.declared.line.requests.Work.TheVariants as works;
 
-use crate::line::reading::{flag_asked, group_flags, level_word, over, over_files, words_named};
-use crate::{ExplainOptions, Layout, LineWord, LineWords, Request, Task, WordKind};
+use crate::line::reading::{
+    flag_asked, layout, level_word, listing, manner, word_kind, words_named,
+};
+use crate::{
+    Comparison, Layout, LinePair, LineWord, LineWords, Listing, Request, Task, WordKind, Work,
+};
 use clap::ArgMatches;
 use std::alloc::{AllocError, Global};
+
+// The name of standard input among those of files.
+const STANDARD: &str = "-";
 
 /// The request of a command line, by its matches. `AllocError`: memory ran out. Profile.
 pub fn request_of_matches(alloc: Global, matches: &ArgMatches) -> Result<Request, AllocError>
@@ -26,19 +35,42 @@ fn request_named(alloc: Global, name: &str, options: &ArgMatches) -> Result<Requ
     ensures { IfOk result (λ found. request_of (name.now, rows_of (found_of options.now)) ≡ Some found) }
 {
     match name {
-        "canon" => {
-            let level = level_word(alloc, options)?;
-            over_files(alloc, options, Task::Canon(level, layout(options)))
-        }
+        "canon" => over_files(alloc, options, Task::Canon(layout(options))),
         "check" => over_files(alloc, options, Task::Check(layout(options))),
         "same" => same_request(alloc, options),
-        "group" => {
-            let level = level_word(alloc, options)?;
-            over_files(alloc, options, Task::Group(level, group_flags(options)))
-        }
+        "group" => over_files(alloc, options, Task::Group(listing(options))),
         "explain" => explain_request(alloc, options),
         _ => unreachable!(),
     }
+}
+
+// A task over the files that a command names, or over standard input where it names none.
+fn over_files(alloc: Global, options: &ArgMatches, task: Task) -> Result<Request, AllocError>
+    ensures { IfOk result (λ found. found ≡ over_files task (rows_of (found_of options.now))) }
+{
+    let names = words_named(alloc, options, "file")?;
+    let rules = words_named(alloc, options, "rules")?;
+    let work = file_work(alloc, task, names, rules)?;
+    asked_for(alloc, options, work)
+}
+
+// A task over files, or over standard input where there are none, under rules where there are some.
+fn file_work(
+    alloc: Global,
+    task: Task,
+    names: LineWords,
+    rules: LineWords,
+) -> Result<Work, AllocError>
+    ensures { IfOk result (λ work. work ≡ file_work task names rules) }
+{
+    if !names.is_empty() {
+        return Ok(Work::Files { task, names, rules });
+    }
+    if rules.is_empty() {
+        return Ok(Work::Standard(task));
+    }
+    let names = LineWords::of(alloc, &[STANDARD])?;
+    Ok(Work::Files { task, names, rules })
 }
 
 fn same_request(alloc: Global, operands: &ArgMatches) -> Result<Request, AllocError>
@@ -47,80 +79,110 @@ fn same_request(alloc: Global, operands: &ArgMatches) -> Result<Request, AllocEr
 {
     match (operands.get_str("first"), operands.get_str("second")) {
         (Some(first), Some(second)) => {
-            let level = level_word(alloc, operands)?;
-            let rules = words_named(alloc, operands, "rules")?;
-            let kind = word_kind(operands);
-            same_pair(alloc, kind, level, rules, first, second)
+            let pair = pair_of(alloc, operands, first, second)?;
+            asked_for(alloc, operands, Work::Pair(Comparison::Same, pair))
         }
         _ => unreachable!(),
     }
 }
 
-// Two texts are compared, or two files, under rules where there are some.
-fn same_pair(
-    alloc: Global,
-    kind: WordKind,
-    level: LineWord,
-    rules: LineWords,
-    first: &str,
-    second: &str,
-) -> Result<Request, AllocError>
-    ensures { IfOk result (λ found. Some found ≡ same_operands (Some first.now) (Some second.now) kind level rules) }
-{
-    if matches!(kind, WordKind::FileName) || !rules.is_empty() {
-        let words = LineWords::of(alloc, &[first, second])?;
-        return over(alloc, Task::Same(level), kind, words, rules);
-    }
-    let first = LineWord::new(alloc, first)?;
-    let second = LineWord::new(alloc, second)?;
-    Ok(Request::Same(first, second, level))
-}
-
 fn explain_request(alloc: Global, operands: &ArgMatches) -> Result<Request, AllocError>
-    ensures { IfOk result (λ found. found ≡ explain_of (rows_of (found_of operands.now))) }
+    ensures { IfOk result (λ found. found ≡ asked_for (explain_work (rows_of (found_of operands.now))) (rows_of (found_of operands.now))) }
 {
-    let level = level_word(alloc, operands)?;
-    let order = words_named(alloc, operands, "order")?;
-    let options = ExplainOptions {
-        level,
-        json: flag_asked(operands, "json"),
-        order,
-    };
-    let words = operand_words(alloc, operands)?;
-    let rules = words_named(alloc, operands, "rules")?;
-    let kind = word_kind(operands);
-    over(alloc, Task::Explain(options), kind, words, rules)
+    let work = explain_work(alloc, operands)?;
+    asked_for(alloc, operands, work)
 }
 
-// Both operands, the first alone, or none.
-fn operand_words(alloc: Global, operands: &ArgMatches) -> Result<LineWords, AllocError>
-    ensures { IfOk result (λ words. words ≡ operands_of (rows_of (found_of operands.now))) }
+// What is explained: standard input or a file, a text, or the difference of two.
+fn explain_work(alloc: Global, operands: &ArgMatches) -> Result<Work, AllocError>
+    ensures { IfOk result (λ work. work ≡ explain_work (rows_of (found_of operands.now))) }
 {
     match (operands.get_str("first"), operands.get_str("second")) {
-        (None, _) => LineWords::of(alloc, &[]),
-        (Some(first), None) => LineWords::of(alloc, &[first]),
-        (Some(first), Some(second)) => LineWords::of(alloc, &[first, second]),
+        (None, _) => nothing_work(alloc, operands),
+        (Some(first), None) => one_work(alloc, operands, first),
+        (Some(first), Some(second)) => {
+            let pair = pair_of(alloc, operands, first, second)?;
+            Ok(Work::Pair(Comparison::Explain(manner(operands)), pair))
+        }
     }
 }
 
-// How texts stand in the input of a command.
-fn layout(options: &ArgMatches) -> Layout
-    ensures { result ≡ layout_of (rows_of (found_of options.now)) }
+fn nothing_work(alloc: Global, operands: &ArgMatches) -> Result<Work, AllocError>
+    ensures { IfOk result (λ work. work ≡ explain_operands (rows_of (found_of operands.now)) None None) }
 {
-    if flag_asked(options, "lines") {
-        Layout::Lines
-    } else {
-        Layout::OneText
-    }
+    let names = LineWords::of(alloc, &[])?;
+    let rules = words_named(alloc, operands, "rules")?;
+    file_work(alloc, Task::Explain(manner(operands)), names, rules)
 }
 
-// What the operands of a command are.
-fn word_kind(operands: &ArgMatches) -> WordKind
-    ensures { result ≡ kind_of_words (rows_of (found_of operands.now)) }
+fn one_work(alloc: Global, operands: &ArgMatches, word: &str) -> Result<Work, AllocError>
+    ensures { IfOk result (λ work. work ≡ explain_operands (rows_of (found_of operands.now)) (Some word.now) None) }
 {
+    let how = manner(operands);
+    let rules = words_named(alloc, operands, "rules")?;
     if flag_asked(operands, "files") {
-        WordKind::FileName
-    } else {
-        WordKind::Text
+        let names = LineWords::of(alloc, &[word])?;
+        let task = Task::Explain(how);
+        return Ok(Work::Files { task, names, rules });
     }
+    let text = LineWord::new(alloc, word)?;
+    Ok(Work::Text { how, text, rules })
+}
+
+// Two operands, and the rules.
+fn pair_of(
+    alloc: Global,
+    operands: &ArgMatches,
+    first: &str,
+    second: &str,
+) -> Result<LinePair, AllocError>
+    ensures { IfOk result (λ pair. pair ≡ pair_of (rows_of (found_of operands.now)) first.now second.now) }
+{
+    Ok(LinePair {
+        kind: word_kind(operands),
+        first: LineWord::new(alloc, first)?,
+        second: LineWord::new(alloc, second)?,
+        rules: words_named(alloc, operands, "rules")?,
+    })
+}
+
+// The request for some work, at the level of a line and with its words of paths.
+fn asked_for(alloc: Global, options: &ArgMatches, work: Work) -> Result<Request, AllocError>
+    ensures { IfOk result (λ found. found ≡ asked_for work (rows_of (found_of options.now))) }
+{
+    let level = level_word(alloc, options)?;
+    let order = words_named(alloc, options, "order")?;
+    Ok(request_for(level, order, work))
+}
+
+fn request_for(level: LineWord, order: LineWords, work: Work) -> Request
+    ensures { result ≡ request_for level order work }
+{
+    match work {
+        Work::Standard(Task::Canon(Layout::OneText)) => Request::Canon(level),
+        Work::Standard(Task::Check(Layout::OneText)) => Request::Check,
+        Work::Standard(Task::Group(listing)) => group_for(level, order, listing),
+        Work::Pair(Comparison::Same, pair) => same_for(level, order, pair),
+        work => Request::Other { level, order, work },
+    }
+}
+
+fn group_for(level: LineWord, order: LineWords, listing: Listing) -> Request
+    ensures { result ≡ request_for level order (works.Standard (tasks.Group listing)) }
+{
+    if listing.repeated || listing.names || listing.json {
+        let work = Work::Standard(Task::Group(listing));
+        return Request::Other { level, order, work };
+    }
+    Request::Group(level)
+}
+
+fn same_for(level: LineWord, order: LineWords, pair: LinePair) -> Request
+    ensures { result ≡ same_for level order pair.kind pair.rules pair }
+{
+    if matches!(pair.kind, WordKind::Text) && pair.rules.is_empty() {
+        return Request::Same(pair.first, pair.second, level);
+    }
+    let work = Work::Pair(Comparison::Same, pair);
+    Request::Other { level, order, work }
 }

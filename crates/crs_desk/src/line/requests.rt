@@ -1,31 +1,6 @@
-ghost use Rattle.std.specs.Prelude.{◌≡◌};
-ghost use Rattle.crs_desk.specs.Requests.{over_standard};
-
-use crate::{LineWord, LineWords};
+use crate::{LineWord, LineWords, Listing, Manner, WordKind};
 use std::alloc::AllocError;
 use thiserror::Error;
-
-/// What `group` writes, as its flags say.
-#[derive(Clone, Copy, Debug)]
-pub struct GroupFlags {
-    /// The groups of two lines or more alone.
-    pub repeated: bool,
-    /// Lines begin with a name and a tab, and their names stand for their numbers.
-    pub names: bool,
-    /// Objects of JSON.
-    pub json: bool,
-}
-
-/// What `explain` is asked for. Profile.
-#[derive(Debug, Drop)]
-pub struct ExplainOptions {
-    /// The word after `--level`, as in a `Request`. It has a bearing on two texts alone.
-    pub level: LineWord,
-    /// Whether it is to write JSON.
-    pub json: bool,
-    /// The words after each `--first`, whatever words they are. They have a bearing on two texts alone.
-    pub order: LineWords,
-}
 
 /// What a command line asks for. A level is the word after `--level`, whatever word it is, and
 /// `full` where the line names none.
@@ -39,20 +14,56 @@ pub enum Request {
     Same(LineWord, LineWord, LineWord),
     /// Which lines of standard input, a text each, spell the same CRS, at a level.
     Group(LineWord),
-    /// Any other task over texts, under the rules of the files of these names, where there are some; without texts over
-    /// standard input, and then there are no rules.
-    Texts {
-        task: Task,
-        texts: LineWords,
+    /// Any other work, at a level.
+    Other {
+        level: LineWord,
+        /// The words after each `--first`, whatever words they are.
+        order: LineWords,
+        work: Work,
+    },
+}
+
+/// What is done with texts and files. A file is named as it was written; `-` is standard input.
+#[derive(Debug, Drop)]
+pub enum Work {
+    /// A task over standard input, without rules.
+    Standard(Task),
+    /// What a text spells, or why it is refused, is explained; the rules of the files of these names have no bearing on it.
+    Text {
+        how: Manner,
+        text: LineWord,
         rules: LineWords,
     },
-    /// A task over files, by their names as they were written, of which `-` is standard input, under the rules of files,
-    /// where there are some; there is at least one name.
+    /// Two texts are compared.
+    Pair(Comparison, LinePair),
+    /// A task over files, of which there is at least one, each by itself, under the rules of files, where there are some.
     Files {
         task: Task,
         names: LineWords,
         rules: LineWords,
     },
+}
+
+/// Two texts of a command line, or two files, and the rules files under which they are compared, where there are some.
+#[derive(Debug, Drop)]
+pub struct LinePair {
+    /// What the words are.
+    pub kind: WordKind,
+    /// The first.
+    pub first: LineWord,
+    /// The second.
+    pub second: LineWord,
+    /// The names of the rules files.
+    pub rules: LineWords,
+}
+
+/// How two texts are compared.
+#[derive(Clone, Copy, Debug)]
+pub enum Comparison {
+    /// Whether they spell the same CRS, or the first part that differs.
+    Same,
+    /// Each part that differs.
+    Explain(Manner),
 }
 
 /// How texts stand in an input.
@@ -64,39 +75,17 @@ pub enum Layout {
     Lines,
 }
 
-/// What is asked of texts. A level is the word after `--level`, as in a `Request`.
-#[derive(Debug, Drop)]
+/// What is asked of an input.
+#[derive(Clone, Copy, Debug)]
 pub enum Task {
-    /// The canonical text of each text, at a level.
-    Canon(LineWord, Layout),
+    /// The canonical text of each text.
+    Canon(Layout),
     /// Whether each text is accepted, and what it spells.
     Check(Layout),
-    /// Which lines, a text each, spell the same CRS, at a level, for each file by itself.
-    Group(LineWord, GroupFlags),
-    /// Whether two texts spell the same CRS, at a level.
-    Same(LineWord),
-    /// What one text spells, or why it is refused, explained; where two texts differ, each part.
-    Explain(ExplainOptions),
-}
-
-impl Task {
-    // What it asks of standard input, where there are neither texts nor rules.
-    pub(crate) fn over_standard(self, texts: LineWords, rules: LineWords) -> Request
-        ensures { result ≡ over_standard self texts rules }
-    {
-        match self {
-            Task::Canon(level, Layout::OneText) => Request::Canon(level),
-            Task::Check(Layout::OneText) => Request::Check,
-            Task::Group(level, flags) => {
-                if flags.repeated || flags.names || flags.json {
-                    let task = Task::Group(level, flags);
-                    return Request::Texts { task, texts, rules };
-                }
-                Request::Group(level)
-            }
-            task => Request::Texts { task, texts, rules },
-        }
-    }
+    /// Which lines, a text each, spell the same CRS.
+    Group(Listing),
+    /// What the text spells, or why it is refused, explained.
+    Explain(Manner),
 }
 
 /// Why a command line gives no request.

@@ -1,6 +1,6 @@
 //! The end of a run: a command's answer is written, with its status.
-ghost use Rattle.std.specs.Prelude.{◌≡◌, ◌↔◌, ℕ, List, IfOk, IfErr, IsErrOf, false, true};
-ghost use Rattle.crs_desk.specs.Ending.{IsWritten, IsWriteFault};
+ghost use Rattle.std.specs.Prelude.{◌≡◌, ℕ, List, IfOk};
+ghost use Rattle.crs_desk.specs.Ending.{IsSent};
 ghost use Rattle.crs_streams.specs.Streams.{fresh_sink};
 
 use crate::{RunFault, Sink};
@@ -50,10 +50,7 @@ pub fn write_answer<A: Answer, W: Write>(
     w: &mut Sink<W>,
 ) -> Result<u8, RunFault>
     requires { w.old ≡ fresh_sink w.old.contents }
-    ensures answered { IfOk result (IsWritten (A.Output answer.now) w.old w.new) }
-    ensures fault { IfErr result (IsWriteFault w.old w.new) }
-    ensures write_failed { IsErrOf result RunFault.WriteFailed ↔ (w.new.failed ≡ true) }
-    ensures past_failure { w.new.past_failure ≡ false }
+    ensures { IsSent (A.Output answer.now) w.old w.new result }
 {
     let (output, status) = answer.output(alloc).map_err(|_| RunFault::Memory)?;
     w.write_all(&output).map_err(|_| RunFault::WriteFailed)?;

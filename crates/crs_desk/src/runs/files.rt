@@ -154,7 +154,13 @@ fn answer_input<R: Read + Drop, W: Write>(
         FileTask::Check => answer_text(&CheckText, prefix, reader, sink),
         FileTask::Explain(how) => answer_text(&ExplainText { how }, prefix, reader, sink),
         FileTask::Group(level, listing) => {
-            answer_group(level, ByCanon, listing, prefix, reader, sink)
+            let adding = ByCanon;
+            let grouping = Grouping {
+                level,
+                adding,
+                listing,
+            };
+            answer_group(grouping, prefix, reader, sink)
         }
         FileTask::CanonLines(level) => answer_lines(CanonText { level }, prefix, reader, sink),
         FileTask::CheckLines => answer_lines(CheckText, prefix, reader, sink),
@@ -162,7 +168,13 @@ fn answer_input<R: Read + Drop, W: Write>(
             answer_text(&Under { level, rules }, prefix, reader, sink)
         }
         FileTask::FormGroup(level, listing, rules) => {
-            answer_group(level, ByForm { rules }, listing, prefix, reader, sink)
+            let adding = ByForm { rules };
+            let grouping = Grouping {
+                level,
+                adding,
+                listing,
+            };
+            answer_group(grouping, prefix, reader, sink)
         }
         FileTask::FormLines(level, rules) => {
             answer_lines(Under { level, rules }, prefix, reader, sink)
@@ -188,20 +200,32 @@ fn answer_text<C: TextCommand, R: Read + Drop, W: Write>(
     Ok(status)
 }
 
-// The groups of the lines, which are added in this way.
-fn answer_group<A: Adding + Drop, R: Read + Drop, W: Write>(
+// How lines are grouped.
+#[derive(Drop)]
+struct Grouping<A: Adding> {
     level: Level,
     adding: A,
     listing: Listing,
+}
+
+// The groups of the lines.
+fn answer_group<A: Adding + Drop, R: Read + Drop, W: Write>(
+    grouping: Grouping<A>,
     prefix: &Prefix,
     reader: R,
     sink: &mut Sink<W>,
 ) -> Result<u8, RunFault>
     requires { IsHealthy sink.old }
-    ensures answered { IfOk result (IsAnswerSent (IsGroupedOutput (IsGroupOutputBy (A.Form adding) (A.Share adding) listing level))
+    ensures answered { IfOk result (IsAnswerSent (IsGroupedOutput (IsGroupOutputBy (A.Form grouping.adding) (A.Share grouping.adding)
+        grouping.listing grouping.level))
         prefix.now (R.remaining reader) sink.old sink.new) }
     ensures fault { IfErr result (IsFileFault NoFront prefix.now (R.remaining reader) sink.old sink.new) }
 {
+    let Grouping {
+        level,
+        adding,
+        listing,
+    } = grouping;
     let alloc = prefix.alloc();
     let mut source = Source::new(Filling::new(reader));
     let mut held = Sink::new(Vec::new(alloc));

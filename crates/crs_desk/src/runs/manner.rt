@@ -1,5 +1,5 @@
 /// How `explain` tells. Profile.
-#[derive(Clone, Copy)]
+#[derive(Clone, Copy, Debug)]
 pub enum Manner {
     /// In lines for a person.
     Lines,

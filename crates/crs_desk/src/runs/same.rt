@@ -1,5 +1,5 @@
-ghost use Rattle.std.specs.Prelude.{◌≡◌, ◌↔◌, IfOk, IfErr, IsErrOf, false, true};
-ghost use Rattle.crs_desk.specs.Ending.{IsWritten, IsWriteFault};
+ghost use Rattle.std.specs.Prelude.{◌≡◌, IfOk};
+ghost use Rattle.crs_desk.specs.Ending.{IsSent};
 ghost use Rattle.crs_desk.specs.SameOutput.{IsSameOutput};
 ghost use Rattle.crs_desk.specs.inner.Found.{WritesPart};
 ghost use Rattle.crs_streams.specs.Streams.{fresh_sink};
@@ -23,10 +23,7 @@ pub fn run_same<W: Write>(
     w: &mut Sink<W>,
 ) -> Result<u8, RunFault>
     requires { w.old ≡ fresh_sink w.old.contents }
-    ensures answered { IfOk result (IsWritten (IsSameOutput level a.now b.now) w.old w.new) }
-    ensures fault { IfErr result (IsWriteFault w.old w.new) }
-    ensures write_failed { IsErrOf result RunFault.WriteFailed ↔ (w.new.failed ≡ true) }
-    ensures past_failure { w.new.past_failure ≡ false }
+    ensures { IsSent (IsSameOutput level a.now b.now) w.old w.new result }
 {
     let told = InALine;
     write_answer(alloc, &PairAnswer { told, level, a, b }, w)

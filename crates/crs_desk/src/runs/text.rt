@@ -1,7 +1,7 @@
 //! What a text spells, and the runs over one text that write a line for it: its canonical text, its kind, or its refusal.
-ghost use Rattle.std.specs.Prelude.{◌≡◌, ◌<◌, ◌≤◌, ◌↔◌, IfOk, IfErr, IsErrOf, true, false, ◌++◌, ◌∷◌, [], codes, ℕ};
+ghost use Rattle.std.specs.Prelude.{◌≡◌, IfOk, ◌++◌, ◌∷◌, [], codes, ℕ};
 ghost use Rattle.std.specs.Prelude.{List, MatchResult, Some};
-ghost use Rattle.crs_desk.specs.Ending.{IsAnswered, IsRunFault};
+ghost use Rattle.crs_desk.specs.Ending.{IsRun};
 ghost use Rattle.crs_desk.specs.Output.{IsCanonOutput, IsCheckOutput, kind_word};
 ghost use Rattle.crs_streams.specs.Streams.{fresh_sink, fresh_source};
 ghost use Rattle.crs_text.specs.Refusal.{refused_text};
@@ -15,7 +15,7 @@ use crate::{Level, RunFault, Sink, Source};
 use crs_streams::append_refusal;
 use crs_text::{Fault, Feeder, Refusal, laws, read_items};
 use crs_value::{Kind, kind_of};
-use crs_writer::canon;
+use crs_writer::canon_in;
 use std::alloc::{AllocError, Global};
 use std::io::{Read, Write};
 
@@ -29,14 +29,7 @@ pub fn run_canon<R: Read, W: Write>(
 ) -> Result<u8, RunFault>
     requires source { r.old ≡ fresh_source r.old.remaining }
     requires sink { w.old ≡ fresh_sink w.old.contents }
-    ensures answered { IfOk result (IsAnswered (IsCanonOutput level) r.old r.new w.old w.new) }
-    ensures reads { r.new.reads ≤ 1048576 }
-    ensures past_end { r.new.past_end ≡ false }
-    ensures fault { IfErr result (IsRunFault r.new w.old w.new) }
-    ensures read_failed { IsErrOf result RunFault.ReadFailed ↔ (r.new.failed ≡ true) }
-    ensures write_failed { IsErrOf result RunFault.WriteFailed ↔ (w.new.failed ≡ true) }
-    ensures past_failure { w.new.past_failure ≡ false }
-    ensures too_long { IsErrOf result (RunFault.TooLong 0) ↔ (1048576 < r.new.taken) × (r.new.failed ≡ false) }
+    ensures { IsRun (IsCanonOutput level) r.old r.new w.old w.new result }
 {
     run_text(alloc, CanonText { level }, r, w)
 }
@@ -52,14 +45,7 @@ pub fn run_text<C: TextCommand + Drop, R: Read, W: Write>(
 ) -> Result<u8, RunFault>
     requires source { r.old ≡ fresh_source r.old.remaining }
     requires sink { w.old ≡ fresh_sink w.old.contents }
-    ensures answered { IfOk result (IsAnswered (C.Output command) r.old r.new w.old w.new) }
-    ensures reads { r.new.reads ≤ 1048576 }
-    ensures past_end { r.new.past_end ≡ false }
-    ensures fault { IfErr result (IsRunFault r.new w.old w.new) }
-    ensures read_failed { IsErrOf result RunFault.ReadFailed ↔ (r.new.failed ≡ true) }
-    ensures write_failed { IsErrOf result RunFault.WriteFailed ↔ (w.new.failed ≡ true) }
-    ensures past_failure { w.new.past_failure ≡ false }
-    ensures too_long { IsErrOf result (RunFault.TooLong 0) ↔ (1048576 < r.new.taken) × (r.new.failed ≡ false) }
+    ensures { IsRun (C.Output command) r.old r.new w.old w.new result }
 {
     let bytes = read_text(alloc, r)?;
     let text = bytes.as_slice();
@@ -79,8 +65,9 @@ impl TextCommand for CanonText {
     ghost Output = { λ s text written status. IsCanonOutput s.level text written status };
 
     fn output(&self, alloc: Global, text: &[u8]) -> Result<(Vec<u8>, u8), AllocError> {
-        match canon(alloc, text, self.level) {
-            Ok(canon) => Ok((line_of(alloc, canon.bytes())?, 0)),
+        let mut room = Vec::new(alloc);
+        match canon_in(alloc, text, self.level, &mut room) {
+            Ok(canon) => Ok((line_of(canon.into_bytes())?, 0)),
             Err(fault) => Ok((refused_line(alloc, b"", refusal_in(fault)?)?, 1)),
         }
     }
@@ -95,14 +82,7 @@ pub fn run_check<R: Read, W: Write>(
 ) -> Result<u8, RunFault>
     requires source { r.old ≡ fresh_source r.old.remaining }
     requires sink { w.old ≡ fresh_sink w.old.contents }
-    ensures answered { IfOk result (IsAnswered IsCheckOutput r.old r.new w.old w.new) }
-    ensures reads { r.new.reads ≤ 1048576 }
-    ensures past_end { r.new.past_end ≡ false }
-    ensures fault { IfErr result (IsRunFault r.new w.old w.new) }
-    ensures read_failed { IsErrOf result RunFault.ReadFailed ↔ (r.new.failed ≡ true) }
-    ensures write_failed { IsErrOf result RunFault.WriteFailed ↔ (w.new.failed ≡ true) }
-    ensures past_failure { w.new.past_failure ≡ false }
-    ensures too_long { IsErrOf result (RunFault.TooLong 0) ↔ (1048576 < r.new.taken) × (r.new.failed ≡ false) }
+    ensures { IsRun IsCheckOutput r.old r.new w.old w.new result }
 {
     let feeder = read_pieces(alloc, r)?;
     let found = judged(&feeder).map_err(|_| RunFault::Memory)?;
@@ -171,13 +151,12 @@ pub fn refused_line(alloc: Global, front: &[u8], refusal: Refusal) -> Result<Vec
     Ok(line)
 }
 
-/// These bytes and a line end. `AllocError`: memory ran out. Profile.
-pub fn line_of(alloc: Global, bytes: &[u8]) -> Result<Vec<u8>, AllocError>
-    ensures { IfOk result (λ line. line.items ≡ bytes.now ++ 10 ∷ []) }
+/// These bytes and a line end, in their own memory where that has room. `AllocError`: memory ran out. Profile.
+pub fn line_of(mut bytes: Vec<u8>) -> Result<Vec<u8>, AllocError>
+    ensures { IfOk result (λ line. line.items ≡ bytes.items ++ 10 ∷ []) }
 {
-    let mut line = Vec::from_slice(alloc, bytes)?;
-    line.push(b'\n')?;
-    Ok(line)
+    bytes.push(b'\n')?;
+    Ok(bytes)
 }
 
 // The kind of the CRS that a text spells, or the refusal, by a feeder that holds the text or enough to refuse it.

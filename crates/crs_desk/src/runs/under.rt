@@ -33,7 +33,7 @@ impl TextCommand for Under<'_> {
 
     fn output(&self, alloc: Global, text: &[u8]) -> Result<(Vec<u8>, u8), AllocError> {
         match canon_under(alloc, text, self.level, self.rules) {
-            Ok(form) => Ok((line_of(alloc, form.bytes())?, 0)),
+            Ok(form) => Ok((line_of(form.into_bytes())?, 0)),
             Err(fault) => Ok((refused_line(alloc, b"", refusal_in(fault)?)?, 1)),
         }
     }

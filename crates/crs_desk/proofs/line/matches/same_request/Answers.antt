@@ -1,7 +1,10 @@
-use Rattle.std.proofs.Common.{◌∙◌, rules, sym}
+use Rattle.std.proofs.Common.{◌∙◌, Some, ap, rules, sym}
 use Rattle.std.proofs.lemmas.Result.{IfOk-weaker}
-use Rattle.clap.specs.Words.{found_of}
-use Rattle.crs_desk.proofs.MatchesLemmas.{neither_missing, same_there}
+use Rattle.clap.specs.Words.{found_of, rows_of}
+use Rattle.crs_desk.specs.Requests.{asked_for, same_operands}
+use Rattle.crs_desk.specs.declared.line.requests.Comparison.TheVariants.{Same}
+use Rattle.crs_desk.specs.declared.line.requests.Work.TheVariants.{Pair}
+use Rattle.crs_desk.proofs.MatchesLemmas.{neither_missing, operands_read}
 use Rattle.crs_desk.proofs.line.matches.same_request.Goals as goal
 use Rattle.crs_desk.proofs.line.matches.same_request.Goals.{in_default-via-in-Some+in_default, in_default-via-in_default}
 
@@ -15,8 +18,9 @@ unreachable-requires c =
 
 pub returns : goal.returns
 returns c =
-    IfOk-weaker c.same_pair.result _ _
-    (λ found is. same_there (found_of c.args.operands.now) c.get_str.result c.get_str-2.result c.in-Some-Some.first
-    c.in-Some-Some.second c.word_kind-kind.result c.in_ok-level-in-Some-Some.level c.in_ok-rules-in-Some-Some.rules
-    c.get_str.ensures c.get_str-2.ensures (search rules) (search rules) c.word_kind-kind.ensures (search rules) (search rules) ∙ sym is)
-    c.same_pair.ensures
+    let rows = rows_of (found_of c.args.operands.now) in
+    let read = operands_read (same_operands rows) (found_of c.args.operands.now) c.get_str.result c.get_str-2.result
+    (Some c.in-Some-Some.first) (Some c.in-Some-Some.second) c.get_str.ensures c.get_str-2.ensures (search rules) (search rules) in
+    IfOk-weaker c.asked_for.result _ _
+    (λ found is. sym read ∙ ap Some (ap (λ p. asked_for (Pair Same p) rows) (sym c.in_ok-pair-in-Some-Some.ensures) ∙ sym is))
+    c.asked_for.ensures

@@ -9,7 +9,7 @@ returns-in_ok-line_of-in-Ok c =
       c.in-Ok.canon.bytes,
       c.in-Ok.ensures.answer,
       record {
-        line = rw c.bytes.ensures at c.in_ok-line_of-in-Ok.ensures;
+        line = rw c.into_bytes.ensures at c.in_ok-line_of-in-Ok.ensures;
         is_status = refl;
       },
     )
