@@ -27,7 +27,7 @@ along-sound r h m k = search unit-of
 pub axis-sound : (r : Meaning) → IsSoundMeaning r → (a : AxisParts) → IsAxis a → IsAxis (axis r a)
 axis-sound r h a k = search (counted-name, h.name, some-map, along-sound, counted-sound, axis-unit)
 
-filled : (n m : List AxisParts) → length n ≡ length m → m ≢ [] → n ≢ []
+pub filled : (n m : List AxisParts) → length n ≡ length m → m ≢ [] → n ≢ []
 filled n m e h k = h (nil_from_length m (sym e ∙ ap length k))
 
 pub none-ordered : (r : Meaning) → r.uncounted.axis_order ≡ true → (xs : List AxisParts) →
@@ -145,7 +145,7 @@ module _ (text : AxisParts → List ℕ) where
   ascending-length [] = refl
   ascending-length (x ∷ xs) = among-length x (ascending text xs) ∙ ap suc (ascending-length xs)
 
-  units-arranged : (t : SystemType) (xs : List AxisParts) (u : Option UnitParts) → HasUnits t xs u →
+  pub units-arranged : (t : SystemType) (xs : List AxisParts) (u : Option UnitParts) → HasUnits t xs u →
       HasUnits t (ascending text xs) u
   units-arranged t xs None k = each-ascending (λ a. IsSomeAnd a.unit (SuitsAxis t a)) xs k
   units-arranged t xs (Some u) k = (
