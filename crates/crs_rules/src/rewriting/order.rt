@@ -1,5 +1,5 @@
-//! Axes whose order doesn't count: they are put in order of their texts.
-ghost use Rattle.std.specs.Prelude.{◌≡◌, ◌≢◌, ◌<◌, ◌+◌, ◌↔◌, [], IfOk, IsFalse, IsTrue, List, OnErr, OnOk, length, map, ℕ};
+//! Axes whose order doesn't count: they are put in order of their texts, or of those that they have in another CRS.
+ghost use Rattle.std.specs.Prelude.{◌≡◌, ◌≢◌, ◌<◌, ◌+◌, ◌↔◌, [], IfOk, IsFalse, IsTrue, List, OnOk, length, map, ℕ};
 ghost use Rattle.std.specs.Cmp.Lexicographic.{slice_cmp};
 ghost use Rattle.std.specs.List.{slice_index_or, swap};
 ghost use Rattle.std.specs.Ordering.{nat_cmp};
@@ -8,10 +8,9 @@ ghost use Rattle.crs_value.specs.declared.values.level.Level.TheVariants as leve
 ghost use Rattle.crs_normal.specs.inner.PartTexts.{axis_text};
 ghost use Rattle.crs_value.specs.Values.{AxisParts};
 ghost use Rattle.crs_rules.specs.FormOrder.{put, put_across, put_compound, put_crs, put_geodetic, put_projected, put_vertical};
-ghost use Rattle.crs_rules.specs.Rewritten.{axis, renamed};
 ghost use Rattle.crs_rules.specs.Rules.{Meaning};
-ghost use Rattle.crs_rules.specs.Rewritten.{arranged, arranged_across, arranged_compound, arranged_crs, arranged_geodetic, arranged_projected, arranged_vertical, ascending};
-ghost use Rattle.crs_rules.specs.inner.Sinking.{AreKeys, axes_across, axes_along, axes_up, IsOrderless, IsOrderlessAcross, IsOrderlessCrs, sunk_from};
+ghost use Rattle.crs_rules.specs.Rewritten.{arranged_crs, ascending, axis, renamed};
+ghost use Rattle.crs_rules.specs.inner.Sinking.{AreKeys, axes_across, axes_along, axes_up, IsOrderlessCrs, sunk_from};
 
 use crs_canon::Canonical;
 use crs_value::{
@@ -114,77 +113,6 @@ fn sort(axes: &mut List<Axis<'_>>, texts: &mut Vec<AxisText>)
         sink(axes, texts, from);
     }
 }
-
-// Puts the axes of a system that have no orders in order of their texts.
-fn arrange(alloc: Global, system: &mut System<'_>) -> Result<(), AllocError>
-    requires { IsOrderless system.old }
-    ensures ok { OnOk result (system.new ≡ arranged (axis_text levels.Full) system.old) }
-    ensures err { OnErr result (system.new ≡ system.old) }
-{
-    let mut texts = texts_of(alloc, system.axes.as_slice())?;
-    sort(&mut system.axes, &mut texts);
-    Ok(())
-}
-
-fn arrange_geodetic(alloc: Global, value: &mut Geodetic<'_>) -> Result<(), AllocError>
-    requires { IsOrderless value.old.system }
-    ensures ok { OnOk result (value.new ≡ arranged_geodetic (axis_text levels.Full) value.old) }
-    ensures err { OnErr result (value.new ≡ value.old) }
-{
-    arrange(alloc, &mut value.system)
-}
-
-fn arrange_projected(alloc: Global, value: &mut Projected<'_>) -> Result<(), AllocError>
-    requires { IsOrderless value.old.system }
-    ensures ok { OnOk result (value.new ≡ arranged_projected (axis_text levels.Full) value.old) }
-    ensures err { OnErr result (value.new ≡ value.old) }
-{
-    arrange(alloc, &mut value.system)
-}
-
-fn arrange_vertical(alloc: Global, value: &mut Vertical<'_>) -> Result<(), AllocError>
-    requires { IsOrderless value.old.system }
-    ensures ok { OnOk result (value.new ≡ arranged_vertical (axis_text levels.Full) value.old) }
-    ensures err { OnErr result (value.new ≡ value.old) }
-{
-    arrange(alloc, &mut value.system)
-}
-
-// The horizontal part of a compound CRS.
-fn arrange_across(alloc: Global, horizontal: &mut Horizontal<'_>) -> Result<(), AllocError>
-    requires { IsOrderlessAcross horizontal.old }
-    ensures ok { OnOk result (horizontal.new ≡ arranged_across (axis_text levels.Full) horizontal.old) }
-    ensures err { OnErr result (horizontal.new ≡ horizontal.old) }
-{
-    match horizontal {
-        Horizontal::Geodetic(found) => arrange_geodetic(alloc, found),
-        Horizontal::Projected(found) => arrange_projected(alloc, found),
-    }
-}
-
-fn arrange_compound(alloc: Global, value: &mut Compound<'_>) -> Result<(), AllocError>
-    requires across { IsOrderlessAcross value.old.horizontal }
-    requires vertical { IsOrderless value.old.vertical.system }
-    ensures { OnOk result (value.new ≡ arranged_compound (axis_text levels.Full) value.old) }
-{
-    arrange_across(alloc, &mut value.horizontal)?;
-    arrange_vertical(alloc, &mut value.vertical)
-}
-
-// Puts the axes of a CRS that have no orders in order of their texts. Out of memory it may be rewritten in part.
-pub(super) fn arrange_crs(alloc: Global, crs: &mut Crs<'_>) -> Result<(), AllocError>
-    requires { IsOrderlessCrs crs.old }
-    ensures { OnOk result (crs.new ≡ arranged_crs (axis_text levels.Full) crs.old) }
-{
-    match crs {
-        Crs::Geodetic(found) => arrange_geodetic(alloc, found),
-        Crs::Projected(found) => arrange_projected(alloc, found),
-        Crs::Vertical(found) => arrange_vertical(alloc, found),
-        Crs::Compound(found) => arrange_compound(alloc, found),
-    }
-}
-
-// ---- axes in the order of another CRS
 
 // Takes the order of an axis away.
 #[derive(Drop)]
@@ -298,6 +226,17 @@ fn axes_up<'c, 'a>(crs: &'c Crs<'a>) -> &'c [Axis<'a>]
         Crs::Vertical(found) => found.system.axes.as_slice(),
         Crs::Compound(found) => found.vertical.system.axes.as_slice(),
     }
+}
+
+// Puts the axes of a CRS that have no orders in order of their texts.
+pub(crate) fn arrange_crs(alloc: Global, crs: &mut Crs<'_>) -> Result<(), AllocError>
+    requires { IsOrderlessCrs crs.old }
+    ensures { OnOk result (crs.new ≡ arranged_crs (axis_text levels.Full) crs.old) }
+{
+    let mut across = texts_of(alloc, axes_across(crs))?;
+    let mut up = texts_of(alloc, axes_up(crs))?;
+    put_crs(crs, &mut across, &mut up);
+    Ok(())
 }
 
 // Puts the axes of a CRS in order of the texts that they have in another, which is the first but for its axes and
