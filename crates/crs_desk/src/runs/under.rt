@@ -1,6 +1,6 @@
 //! Texts under rules: what `canon` writes of one; two are compared by their forms; and the parts in which their CRSs
 //! differ are explained, and those that rules take away.
-ghost use Rattle.std.specs.Prelude.{◌≡◌, ◌≤◌, ◌++◌, [], None, Some, IfOk, MatchResult, OnOk, codes, length};
+ghost use Rattle.std.specs.Prelude.{◌≡◌, ◌≤◌, ◌++◌, IfOk, MatchResult, OnOk, codes, length};
 ghost use Rattle.std.specs.List.{prefix_len};
 ghost use Rattle.std.specs.Option.{option_map};
 ghost use Rattle.crs_value.specs.SpellsText.{IsFaultOfText};
@@ -237,42 +237,37 @@ fn told_parts(
         (output.0.items ≡ told_parts how new ++ marked how (texts_in new) (texts_in old))
         × (output.1 ≡ status_of new)) }
 {
-    match after {
-        None => Ok((told_alone(alloc, how, before)?, 0)),
-        Some(after) => Ok((told_beside(alloc, how, before, after)?, 1)),
+    let mut told = parts_told(alloc, how, after)?;
+    append_marked(&mut told, how, texts_in(after), texts_in(before))?;
+    let status = match after {
+        None => 0,
+        Some(_) => 1,
+    };
+    Ok((told, status))
+}
+
+// How these parts are told.
+fn parts_told(
+    alloc: Global,
+    how: Manner,
+    parts: &Option<Vec<DifferenceTexts>>,
+) -> Result<Vec<u8>, AllocError>
+    ensures { IfOk result (λ told. told.items ≡ told_parts how (option_map (λ texts. texts.items) parts.now)) }
+{
+    match (parts, how) {
+        (None, _) => same_line(alloc, how),
+        (Some(parts), Manner::Lines) => difference_lines(alloc, parts),
+        (Some(parts), Manner::Objects) => difference_objects(alloc, parts),
     }
 }
 
-// What is told where no part differs after.
-fn told_alone(
-    alloc: Global,
-    how: Manner,
-    before: &Option<Vec<DifferenceTexts>>,
-) -> Result<Vec<u8>, AllocError>
-    ensures { IfOk result (λ told. told.items ≡
-        told_parts how None ++ marked how [] (texts_in (option_map (λ texts. texts.items) before.now))) }
+fn texts_in(parts: &Option<Vec<DifferenceTexts>>) -> &[DifferenceTexts]
+    ensures { result.now ≡ texts_in (option_map (λ texts. texts.items) parts.now) }
 {
-    let mut told = same_line(alloc, how)?;
-    append_before(&mut told, how, &[], before)?;
-    Ok(told)
-}
-
-// What is told where these parts differ after.
-fn told_beside(
-    alloc: Global,
-    how: Manner,
-    before: &Option<Vec<DifferenceTexts>>,
-    after: &[DifferenceTexts],
-) -> Result<Vec<u8>, AllocError>
-    ensures { IfOk result (λ told. told.items ≡ told_parts how (Some after.now)
-        ++ marked how after.now (texts_in (option_map (λ texts. texts.items) before.now))) }
-{
-    let mut told = match how {
-        Manner::Lines => difference_lines(alloc, after)?,
-        Manner::Objects => difference_objects(alloc, after)?,
-    };
-    append_before(&mut told, how, after, before)?;
-    Ok(told)
+    match parts {
+        None => &[],
+        Some(parts) => parts.as_slice(),
+    }
 }
 
 // What stands before a line whose difference rules took away.
@@ -280,22 +275,6 @@ const MARK: &[u8] = b"the same by the rules: ";
 
 // What stands for the brace of such an object.
 const OBJECT_MARK: &[u8] = b"{\"same_by_rules\":true,";
-
-// Appends the parts that differ before, if any do, each with the mark, but for those that differ after too.
-fn append_before(
-    out: &mut Vec<u8>,
-    how: Manner,
-    after: &[DifferenceTexts],
-    before: &Option<Vec<DifferenceTexts>>,
-) -> Result<(), AllocError>
-    ensures { OnOk result (out.new.items ≡ out.old.items
-        ++ marked how after.now (texts_in (option_map (λ texts. texts.items) before.now))) }
-{
-    match before {
-        None => Ok(()),
-        Some(before) => append_marked(out, how, after, before),
-    }
-}
 
 // Appends parts that differ before, each with the mark, but for those that differ after too.
 fn append_marked(
