@@ -1,6 +1,7 @@
 -- Axes in the order of the form: the CRS is sound, and rewritten it is the one that the form spells.
-use Rattle.std.proofs.Common.{◌≡◌, ℕ, Bool, true, false, List, [], ◌∷◌, Option, Some, None, IsSomeAnd, Ordering, Less, Equal, Greater, ap, ◌∙◌, arith, inl, length, map, refl, sym, if◌then◌else◌}
+use Rattle.std.proofs.Common.{◌≡◌, ℕ, Bool, true, false, List, [], ◌∷◌, Option, Some, None, IsSomeAnd, Ordering, Less, Equal, Greater, ap, ◌∙◌, inl, length, map, refl, sym, if◌then◌else◌}
 use Rattle.std.proofs.lemmas.List.{length-map}
+use Rattle.crs_decimal.specs.Prelude.{Value}
 use Rattle.crs_shape.specs.Prelude.{asked_kind}
 use Rattle.crs_shape.specs.declared.system_type.SystemType.{SystemType}
 use Rattle.crs_value.specs.Prelude.{AxisParts, CompoundParts, GeodeticParts, HasUnits, IsAxis, IsGeodetic, IsHorizontal, IsProjected, IsSystem, IsVertical, ProjectedParts, SuitsAxis, SystemParts, UnitParts, VerticalParts}
@@ -26,7 +27,8 @@ none-unordered [] = tt
 none-unordered (x ∷ xs) = (refl, none-unordered xs)
 
 unordered-sound : (a : AxisParts) → IsAxis a → IsAxis (unordered a)
-unordered-sound a k = search arith
+unordered-sound a k =
+    record { name = k.name; meridian = k.meridian; order = tt; unit = k.unit; identifiers = k.identifiers }
 
 units-unordered : (t : SystemType) (xs : List AxisParts) (u : Option UnitParts) → HasUnits t xs u → HasUnits t (map unordered xs) u
 units-unordered t xs None k = each-map (λ a. IsSomeAnd a.unit (SuitsAxis t a)) unordered xs (λ a p. p) k
@@ -69,7 +71,8 @@ module _ (text : AxisParts → List ℕ) where
   none-stay : (xs : List AxisParts) → Each (λ a. a.order ≡ None) xs → map unordered xs ≡ xs
   none-stay [] h = refl
   none-stay (x ∷ xs) (e, h) =
-      ap (λ order. record x { order = order } ∷ map unordered xs) (sym e) ∙ ap (λ zs. x ∷ zs) (none-stay xs h)
+      let same : ◌≡◌ {A = AxisParts} (unordered x) x = ap (λ (order : Option Value). record x { order = order }) (sym e) in
+      let others = none-stay xs h in λ i. same i ∷ others i
 
   put-orderless : (s : SystemParts) → IsOrderless s → ◌≡◌ {A = SystemParts} (put text s) (arranged text s)
   put-orderless s h =
