@@ -11,7 +11,6 @@ mod LineCutLemmas
 mod LineOutputLemmas
 mod MatchesLemmas
 mod LinesRunLemmas
-mod MarkLemmas
 mod OperandLemmas
 mod OptionLemmas
 mod PieceLemmas

@@ -1,12 +1,19 @@
 -- What commands write under rules, and their status.
-use Rattle.std.specs.Prelude.{◌≡◌, ◌++◌, ◌∷◌, ◌⊎◌, ◌==◌, ◌||◌, [], ℕ, List, Bool, codes, drop, not, take}
+use Rattle.std.specs.Prelude.{◌≡◌, ◌++◌, ◌∷◌, ◌⊎◌, ◌==◌, [], ℕ, List, Bool, Option, Some, None, codes, not, take}
 use Rattle.std.specs.Prelude.{if◌then◌else◌}
 use Rattle.std.specs.List.{flat_map, list_any, prefix_len}
 use Rattle.std.specs.Str.{bytes_eq}
+use Rattle.crs_value.specs.declared.values.crs.Crs.{Crs}
 use Rattle.crs_value.specs.declared.values.level.Level.{Level}
-use Rattle.crs_rules.specs.Rules.{RulesParts}
-use Rattle.crs_rules.specs.Rewritten.{IsForm}
-use Rattle.crs_desk.specs.ExplainOutput.{IsExplainPairOutput, TellsRefusalOf}
+use Rattle.crs_same.specs.SameCrs.{SameCrs}
+use Rattle.crs_writer.specs.Canonical.{IsCanonicalOf}
+use Rattle.crs_rules.specs.FormOrder.{IsInFormOrder}
+use Rattle.crs_rules.specs.Rewritten.{IsForm, renamed}
+use Rattle.crs_rules.specs.Rules.{RulesParts, meaning}
+use Rattle.crs_explain.specs.Differing.{PartTexts, difference_line}
+use Rattle.crs_explain.specs.InOrder.{AreOrderedTexts}
+use Rattle.crs_explain.specs.Json.{difference_members, difference_object}
+use Rattle.crs_desk.specs.ExplainOutput.{TellsRefusalOf, same_told}
 use Rattle.crs_desk.specs.Output.{IsLine, WritesRefusal}
 use Rattle.crs_desk.specs.SameOutput.{IsSameOutput, WritesRefusalOf}
 use Rattle.crs_desk.specs.declared.runs.manner.Manner.{Manner}
@@ -26,96 +33,101 @@ IsFormOutput rules level text written status =
 abbrev pub Refusals : Type 1
 Refusals = List ℕ → List ℕ → List ℕ → ℕ → Type 0
 
--- what is written for the refusal of the first of two texts that has no form under rules
-abbrev pub IsRefusedUnder : RulesParts → Level → Refusals → List ℕ → List ℕ → List ℕ → ℕ → Type 0
-IsRefusedUnder rules level Refused first second written status =
-    Refused (codes "first ") first written status
-    ⊎ ((a : List ℕ) × IsForm rules level first a × Refused (codes "second ") second written status)
+-- which bytes are written for a text before two are compared
+abbrev pub Written : Type 1
+Written = List ℕ → List ℕ → Type 0
 
--- what is written for two texts under rules: such a refusal, or what is written for their forms
-unfoldable pub IsPairUnder : RulesParts → Level → Refusals →
-    (List ℕ → List ℕ → List ℕ → ℕ → Type 0) → List ℕ → List ℕ → List ℕ → ℕ → Type 0
-IsPairUnder rules level Refused Compared first second written status =
-    IsRefusedUnder rules level Refused first second written status
-    ⊎ ((a : List ℕ) × (b : List ℕ) × IsForm rules level first a × IsForm rules level second b
-    × Compared a b written status)
+-- what is written for the refusal of the first of two texts for which there are no such bytes
+abbrev pub IsRefusedOf : Written → Refusals → List ℕ → List ℕ → List ℕ → ℕ → Type 0
+IsRefusedOf Is Refused first second written status =
+    Refused (codes "first ") first written status
+    ⊎ ((a : List ℕ) × Is first a × Refused (codes "second ") second written status)
+
+-- what is written for two texts: such a refusal, or what is written for those bytes
+unfoldable pub IsPairOf : Written → Refusals → (List ℕ → List ℕ → List ℕ → ℕ → Type 0) → List ℕ →
+    List ℕ → List ℕ → ℕ → Type 0
+IsPairOf Is Refused Compared first second written status =
+    IsRefusedOf Is Refused first second written status
+    ⊎ ((a : List ℕ) × (b : List ℕ) × Is first a × Is second b × Compared a b written status)
 
 -- what `same` writes for two texts under rules: what it writes for their forms without rules
 abbrev pub IsSameUnderOutput : RulesParts → Level → List ℕ → List ℕ → List ℕ → ℕ → Type 0
-IsSameUnderOutput rules level = IsPairUnder rules level WritesRefusalOf (IsSameOutput level)
+IsSameUnderOutput rules level = IsPairOf (IsForm rules level) WritesRefusalOf (IsSameOutput level)
 
--- where the path of a line begins that `explain` writes: in an object behind `{"path":"`
-abbrev pub path_start : Manner → ℕ
-path_start manner.Lines = 0
-path_start manner.Objects = 9
+-- ---- what `explain` writes for two texts
 
--- the byte behind the path of a line: a colon, and in an object a quote
-abbrev pub path_end : Manner → ℕ
-path_end manner.Lines = 58
-path_end manner.Objects = 34
+-- the texts of the parts in which two CRSs differ, in the order of some words; none where they are
+-- the same
+abbrev pub ArePartsThatDiffer : List (List ℕ) → Level → Crs → Crs → Option (List PartTexts) → Type 0
+ArePartsThatDiffer words level a b None = SameCrs level a b
+ArePartsThatDiffer words level a b (Some texts) =
+    (¬ SameCrs level a b) × AreOrderedTexts words level a b texts
 
--- whether a byte belongs to the path to a part: in that to a member of a set a bracket follows
-abbrev pub is_of_path : Manner → ℕ → Bool
-is_of_path how b = not (b == path_end how || b == 91)
+-- all of them
+abbrev pub texts_in : Option (List PartTexts) → List PartTexts
+texts_in None = []
+texts_in (Some texts) = texts
 
--- a line from where its path begins
-abbrev pub from_path : Manner → List ℕ → List ℕ
-from_path how line = drop (path_start how) line
+-- how they are told: by `same`, in lines or as objects
+abbrev pub told_parts : Manner → Option (List PartTexts) → List ℕ
+told_parts how None = same_told how ++ 10 ∷ []
+told_parts manner.Lines (Some texts) = flat_map difference_line texts
+told_parts manner.Objects (Some texts) = flat_map difference_object texts
 
--- the path to the part that a line tells
-abbrev pub path_in : Manner → List ℕ → List ℕ
-path_in how line = take (prefix_len (is_of_path how) (from_path how line)) (from_path how line)
+-- the status
+abbrev pub status_of : Option (List PartTexts) → ℕ
+status_of None = 0
+status_of (Some texts) = 1
 
--- the whole lines of some bytes, where these begin the first
-abbrev pub lines_after : List ℕ → List ℕ → List (List ℕ)
-lines_after front [] = []
-lines_after front (b ∷ bytes) =
-    if b == 10 then front ∷ lines_after [] bytes else lines_after (front ++ b ∷ []) bytes
+-- a byte of the path to a part: in that to a member of a set a bracket follows
+abbrev pub is_of_part : ℕ → Bool
+is_of_part b = not (b == 91)
 
--- the whole lines of some bytes
-abbrev pub lines_in : List ℕ → List (List ℕ)
-lines_in bytes = lines_after [] bytes
+-- the path to a part, without the name of a member and what follows
+abbrev pub part_of : List ℕ → List ℕ
+part_of path = take (prefix_len is_of_part path) path
 
--- whether one of some lines has this path
-abbrev pub has_path : Manner → List (List ℕ) → List ℕ → Bool
-has_path how lines path = list_any (λ line. bytes_eq (path_in how line) path) lines
+-- whether one of some texts tells of this part
+abbrev pub has_part : List PartTexts → List ℕ → Bool
+has_part texts part = list_any (λ one. bytes_eq (part_of one.path) part) texts
 
--- the mark of a line; of an object it is a first member, behind the brace
-abbrev pub mark_of : Manner → List ℕ
-mark_of manner.Lines = codes "the same by the rules: "
-mark_of manner.Objects = codes "{\"same_by_rules\":true,"
+-- what is told of a part with the mark; of an object it is a first member
+abbrev pub with_mark : Manner → PartTexts → List ℕ
+with_mark manner.Lines part = codes "the same by the rules: " ++ difference_line part
+with_mark manner.Objects part = codes "{\"same_by_rules\":true," ++ difference_members part
 
--- what stands behind the mark: the line; of an object all but its brace
-abbrev pub behind_mark : Manner → List ℕ → List ℕ
-behind_mark manner.Lines line = line
-behind_mark manner.Objects line = drop 1 line
+-- nothing where the part still differs
+abbrev pub marked_one : Manner → List PartTexts → PartTexts → List ℕ
+marked_one how after part = if has_part after (part_of part.path) then [] else with_mark how part
 
--- a line with its mark, and a line feed
-abbrev pub with_mark : Manner → List ℕ → List ℕ
-with_mark how line = mark_of how ++ behind_mark how line ++ 10 ∷ []
+-- the parts that differ before and not after, each with the mark
+abbrev pub marked : Manner → List PartTexts → List PartTexts → List ℕ
+marked how after before = flat_map (marked_one how after) before
 
--- a line with a mark; nothing where one of others has its path
-abbrev pub marked_line : Manner → List (List ℕ) → List ℕ → List ℕ
-marked_line how others line =
-    if has_path how others (path_in how line) then [] else with_mark how line
+-- what is told of two CRSs under rules: the parts in which they differ as they are rewritten, and then
+-- those in which they differ before and not after
+abbrev pub TellsUnder : Manner → List (List ℕ) → RulesParts → Level → Crs → Crs → List ℕ → ℕ → Type 0
+TellsUnder how words rules level a b written status =
+    (before : Option (List PartTexts)) × (after : Option (List PartTexts))
+    × ArePartsThatDiffer words level a b before
+    × ArePartsThatDiffer words level (renamed (meaning rules) a) (renamed (meaning rules) b) after
+    × (written ≡ told_parts how after ++ marked how (texts_in after) (texts_in before))
+    × (status ≡ status_of after)
 
--- lines with a mark, but for those whose path one of others has
-abbrev pub marked : Manner → List (List ℕ) → List (List ℕ) → List ℕ
-marked how others lines = flat_map (marked_line how others) lines
+-- of a CRS and the one that a canonical text spells, its axes in the order of the form
+abbrev pub IsExplainedBehind : Manner → List (List ℕ) → RulesParts → Level → Crs → List ℕ → List ℕ →
+    ℕ → Type 0
+IsExplainedBehind how words rules level first b written status =
+    (second : Crs) × IsInFormOrder rules b second × TellsUnder how words rules level first second written status
 
--- what `explain` writes for the forms of two texts: what it writes for them without rules, and then,
--- with a mark, each line that it writes for the texts and whose path no line for the forms has
-abbrev pub IsExplainedUnder : Manner → List (List ℕ) → Level → List ℕ → List ℕ → List ℕ → List ℕ →
-    List ℕ → ℕ → Type 0
-IsExplainedUnder how words level first second a b written status =
-    (under : List ℕ) × (plain : List ℕ) × (other : ℕ)
-    × IsExplainPairOutput how words level a b under status
-    × IsExplainPairOutput how words level first second plain other
-    × (written ≡ under ++ marked how (lines_in under) (lines_in plain))
+-- of two that canonical texts spell
+abbrev pub IsExplainedUnder : Manner → List (List ℕ) → RulesParts → Level → List ℕ → List ℕ → List ℕ →
+    ℕ → Type 0
+IsExplainedUnder how words rules level a b written status =
+    (first : Crs) × IsInFormOrder rules a first × IsExplainedBehind how words rules level first b written status
 
 -- what `explain` writes for two texts under rules
 abbrev pub IsExplainUnderOutput : Manner → List (List ℕ) → RulesParts → Level → List ℕ → List ℕ →
     List ℕ → ℕ → Type 0
-IsExplainUnderOutput how words rules level first second =
-    IsPairUnder rules level (TellsRefusalOf how) (IsExplainedUnder how words level first second)
-    first second
+IsExplainUnderOutput how words rules level =
+    IsPairOf (IsCanonicalOf level) (TellsRefusalOf how) (IsExplainedUnder how words rules level)

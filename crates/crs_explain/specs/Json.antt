@@ -47,8 +47,12 @@ abbrev pub IsRefusalObject : List ℕ → List ℕ → RefusedAt → List ℕ �
 IsRefusalObject which text refusal object =
     (e : Explanation) × Explains text refusal e × (object ≡ refusal_object which refusal e)
 
--- a part that differs as an object; `null` for what has no value
-abbrev pub difference_object : PartTexts → List ℕ
-difference_object part =
-    codes "{\"path\":" ++ json_text part.path ++ value_member (codes "first") part.first
+-- a part that differs as an object, from behind its brace on; `null` for what has no value
+abbrev pub difference_members : PartTexts → List ℕ
+difference_members part =
+    codes "\"path\":" ++ json_text part.path ++ value_member (codes "first") part.first
     ++ value_member (codes "second") part.second ++ codes "}\n"
+
+-- a part that differs as an object
+abbrev pub difference_object : PartTexts → List ℕ
+difference_object part = 123 ∷ difference_members part

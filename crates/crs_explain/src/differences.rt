@@ -4,7 +4,7 @@ ghost use Rattle.std.specs.Prelude.{◌≡◌, ◌++◌, ◌≤◌, IfOk, MatchO
 ghost use Rattle.std.specs.List.{flat_map, prefix_len};
 ghost use Rattle.crs_explain.specs.Differing.{difference_line, part_pieces, shown};
 ghost use Rattle.crs_explain.specs.InOrder.{AreOrderedTexts, has_step_from, is_of_word, rank, word_at};
-ghost use Rattle.crs_explain.specs.Json.{difference_object};
+ghost use Rattle.crs_explain.specs.Json.{difference_members, difference_object};
 ghost use Rattle.crs_same.specs.SameCrs.{SameCrs};
 
 use crate::difference_texts::{DifferenceTexts, append_texts};
@@ -57,12 +57,7 @@ pub fn difference_lines(alloc: Global, differences: &[DifferenceTexts]) -> Made<
 {
     let mut lines = Vec::new(alloc);
     for difference in differences {
-        append_escaped(&difference.path, &mut lines)?;
-        lines.extend_from_slice(b": ")?;
-        append_value(&difference.first, &mut lines)?;
-        lines.extend_from_slice(b" | ")?;
-        append_value(&difference.second, &mut lines)?;
-        lines.extend_from_slice(b"\n")?;
+        append_difference_line(difference, &mut lines)?;
     }
     Ok(lines)
 }
@@ -76,13 +71,37 @@ pub fn difference_objects(alloc: Global, differences: &[DifferenceTexts]) -> Mad
 {
     let mut objects = Vec::new(alloc);
     for difference in differences {
-        objects.extend_from_slice(b"{\"path\":")?;
-        append_text(&difference.path, &mut objects)?;
-        append_value_member(b"first", &difference.first, &mut objects)?;
-        append_value_member(b"second", &difference.second, &mut objects)?;
-        objects.extend_from_slice(b"}\n")?;
+        objects.push(b'{')?;
+        append_difference_members(difference, &mut objects)?;
     }
     Ok(objects)
+}
+
+/// Appends the line of a part that differs. Profile.
+///
+/// `AllocError`: there is no memory for it, and `out` has a beginning of it.
+pub fn append_difference_line(difference: &DifferenceTexts, out: &mut Vec<u8>) -> Made<()>
+    ensures { OnOk result (out.new.items ≡ out.old.items ++ difference_line difference.now) }
+{
+    append_escaped(&difference.path, out)?;
+    out.extend_from_slice(b": ")?;
+    append_value(&difference.first, out)?;
+    out.extend_from_slice(b" | ")?;
+    append_value(&difference.second, out)?;
+    out.extend_from_slice(b"\n")
+}
+
+/// Appends the object of a part that differs, from behind its brace on. Profile.
+///
+/// `AllocError`: there is no memory for it, and `out` has a beginning of it.
+pub fn append_difference_members(difference: &DifferenceTexts, out: &mut Vec<u8>) -> Made<()>
+    ensures { OnOk result (out.new.items ≡ out.old.items ++ difference_members difference.now) }
+{
+    out.extend_from_slice(b"\"path\":")?;
+    append_text(&difference.path, out)?;
+    append_value_member(b"first", &difference.first, out)?;
+    append_value_member(b"second", &difference.second, out)?;
+    out.extend_from_slice(b"}\n")
 }
 
 /// The same as data: three texts for each part, its path, and the values of the first CRS and of the second, with

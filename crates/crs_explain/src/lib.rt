@@ -18,7 +18,10 @@ mod system;
 mod units;
 
 pub use difference_texts::{DifferenceTexts, differing_parts};
-pub use differences::{difference_lines, difference_objects, difference_pieces, ordered_parts};
+pub use differences::{
+    append_difference_line, append_difference_members, difference_lines, difference_objects,
+    difference_pieces, ordered_parts,
+};
 pub use hint::meanings::meaning;
 pub use hint::place::{UNEXPECTED, UNEXPECTED_END, UNKNOWN_KEYWORD};
 pub use hint::writing::{hints, still_open};

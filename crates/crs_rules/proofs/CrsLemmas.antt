@@ -1,5 +1,5 @@
 -- A CRS that is rewritten by rules is sound.
-use Rattle.std.proofs.Common.{Err, Ok, OnErr, OnOk, Result, ◌≡◌, ◌≢◌, ℕ, suc, Bool, Option, Some, None, List, [], ◌∷◌, IfSome, IsNone, IsSome, IsSomeAnd, refl, sym, subst, ap, ◌∙◌, map, length, inl, inr, true, false, if◌then◌else◌, Ordering, Less, Equal, Greater}
+use Rattle.std.proofs.Common.{◌≡◌, ◌≢◌, ℕ, suc, Bool, Option, Some, None, List, [], ◌∷◌, IfSome, IsNone, IsSome, IsSomeAnd, refl, sym, subst, ap, ◌∙◌, map, length, inl, inr, true, false, if◌then◌else◌, Ordering, Less, Equal, Greater}
 use Rattle.crs_shape.specs.declared.class.Class.TheVariants as class
 use Rattle.crs_shape.specs.declared.system_type.SystemType.{SystemType}
 use Rattle.crs_shape.specs.inner.Prelude.{asked_kind}
@@ -27,7 +27,7 @@ along-sound r h m k = search unit-of
 pub axis-sound : (r : Meaning) → IsSoundMeaning r → (a : AxisParts) → IsAxis a → IsAxis (axis r a)
 axis-sound r h a k = search (counted-name, h.name, some-map, along-sound, counted-sound, axis-unit)
 
-filled : (n m : List AxisParts) → length n ≡ length m → m ≢ [] → n ≢ []
+pub filled : (n m : List AxisParts) → length n ≡ length m → m ≢ [] → n ≢ []
 filled n m e h k = h (nil_from_length m (sym e ∙ ap length k))
 
 pub none-ordered : (r : Meaning) → r.uncounted.axis_order ≡ true → (xs : List AxisParts) →
@@ -114,12 +114,6 @@ by-order P a b Greater f g = g refl
 by-order P a b Less f g = f (λ e. cc)
 by-order P a b Equal f g = f (λ e. cc)
 
--- what a call that changes something, or out of memory leaves it, has of both
-pub either-way : {A E X : Type 0} (r : Result A E) (P : X → Type 0) (old new other : X) →
-    OnOk r (new ≡ other) → OnErr r (new ≡ old) → P old → P other → P new
-either-way (Ok x) P old new other a b p q = subst P (sym a) q
-either-way (Err x) P old new other a b p q = subst P (sym b) p
-
 module _ (text : AxisParts → List ℕ) where
   -- one more axis stands before the first or behind it
   pub among-cases : (P : List AxisParts → Type 0) (x y : AxisParts) (ys : List AxisParts) →
@@ -145,7 +139,7 @@ module _ (text : AxisParts → List ℕ) where
   ascending-length [] = refl
   ascending-length (x ∷ xs) = among-length x (ascending text xs) ∙ ap suc (ascending-length xs)
 
-  units-arranged : (t : SystemType) (xs : List AxisParts) (u : Option UnitParts) → HasUnits t xs u →
+  pub units-arranged : (t : SystemType) (xs : List AxisParts) (u : Option UnitParts) → HasUnits t xs u →
       HasUnits t (ascending text xs) u
   units-arranged t xs None k = each-ascending (λ a. IsSomeAnd a.unit (SuitsAxis t a)) xs k
   units-arranged t xs (Some u) k = (
@@ -153,25 +147,25 @@ module _ (text : AxisParts → List ℕ) where
     (k.1.0, (each-ascending (λ a. asked_kind t a.direction ≡ k.1.0) xs k.1.1.0, k.1.1.1)),
   )
 
-  pub arranged-sound : (s : SystemParts) → IsOrderless s → IsSystem s → IsSystem (arranged text s)
+  arranged-sound : (s : SystemParts) → IsOrderless s → IsSystem s → IsSystem (arranged text s)
   arranged-sound s n k =
       let orders : HasOrders (ascending text s.axes) = inl (each-ascending (λ a. a.order ≡ None) s.axes n) in
       search (filled, ascending-length, each-ascending, orders, units-arranged)
 
-  pub geodetic-arranged : (g : GeodeticParts) → IsOrderless g.system → IsGeodetic g → IsGeodetic (arranged_geodetic text g)
+  geodetic-arranged : (g : GeodeticParts) → IsOrderless g.system → IsGeodetic g → IsGeodetic (arranged_geodetic text g)
   geodetic-arranged g n k = assumption (arranged-sound g.system n k.system)
 
-  pub projected-arranged : (p : ProjectedParts) → IsOrderless p.system → IsProjected p → IsProjected (arranged_projected text p)
+  projected-arranged : (p : ProjectedParts) → IsOrderless p.system → IsProjected p → IsProjected (arranged_projected text p)
   projected-arranged p n k = assumption (arranged-sound p.system n k.system)
 
-  pub vertical-arranged : (v : VerticalParts) → IsOrderless v.system → IsVertical v → IsVertical (arranged_vertical text v)
+  vertical-arranged : (v : VerticalParts) → IsOrderless v.system → IsVertical v → IsVertical (arranged_vertical text v)
   vertical-arranged v n k = assumption (arranged-sound v.system n k.system)
 
-  pub across-arranged : (x : Horizontal) → IsOrderlessAcross x → IsHorizontal x → IsHorizontal (arranged_across text x)
+  across-arranged : (x : Horizontal) → IsOrderlessAcross x → IsHorizontal x → IsHorizontal (arranged_across text x)
   across-arranged (horizontals.Geodetic g) n k = (geodetic-arranged g n k.0, k.1, k.2)
   across-arranged (horizontals.Projected p) n k = (projected-arranged p n k.0, k.1)
 
-  pub compound-arranged : (c : CompoundParts) → IsOrderlessAcross c.horizontal → IsOrderless c.vertical.system → IsCompound c →
+  compound-arranged : (c : CompoundParts) → IsOrderlessAcross c.horizontal → IsOrderless c.vertical.system → IsCompound c →
       IsCompound (arranged_compound text c)
   compound-arranged c n o k = assumption (across-arranged c.horizontal n k.horizontal, vertical-arranged c.vertical o k.vertical)
 

@@ -5,6 +5,7 @@ pub mod CrsLemmas
 pub mod FactorLemmas
 pub mod FileLemmas
 pub mod FirstsLemmas
+pub mod FormOrderLemmas
 pub mod GrownLemmas
 pub mod LookUpLemmas
 pub mod MatchLemmas

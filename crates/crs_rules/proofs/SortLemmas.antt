@@ -100,3 +100,13 @@ module _ (text : AxisParts → List ℕ) where
     texts_are = g;
     sorted = rw (f, s.sorted, e) (sorted-more old before (omega (arith, s.within)));
   }
+
+-- an axis sinks by whatever gives axes their texts
+abbrev pub AllSink : (before : List (List ℕ)) (old axes : List AxisParts) (from at : ℕ) (texts : List (List ℕ)) → Type 0
+AllSink before old axes from at texts =
+    (text : AxisParts → List ℕ) → before ≡ map text old → Sinks text old axes from at texts
+
+-- axes are sorted by it from this place on
+abbrev pub AllSortFrom : (before : List (List ℕ)) (old axes : List AxisParts) (from : ℕ) (texts : List (List ℕ)) → Type 0
+AllSortFrom before old axes from texts =
+    (text : AxisParts → List ℕ) → before ≡ map text old → SortsFrom text old axes from texts

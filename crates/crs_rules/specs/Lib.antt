@@ -1,3 +1,4 @@
+pub mod FormOrder
 pub mod Members
 pub mod NoRules
 pub mod OrderOfLines

@@ -7,12 +7,13 @@ ghost use Rattle.crs_value.specs.declared.values.crs.Crs.{Crs};
 ghost use Rattle.crs_value.specs.declared.values.level.Level.{Level};
 ghost use Rattle.crs_writer.specs.Canonical.{IsCanonicalOf};
 ghost use Rattle.crs_canon.specs.MainTheorem.{IsAccepted, SpellSame};
+ghost use Rattle.crs_rules.specs.FormOrder.{in_form_order};
 ghost use Rattle.crs_rules.specs.inner.LowerLaws.{FormLaws, SetLaws};
 ghost use Rattle.crs_rules.specs.NoRules.{no_rules};
 ghost use Rattle.crs_rules.specs.OrderOfRules.{DifferInOrder};
 ghost use Rattle.crs_rules.specs.ReorderedAxes.{IsCrsReordered};
-ghost use Rattle.crs_rules.specs.Rewritten.{rewritten, IsForm, SameUnder};
-ghost use Rattle.crs_rules.specs.Rules.{RulesParts, meaning};
+ghost use Rattle.crs_rules.specs.Rewritten.{renamed, rewritten, IsForm, SameUnder};
+ghost use Rattle.crs_rules.specs.Rules.{Meaning, RulesParts, meaning};
 ghost use Rattle.crs_rules.specs.SoundRules.{AreRules};
 ghost use Rattle.crs_rules.specs.SteadyRules.{AreSteady};
 
@@ -134,6 +135,13 @@ pub fn order_of_axes_is_nothing()
     axes_are_canonical();
     main_theorem();
 }
+
+/// A CRS whose axes were put in the order of the form and whose parts were rewritten is the one that the form spells.
+/// Profile.
+pub fn order_of_the_form_is_kept()
+    ensures { (text : AxisParts → List ℕ) (r : Meaning) (x : Crs) →
+        renamed r (in_form_order text r x) ≡ rewritten text r x }
+{}
 
 // What is known of CRSs in their one form, and of canonical texts, as one fact.
 fn form_laws()

@@ -14,6 +14,6 @@ mod uncounted;
 
 pub use file::fault::{RulesFault, RulesRefusal};
 pub use file::reader::{RulesReader, read_rules};
-pub use form::canon_under;
+pub use form::{canon_under, read_in_form_order, rewrite_parts};
 pub use rules::Rules;
 pub use uncounted::Uncounted;

@@ -8,7 +8,7 @@ use crs_value::{Change, List};
 
 pub(crate) mod crs;
 mod frames;
-mod order;
+pub(crate) mod order;
 mod parts;
 
 // A part that rules change.

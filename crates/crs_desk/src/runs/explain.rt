@@ -105,7 +105,7 @@ impl Telling for Told<'_> {
     }
 }
 
-fn same_line(alloc: Global, how: Manner) -> Result<Vec<u8>, AllocError>
+pub(crate) fn same_line(alloc: Global, how: Manner) -> Result<Vec<u8>, AllocError>
     ensures { IfOk result (λ line. line.items ≡ same_told how ++ 10 ∷ []) }
 {
     match how {

@@ -1,19 +1,29 @@
-//! Texts under rules: what `canon` writes of one; two are compared, and their difference is explained, by their forms,
-//! and by the lines of an explanation that the one of their forms lacks.
+//! Texts under rules: what `canon` writes of one; two are compared by their forms; and the parts in which their CRSs
+//! differ are explained, and those that rules take away.
 ghost use Rattle.std.specs.Prelude.{◌≡◌, ◌≤◌, ◌++◌, IfOk, MatchResult, OnOk, codes, length};
 ghost use Rattle.std.specs.List.{prefix_len};
+ghost use Rattle.std.specs.Option.{option_map};
+ghost use Rattle.crs_value.specs.SpellsText.{IsFaultOfText};
+ghost use Rattle.crs_canon.specs.MainTheorem.{IsAccepted};
+ghost use Rattle.crs_writer.specs.Canonical.{IsCanonicalOf};
 ghost use Rattle.crs_rules.specs.Rewritten.{IsForm};
-ghost use Rattle.crs_desk.specs.RulesOutput.{IsExplainedUnder, IsRefusedUnder, with_mark};
-ghost use Rattle.crs_desk.specs.RulesOutput.{from_path, has_path, is_of_path, lines_in, marked, marked_line, path_in};
+ghost use Rattle.crs_desk.specs.RulesOutput.{IsExplainedBehind, IsExplainedUnder, IsRefusedOf, TellsUnder};
+ghost use Rattle.crs_desk.specs.RulesOutput.{has_part, is_of_part, marked, marked_one, part_of, status_of, texts_in, told_parts, with_mark};
 
-use crate::runs::explain::Told;
+use crate::runs::explain::{Told, same_line};
 use crate::{
     Answer, InALine, Level, Manner, Telling, TextCommand, line_of, pair_output, refusal_in,
     refused_line, refused_output,
 };
-use crs_canon::Canon;
-use crs_rules::{Rules, canon_under};
-use crs_streams::split_line;
+use crs_canon::laws::main_theorem;
+use crs_canon::{Canon, canon};
+use crs_explain::{
+    DifferenceTexts, append_difference_line, append_difference_members, difference_lines,
+    difference_objects, ordered_parts,
+};
+use crs_rules::{Rules, canon_under, read_in_form_order, rewrite_parts};
+use crs_text::Fault;
+use crs_value::Crs;
 use std::alloc::{AllocError, Global};
 
 /// Rules, and the level at which texts have forms under them. Profile.
@@ -39,43 +49,69 @@ impl TextCommand for Under<'_> {
     }
 }
 
-// The forms; or the bytes and the status of a refusal.
-type Forms = Result<(Canon, Canon), (Vec<u8>, u8)>;
+// What is written for a text so that texts can be compared.
+trait Writing: Copy {
+    ghost use Rattle.crs_desk.specs.RulesOutput.{Written};
 
-// The forms of two texts under rules.
-fn forms_of<T: Telling>(
+    ghost Is: { Self → Written };
+
+    fn write(self, alloc: Global, text: &[u8]) -> Result<Canon, Fault>
+        ensures { MatchResult result (λ written. Is self text.now written.bytes) (IsFaultOfText text.now) };
+}
+
+// The form.
+impl Writing for Under<'_> {
+    ghost Is = { λ s text form. IsForm s.rules.now s.level text form };
+
+    fn write(self, alloc: Global, text: &[u8]) -> Result<Canon, Fault> {
+        canon_under(alloc, text, self.level, self.rules)
+    }
+}
+
+// The canonical text.
+impl Writing for Level {
+    ghost Is = { λ s text canonical. IsCanonicalOf s text canonical };
+
+    fn write(self, alloc: Global, text: &[u8]) -> Result<Canon, Fault> {
+        canon(alloc, text, self)
+    }
+}
+
+// What is written for both texts; or the bytes and the status of a refusal.
+type Both = Result<(Canon, Canon), (Vec<u8>, u8)>;
+
+// What is written for two texts.
+fn both_of<T: Telling, W: Writing>(
     alloc: Global,
     told: T,
-    under: Under<'_>,
+    by: W,
     first: &[u8],
     second: &[u8],
-) -> Result<Forms, AllocError>
+) -> Result<Both, AllocError>
     ensures { IfOk result (λ found. MatchResult found
-        (λ forms. IsForm under.entry.rules.now under.entry.level first.now forms.0.bytes
-        × IsForm under.entry.rules.now under.entry.level second.now forms.1.bytes)
-        (λ output. IsRefusedUnder under.entry.rules.now under.entry.level (T.Refused told) first.now second.now
-        output.0.items output.1)) }
+        (λ both. W.Is by first.now both.0.bytes × W.Is by second.now both.1.bytes)
+        (λ output. IsRefusedOf (W.Is by) (T.Refused told) first.now second.now output.0.items output.1)) }
 {
-    match canon_under(alloc, first, under.level, under.rules) {
-        Ok(form) => second_form(alloc, told, under, form, second),
+    match by.write(alloc, first) {
+        Ok(written) => second_of(alloc, told, by, written, second),
         Err(fault) => Ok(Err(refused_output(alloc, told, b"first ", first, fault)?)),
     }
 }
 
-// Both forms, where this is the form of the first text.
-fn second_form<T: Telling>(
+// Both, where this is written for the first text.
+fn second_of<T: Telling, W: Writing>(
     alloc: Global,
     told: T,
-    under: Under<'_>,
+    by: W,
     first: Canon,
     second: &[u8],
-) -> Result<Forms, AllocError>
+) -> Result<Both, AllocError>
     ensures { IfOk result (λ found. MatchResult found
-        (λ forms. (forms.0 ≡ first) × IsForm under.entry.rules.now under.entry.level second.now forms.1.bytes)
+        (λ both. (both.0 ≡ first) × W.Is by second.now both.1.bytes)
         (λ output. T.Refused told (codes "second ") second.now output.0.items output.1)) }
 {
-    match canon_under(alloc, second, under.level, under.rules) {
-        Ok(form) => Ok(Ok((first, form))),
+    match by.write(alloc, second) {
+        Ok(written) => Ok(Ok((first, written))),
         Err(fault) => Ok(Err(refused_output(alloc, told, b"second ", second, fault)?)),
     }
 }
@@ -99,17 +135,17 @@ impl Answer for SameForms<'_> {
         IsSameUnderOutput s.under.rules.now s.under.level s.a.now s.b.now written status };
 
     fn output(&self, alloc: Global) -> Result<(Vec<u8>, u8), AllocError> {
-        match forms_of(alloc, InALine, self.under, self.a, self.b)? {
+        match both_of(alloc, InALine, self.under, self.a, self.b)? {
             Ok((a, b)) => pair_output(alloc, InALine, self.under.level, a.bytes(), b.bytes()),
             Err(output) => Ok(output),
         }
     }
 }
 
-/// Whether two texts are the same under rules, at a level: for their forms what `Told` writes, and then, each after `the
-/// same by the rules: `, the lines that it writes without rules for the texts, but for those whose part still differs
-/// under the rules; or the refusal of the first text that spells no CRS, explained. In an object of JSON the mark is a
-/// first member, `"same_by_rules":true`. Profile.
+/// Whether two texts are the same under rules, at a level: what `Told` writes for their CRSs rewritten by the rules, and
+/// then, each after `the same by the rules: `, the parts in which the CRSs differ before they are rewritten and not
+/// after; where the order of axes doesn't count, their axes are in the order of the forms. Or the refusal of the first
+/// text that spells no CRS, explained. In an object of JSON the mark is a first member, `"same_by_rules":true`. Profile.
 #[derive(Clone, Copy)]
 pub struct ExplainedForms<'t> {
     /// How it is told.
@@ -129,129 +165,188 @@ impl Answer for ExplainedForms<'_> {
         IsExplainUnderOutput s.told.how s.told.words.now s.under.rules.now s.under.level s.a.now s.b.now written status };
 
     fn output(&self, alloc: Global) -> Result<(Vec<u8>, u8), AllocError> {
-        match forms_of(alloc, self.told, self.under, self.a, self.b)? {
-            Ok((a, b)) => self.explained(alloc, a.bytes(), b.bytes()),
+        main_theorem();
+        match both_of(alloc, self.told, self.under.level, self.a, self.b)? {
+            Ok((a, b)) => explained(alloc, self.told, self.under, a.bytes(), b.bytes()),
             Err(output) => Ok(output),
         }
     }
 }
 
-impl ExplainedForms<'_> {
-    // The explanation of the texts, by their forms.
-    fn explained(&self, alloc: Global, a: &[u8], b: &[u8]) -> Result<(Vec<u8>, u8), AllocError>
-        ensures { IfOk result (λ output. IsExplainedUnder self.now.told.how self.now.told.words.now self.now.under.level
-            self.now.a.now self.now.b.now a.now b.now output.0.items output.1) }
-    {
-        let (under, status) = pair_output(alloc, self.told, self.under.level, a, b)?;
-        let (plain, _status) = pair_output(alloc, self.told, self.under.level, self.a, self.b)?;
-        let mut lines = Vec::from_slice(alloc, &under)?;
-        append_marked(&mut lines, self.told.how, &under, &plain)?;
-        Ok((lines, status))
+// The explanation of two canonical texts.
+fn explained<'t>(
+    alloc: Global,
+    told: Told<'t>,
+    under: Under<'t>,
+    a: &'t [u8],
+    b: &'t [u8],
+) -> Result<(Vec<u8>, u8), AllocError>
+    requires a { IsAccepted a.now }
+    requires b { IsAccepted b.now }
+    ensures { IfOk result (λ output. IsExplainedUnder told.entry.how told.entry.words.now under.entry.rules.now
+        under.entry.level a.now b.now output.0.items output.1) }
+{
+    let mut crs = read_in_form_order(alloc, a, under.rules)?;
+    explained_behind(alloc, told, under, &mut crs, b)
+}
+
+// The explanation of the CRS of the first text and of the second canonical text.
+fn explained_behind<'t>(
+    alloc: Global,
+    told: Told<'t>,
+    under: Under<'t>,
+    first: &mut Crs<'t>,
+    b: &'t [u8],
+) -> Result<(Vec<u8>, u8), AllocError>
+    requires { IsAccepted b.now }
+    ensures { IfOk result (λ output. IsExplainedBehind told.entry.how told.entry.words.now under.entry.rules.now
+        under.entry.level first.old b.now output.0.items output.1) }
+{
+    let mut crs = read_in_form_order(alloc, b, under.rules)?;
+    told_under(alloc, first, &mut crs, told, under)
+}
+
+// What is told of two CRSs under rules.
+fn told_under<'t>(
+    alloc: Global,
+    a: &mut Crs<'t>,
+    b: &mut Crs<'t>,
+    told: Told<'t>,
+    under: Under<'t>,
+) -> Result<(Vec<u8>, u8), AllocError>
+    ensures { IfOk result (λ output. TellsUnder told.entry.how told.entry.words.now under.entry.rules.now
+        under.entry.level a.old b.old output.0.items output.1) }
+{
+    let before = ordered_parts(alloc, a, b, under.level, told.words)?;
+    rewrite_parts(alloc, a, under.rules);
+    rewrite_parts(alloc, b, under.rules);
+    let after = ordered_parts(alloc, a, b, under.level, told.words)?;
+    told_parts(alloc, told.how, &before, &after)
+}
+
+// What is told of the parts that differ before and after.
+fn told_parts(
+    alloc: Global,
+    how: Manner,
+    before: &Option<Vec<DifferenceTexts>>,
+    after: &Option<Vec<DifferenceTexts>>,
+) -> Result<(Vec<u8>, u8), AllocError>
+    ensures { IfOk result (λ output.
+        let old = option_map (λ texts. texts.items) before.now in
+        let new = option_map (λ texts. texts.items) after.now in
+        (output.0.items ≡ told_parts how new ++ marked how (texts_in new) (texts_in old))
+        × (output.1 ≡ status_of new)) }
+{
+    let mut told = parts_told(alloc, how, after)?;
+    append_marked(&mut told, how, texts_in(after), texts_in(before))?;
+    let status = match after {
+        None => 0,
+        Some(_) => 1,
+    };
+    Ok((told, status))
+}
+
+// How these parts are told.
+fn parts_told(
+    alloc: Global,
+    how: Manner,
+    parts: &Option<Vec<DifferenceTexts>>,
+) -> Result<Vec<u8>, AllocError>
+    ensures { IfOk result (λ told. told.items ≡ told_parts how (option_map (λ texts. texts.items) parts.now)) }
+{
+    match (parts, how) {
+        (None, _) => same_line(alloc, how),
+        (Some(parts), Manner::Lines) => difference_lines(alloc, parts),
+        (Some(parts), Manner::Objects) => difference_objects(alloc, parts),
+    }
+}
+
+fn texts_in(parts: &Option<Vec<DifferenceTexts>>) -> &[DifferenceTexts]
+    ensures { result.now ≡ texts_in (option_map (λ texts. texts.items) parts.now) }
+{
+    match parts {
+        None => &[],
+        Some(parts) => parts.as_slice(),
     }
 }
 
 // What stands before a line whose difference rules took away.
 const MARK: &[u8] = b"the same by the rules: ";
 
-// What stands for the first byte of such an object.
+// What stands for the brace of such an object.
 const OBJECT_MARK: &[u8] = b"{\"same_by_rules\":true,";
 
-// The length of what stands before the path in an object, `{"path":"`.
-const KEY_LENGTH: usize = 9;
-
-// Appends the lines of an explanation, each with the mark, but for those whose path a line of another has.
-#[tactic(auto, using(crate::proofs::MarkLemmas::marked_on, crate::proofs::MarkLemmas::marked_all))]
+// Appends parts that differ before, each with the mark, but for those that differ after too.
 fn append_marked(
     out: &mut Vec<u8>,
     how: Manner,
-    others: &[u8],
-    plain: &[u8],
+    after: &[DifferenceTexts],
+    before: &[DifferenceTexts],
 ) -> Result<(), AllocError>
-    ensures { OnOk result (out.new.items ≡ out.old.items ++ marked how (lines_in others.now) (lines_in plain.now)) }
+    ensures { OnOk result (out.new.items ≡ out.old.items ++ marked how after.now before.now) }
 {
-    let mut left = plain;
-    while let Some((line, rest)) = split_line(left) {
-        append_marked_line(out, how, others, line)?;
-        left = rest;
+    for difference in before {
+        append_unless(out, how, after, difference)?;
     }
     Ok(())
 }
 
-fn append_marked_line(
+fn append_unless(
     out: &mut Vec<u8>,
     how: Manner,
-    others: &[u8],
-    line: &[u8],
+    after: &[DifferenceTexts],
+    difference: &DifferenceTexts,
 ) -> Result<(), AllocError>
-    ensures { OnOk result (out.new.items ≡ out.old.items ++ marked_line how (lines_in others.now) line.now) }
+    ensures { OnOk result (out.new.items ≡ out.old.items ++ marked_one how after.now difference.now) }
 {
-    if has_path(how, others, path_in(how, line)) {
+    if has_part(after, part_of(&difference.path)) {
         return Ok(());
     }
-    append_line(out, how, line)
+    append_one(out, how, difference)
 }
 
-// Appends a line with the mark, behind which stand the line, or an object but for its brace.
-fn append_line(out: &mut Vec<u8>, how: Manner, line: &[u8]) -> Result<(), AllocError>
-    ensures { OnOk result (out.new.items ≡ out.old.items ++ with_mark how line.now) }
+// Appends a part with the mark.
+fn append_one(
+    out: &mut Vec<u8>,
+    how: Manner,
+    difference: &DifferenceTexts,
+) -> Result<(), AllocError>
+    ensures { OnOk result (out.new.items ≡ out.old.items ++ with_mark how difference.now) }
 {
-    let (mark, behind) = match how {
-        Manner::Lines => (MARK, line),
-        Manner::Objects => (OBJECT_MARK, line.get(1..).unwrap_or(b"")),
-    };
-    out.extend_from_slice(mark)?;
-    out.extend_from_slice(behind)?;
-    out.extend_from_slice(b"\n")
+    match how {
+        Manner::Lines => {
+            out.extend_from_slice(MARK)?;
+            append_difference_line(difference, out)
+        }
+        Manner::Objects => {
+            out.extend_from_slice(OBJECT_MARK)?;
+            append_difference_members(difference, out)
+        }
+    }
 }
 
-// Whether a line of some bytes has this path.
-#[tactic(auto, using(crate::proofs::MarkLemmas::path_here, crate::proofs::MarkLemmas::path_further, crate::proofs::MarkLemmas::path_nowhere))]
-fn has_path(how: Manner, bytes: &[u8], path: &[u8]) -> bool
-    ensures { result ≡ has_path how (lines_in bytes.now) path.now }
+// Whether one of some differences is in this part.
+fn has_part(differences: &[DifferenceTexts], part: &[u8]) -> bool
+    ensures { result ≡ has_part differences.now part.now }
 {
-    let mut left = bytes;
-    while let Some((line, rest)) = split_line(left) {
-        if path_in(how, line) == path {
+    for difference in differences {
+        if part_of(&difference.path) == part {
             return true;
         }
-        left = rest;
     }
     false
 }
 
-// The path to the part that a line tells: up to a colon, in an object up to a quote, or to the bracket before the name of
-// a member.
-fn path_in(how: Manner, line: &[u8]) -> &[u8]
-    ensures { result.now ≡ path_in how line.now }
+// The path to a part, without the name of a member and what follows.
+fn part_of(path: &[u8]) -> &[u8]
+    ensures { result.now ≡ part_of path.now }
 {
-    let line = from_path(how, line);
-    &line[..path_length(how, line)]
+    &path[..part_length(path)]
 }
 
-fn from_path(how: Manner, line: &[u8]) -> &[u8]
-    ensures { result.now ≡ from_path how line.now }
+fn part_length(path: &[u8]) -> usize
+    ensures value { result ≡ prefix_len is_of_part path.now }
+    ensures within { result ≤ length path.now }
 {
-    match how {
-        Manner::Lines => line,
-        Manner::Objects => line.get(KEY_LENGTH..).unwrap_or(b""),
-    }
-}
-
-fn path_length(how: Manner, line: &[u8]) -> usize
-    ensures value { result ≡ prefix_len (is_of_path how) line.now }
-    ensures within { result ≤ length line.now }
-{
-    line.iter()
-        .take_while(|byte| is_of_path(how, **byte))
-        .count()
-}
-
-fn is_of_path(how: Manner, byte: u8) -> bool
-    ensures { result ≡ is_of_path how byte }
-{
-    let end = match how {
-        Manner::Lines => b':',
-        Manner::Objects => b'"',
-    };
-    byte != end && byte != b'['
+    path.iter().take_while(|byte| **byte != b'[').count()
 }

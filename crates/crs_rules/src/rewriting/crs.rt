@@ -150,7 +150,7 @@ fn compound<'a>(alloc: Global, value: &mut Compound<'a>, rules: &'a Rules)
 }
 
 // A CRS under rules, but for the order of its axes.
-fn rename<'a>(alloc: Global, crs: &mut Crs<'a>, rules: &'a Rules)
+pub(crate) fn rename<'a>(alloc: Global, crs: &mut Crs<'a>, rules: &'a Rules)
     ensures { crs.new ≡ renamed (meaning rules.now) crs.old }
 {
     match crs {

@@ -1,17 +1,20 @@
-//! Axes whose order doesn't count: they are put in order of their texts.
-ghost use Rattle.std.specs.Prelude.{◌≡◌, ◌≢◌, ◌<◌, ◌+◌, ◌↔◌, [], IfOk, IsFalse, IsTrue, List, OnErr, OnOk, length, map, ℕ};
+//! Axes whose order doesn't count: they are put in order of their texts, or of those that they have in another CRS.
+ghost use Rattle.std.specs.Prelude.{◌≡◌, ◌≢◌, ◌<◌, ◌+◌, ◌↔◌, [], IfOk, IsFalse, IsTrue, List, OnOk, length, map, ℕ};
 ghost use Rattle.std.specs.Cmp.Lexicographic.{slice_cmp};
 ghost use Rattle.std.specs.List.{slice_index_or, swap};
 ghost use Rattle.std.specs.Ordering.{nat_cmp};
 ghost use Rattle.std.specs.declared.cmp.Ordering.TheVariants.{Greater};
 ghost use Rattle.crs_value.specs.declared.values.level.Level.TheVariants as levels;
 ghost use Rattle.crs_normal.specs.inner.PartTexts.{axis_text};
-ghost use Rattle.crs_rules.specs.Rewritten.{arranged, arranged_across, arranged_compound, arranged_crs, arranged_geodetic, arranged_projected, arranged_vertical, ascending};
-ghost use Rattle.crs_rules.specs.inner.Sinking.{IsOrderless, IsOrderlessAcross, IsOrderlessCrs, sunk_from};
+ghost use Rattle.crs_value.specs.Values.{AxisParts};
+ghost use Rattle.crs_rules.specs.FormOrder.{put, put_across, put_compound, put_crs, put_geodetic, put_projected, put_vertical};
+ghost use Rattle.crs_rules.specs.Rules.{Meaning};
+ghost use Rattle.crs_rules.specs.Rewritten.{arranged_crs, ascending, axis, renamed};
+ghost use Rattle.crs_rules.specs.inner.Sinking.{AreKeys, axes_across, axes_along, axes_up, IsOrderlessCrs, sunk_from};
 
 use crs_canon::Canonical;
 use crs_value::{
-    Axis, Compound, Crs, Geodetic, Horizontal, Level, List, Projected, System, Vertical,
+    Axis, Change, Compound, Crs, Geodetic, Horizontal, Level, List, Projected, System, Vertical,
 };
 use std::alloc::{AllocError, Global};
 use std::cmp::Ordering;
@@ -58,10 +61,11 @@ fn texts_of(alloc: Global, axes: &[Axis<'_>]) -> Result<Vec<AxisText>, AllocErro
 
 // Exchanges the axis at this place and the next one, and their texts.
 fn exchange(axes: &mut List<Axis<'_>>, texts: &mut Vec<AxisText>, at: usize)
-    requires texts { texts.old.items ≡ map (axis_text levels.Full) axes.old }
+    requires texts { AreKeys texts.old.items axes.old }
     requires at { at + 1 < length axes.old }
     ensures axes { axes.new ≡ swap axes.old at (at + 1) }
-    ensures texts { texts.new.items ≡ map (axis_text levels.Full) axes.new }
+    ensures texts { (text : AxisParts → List ℕ) → texts.old.items ≡ map text axes.old →
+        texts.new.items ≡ map text axes.new }
 {
     axes.swap(at, at + 1);
     texts.swap(at, at + 1);
@@ -83,10 +87,12 @@ fn is_above_next(texts: &[AxisText], at: usize) -> bool
 
 // Puts the axis at this place where it belongs among those behind it, which are in order of their texts.
 fn sink(axes: &mut List<Axis<'_>>, texts: &mut Vec<AxisText>, from: usize)
-    requires texts { texts.old.items ≡ map (axis_text levels.Full) axes.old }
+    requires texts { AreKeys texts.old.items axes.old }
     requires from { from < length axes.old }
-    ensures axes { axes.new ≡ sunk_from (axis_text levels.Full) from axes.old }
-    ensures texts { texts.new.items ≡ map (axis_text levels.Full) axes.new }
+    ensures axes { (text : AxisParts → List ℕ) → texts.old.items ≡ map text axes.old →
+        axes.new ≡ sunk_from text from axes.old }
+    ensures texts { (text : AxisParts → List ℕ) → texts.old.items ≡ map text axes.old →
+        texts.new.items ≡ map text axes.new }
 {
     let mut at = from;
     while is_above_next(texts.as_slice(), at) {
@@ -97,8 +103,9 @@ fn sink(axes: &mut List<Axis<'_>>, texts: &mut Vec<AxisText>, from: usize)
 
 // Puts axes in order of their texts.
 fn sort(axes: &mut List<Axis<'_>>, texts: &mut Vec<AxisText>)
-    requires { texts.old.items ≡ map (axis_text levels.Full) axes.old }
-    ensures { axes.new ≡ ascending (axis_text levels.Full) axes.old }
+    requires { AreKeys texts.old.items axes.old }
+    ensures { (text : AxisParts → List ℕ) → texts.old.items ≡ map text axes.old →
+        axes.new ≡ ascending text axes.old }
 {
     let mut from = axes.as_slice().len();
     while from > 0 {
@@ -107,71 +114,140 @@ fn sort(axes: &mut List<Axis<'_>>, texts: &mut Vec<AxisText>)
     }
 }
 
-// Puts the axes of a system that have no orders in order of their texts.
-fn arrange(alloc: Global, system: &mut System<'_>) -> Result<(), AllocError>
-    requires { IsOrderless system.old }
-    ensures ok { OnOk result (system.new ≡ arranged (axis_text levels.Full) system.old) }
-    ensures err { OnErr result (system.new ≡ system.old) }
-{
-    let mut texts = texts_of(alloc, system.axes.as_slice())?;
-    sort(&mut system.axes, &mut texts);
-    Ok(())
-}
+// Takes the order of an axis away.
+#[derive(Drop)]
+struct Unordered;
 
-fn arrange_geodetic(alloc: Global, value: &mut Geodetic<'_>) -> Result<(), AllocError>
-    requires { IsOrderless value.old.system }
-    ensures ok { OnOk result (value.new ≡ arranged_geodetic (axis_text levels.Full) value.old) }
-    ensures err { OnErr result (value.new ≡ value.old) }
-{
-    arrange(alloc, &mut value.system)
-}
+impl<'a> Change<Axis<'a>> for Unordered {
+    ghost use Rattle.crs_rules.specs.ReorderedAxes.{unordered};
 
-fn arrange_projected(alloc: Global, value: &mut Projected<'_>) -> Result<(), AllocError>
-    requires { IsOrderless value.old.system }
-    ensures ok { OnOk result (value.new ≡ arranged_projected (axis_text levels.Full) value.old) }
-    ensures err { OnErr result (value.new ≡ value.old) }
-{
-    arrange(alloc, &mut value.system)
-}
+    ghost changed = { λ c axis. unordered axis };
 
-fn arrange_vertical(alloc: Global, value: &mut Vertical<'_>) -> Result<(), AllocError>
-    requires { IsOrderless value.old.system }
-    ensures ok { OnOk result (value.new ≡ arranged_vertical (axis_text levels.Full) value.old) }
-    ensures err { OnErr result (value.new ≡ value.old) }
-{
-    arrange(alloc, &mut value.system)
-}
-
-// The horizontal part of a compound CRS.
-fn arrange_across(alloc: Global, horizontal: &mut Horizontal<'_>) -> Result<(), AllocError>
-    requires { IsOrderlessAcross horizontal.old }
-    ensures ok { OnOk result (horizontal.new ≡ arranged_across (axis_text levels.Full) horizontal.old) }
-    ensures err { OnErr result (horizontal.new ≡ horizontal.old) }
-{
-    match horizontal {
-        Horizontal::Geodetic(found) => arrange_geodetic(alloc, found),
-        Horizontal::Projected(found) => arrange_projected(alloc, found),
+    fn change(&self, value: &mut Axis<'a>) {
+        value.order = None;
     }
 }
 
-fn arrange_compound(alloc: Global, value: &mut Compound<'_>) -> Result<(), AllocError>
-    requires across { IsOrderlessAcross value.old.horizontal }
-    requires vertical { IsOrderless value.old.vertical.system }
-    ensures { OnOk result (value.new ≡ arranged_compound (axis_text levels.Full) value.old) }
+// Puts the axes of a system in order of these texts, without orders.
+fn put(system: &mut System<'_>, texts: &mut Vec<AxisText>)
+    requires { AreKeys texts.old.items system.old.axes }
+    ensures { (text : AxisParts → List ℕ) → texts.old.items ≡ map text system.old.axes →
+        system.new ≡ put text system.old }
 {
-    arrange_across(alloc, &mut value.horizontal)?;
-    arrange_vertical(alloc, &mut value.vertical)
+    sort(&mut system.axes, texts);
+    system.axes.change_each(&Unordered);
 }
 
-// Puts the axes of a CRS that have no orders in order of their texts. Out of memory it may be rewritten in part.
-pub(super) fn arrange_crs(alloc: Global, crs: &mut Crs<'_>) -> Result<(), AllocError>
+fn put_geodetic(value: &mut Geodetic<'_>, texts: &mut Vec<AxisText>)
+    requires { AreKeys texts.old.items value.old.system.axes }
+    ensures { (text : AxisParts → List ℕ) → texts.old.items ≡ map text value.old.system.axes →
+        value.new ≡ put_geodetic text value.old }
+{
+    put(&mut value.system, texts);
+}
+
+fn put_projected(value: &mut Projected<'_>, texts: &mut Vec<AxisText>)
+    requires { AreKeys texts.old.items value.old.system.axes }
+    ensures { (text : AxisParts → List ℕ) → texts.old.items ≡ map text value.old.system.axes →
+        value.new ≡ put_projected text value.old }
+{
+    put(&mut value.system, texts);
+}
+
+fn put_vertical(value: &mut Vertical<'_>, texts: &mut Vec<AxisText>)
+    requires { AreKeys texts.old.items value.old.system.axes }
+    ensures { (text : AxisParts → List ℕ) → texts.old.items ≡ map text value.old.system.axes →
+        value.new ≡ put_vertical text value.old }
+{
+    put(&mut value.system, texts);
+}
+
+fn put_across(horizontal: &mut Horizontal<'_>, texts: &mut Vec<AxisText>)
+    requires { AreKeys texts.old.items (axes_along horizontal.old) }
+    ensures { (text : AxisParts → List ℕ) → texts.old.items ≡ map text (axes_along horizontal.old) →
+        horizontal.new ≡ put_across text horizontal.old }
+{
+    match horizontal {
+        Horizontal::Geodetic(found) => put_geodetic(found, texts),
+        Horizontal::Projected(found) => put_projected(found, texts),
+    }
+}
+
+fn put_compound(value: &mut Compound<'_>, across: &mut Vec<AxisText>, up: &mut Vec<AxisText>)
+    requires across { AreKeys across.old.items (axes_along value.old.horizontal) }
+    requires up { AreKeys up.old.items value.old.vertical.system.axes }
+    ensures { (text : AxisParts → List ℕ) → across.old.items ≡ map text (axes_along value.old.horizontal) →
+        up.old.items ≡ map text value.old.vertical.system.axes → value.new ≡ put_compound text value.old }
+{
+    put_across(&mut value.horizontal, across);
+    put_vertical(&mut value.vertical, up);
+}
+
+// Puts the axes of both parts of a CRS in order of these texts, without orders.
+fn put_crs(crs: &mut Crs<'_>, across: &mut Vec<AxisText>, up: &mut Vec<AxisText>)
+    requires across { AreKeys across.old.items (axes_across crs.old) }
+    requires up { AreKeys up.old.items (axes_up crs.old) }
+    ensures { (text : AxisParts → List ℕ) → across.old.items ≡ map text (axes_across crs.old) →
+        up.old.items ≡ map text (axes_up crs.old) → crs.new ≡ put_crs text crs.old }
+{
+    match crs {
+        Crs::Geodetic(found) => put_geodetic(found, across),
+        Crs::Projected(found) => put_projected(found, across),
+        Crs::Vertical(found) => put_vertical(found, up),
+        Crs::Compound(found) => put_compound(found, across, up),
+    }
+}
+
+fn axes_across<'c, 'a>(crs: &'c Crs<'a>) -> &'c [Axis<'a>]
+    ensures { result.now ≡ axes_across crs.now }
+{
+    match crs {
+        Crs::Geodetic(found) => found.system.axes.as_slice(),
+        Crs::Projected(found) => found.system.axes.as_slice(),
+        Crs::Vertical(_) => &[],
+        Crs::Compound(found) => axes_along(&found.horizontal),
+    }
+}
+
+fn axes_along<'c, 'a>(horizontal: &'c Horizontal<'a>) -> &'c [Axis<'a>]
+    ensures { result.now ≡ axes_along horizontal.now }
+{
+    match horizontal {
+        Horizontal::Geodetic(found) => found.system.axes.as_slice(),
+        Horizontal::Projected(found) => found.system.axes.as_slice(),
+    }
+}
+
+fn axes_up<'c, 'a>(crs: &'c Crs<'a>) -> &'c [Axis<'a>]
+    ensures { result.now ≡ axes_up crs.now }
+{
+    match crs {
+        Crs::Geodetic(_) | Crs::Projected(_) => &[],
+        Crs::Vertical(found) => found.system.axes.as_slice(),
+        Crs::Compound(found) => found.vertical.system.axes.as_slice(),
+    }
+}
+
+// Puts the axes of a CRS that have no orders in order of their texts.
+pub(crate) fn arrange_crs(alloc: Global, crs: &mut Crs<'_>) -> Result<(), AllocError>
     requires { IsOrderlessCrs crs.old }
     ensures { OnOk result (crs.new ≡ arranged_crs (axis_text levels.Full) crs.old) }
 {
-    match crs {
-        Crs::Geodetic(found) => arrange_geodetic(alloc, found),
-        Crs::Projected(found) => arrange_projected(alloc, found),
-        Crs::Vertical(found) => arrange_vertical(alloc, found),
-        Crs::Compound(found) => arrange_compound(alloc, found),
-    }
+    let mut across = texts_of(alloc, axes_across(crs))?;
+    let mut up = texts_of(alloc, axes_up(crs))?;
+    put_crs(crs, &mut across, &mut up);
+    Ok(())
+}
+
+// Puts the axes of a CRS in order of the texts that they have in another, which is the first but for its axes and
+// names under rules.
+pub(crate) fn put_as_in(alloc: Global, crs: &mut Crs<'_>, other: Crs<'_>) -> Result<(), AllocError>
+    requires { (r : Meaning) × (other ≡ renamed r crs.old) }
+    ensures { OnOk result ((r : Meaning) → other.entry ≡ renamed r crs.old →
+        crs.new ≡ put_crs (λ a. axis_text levels.Full (axis r a)) crs.old) }
+{
+    let mut across = texts_of(alloc, axes_across(&other))?;
+    let mut up = texts_of(alloc, axes_up(&other))?;
+    put_crs(crs, &mut across, &mut up);
+    Ok(())
 }
