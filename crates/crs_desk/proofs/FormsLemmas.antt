@@ -4,7 +4,7 @@ use Rattle.std.specs.Option.{option_map}
 use Rattle.crs_value.specs.declared.values.crs.Crs.{Crs}
 use Rattle.crs_value.specs.declared.values.level.Level.{Level}
 use Rattle.crs_same.specs.SameCrs.{SameCrs}
-use Rattle.crs_writer.specs.Prelude.{CanonicalText}
+use Rattle.crs_writer.specs.inner.Prelude.{CanonicalText}
 use Rattle.crs_explain.specs.Differing.{PartTexts}
 use Rattle.crs_explain.specs.InOrder.{AreOrderedTexts}
 use Rattle.crs_desk.specs.RulesOutput.{ArePartsThatDiffer, IsPairOf, Refusals, Written}

@@ -1,10 +1,10 @@
 -- Axes in the order of the form: the CRS is sound, and rewritten it is the one that the form spells.
 use Rattle.std.proofs.Common.{◌≡◌, ℕ, Bool, true, false, List, [], ◌∷◌, Option, Some, None, IsSomeAnd, Ordering, Less, Equal, Greater, ap, ◌∙◌, inl, length, map, refl, sym, if◌then◌else◌}
 use Rattle.std.proofs.lemmas.List.{length-map}
-use Rattle.crs_decimal.specs.Prelude.{Value}
-use Rattle.crs_shape.specs.Prelude.{asked_kind}
+use Rattle.crs_decimal.specs.inner.Prelude.{Value}
+use Rattle.crs_shape.specs.inner.Prelude.{asked_kind}
 use Rattle.crs_shape.specs.declared.system_type.SystemType.{SystemType}
-use Rattle.crs_value.specs.Prelude.{AxisParts, CompoundParts, GeodeticParts, HasUnits, IsAxis, IsGeodetic, IsHorizontal, IsProjected, IsSystem, IsVertical, ProjectedParts, SuitsAxis, SystemParts, UnitParts, VerticalParts}
+use Rattle.crs_value.specs.inner.Prelude.{AxisParts, CompoundParts, GeodeticParts, HasUnits, IsAxis, IsGeodetic, IsHorizontal, IsProjected, IsSystem, IsVertical, ProjectedParts, SuitsAxis, SystemParts, UnitParts, VerticalParts}
 use Rattle.crs_value.specs.Sound.{Each}
 use Rattle.crs_value.specs.declared.values.compound.Horizontal.{Horizontal}
 use Rattle.crs_value.specs.declared.values.compound.Horizontal.TheVariants as horizontals

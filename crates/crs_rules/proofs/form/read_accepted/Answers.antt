@@ -1,5 +1,5 @@
 use Rattle.std.proofs.Common.{subst}
-use Rattle.crs_value.specs.Prelude.{IsFaultOfText}
+use Rattle.crs_value.specs.inner.Prelude.{IsFaultOfText}
 use Rattle.crs_rules.proofs.form.read_accepted.Goals as goal
 
 pub unreachable-requires : goal.unreachable-requires

@@ -1,6 +1,6 @@
 use Rattle.std.proofs.Common.{ap, map, ◌∙◌}
 use Rattle.crs_value.specs.declared.values.level.Level.TheVariants as levels
-use Rattle.crs_normal.specs.Prelude.{axis_text}
+use Rattle.crs_normal.specs.inner.Prelude.{axis_text}
 use Rattle.crs_rules.specs.Rewritten.{axis}
 use Rattle.crs_rules.proofs.FormOrderLemmas.{keys-across, keys-up}
 use Rattle.crs_rules.proofs.rewriting.order.put_as_in.Goals as goal

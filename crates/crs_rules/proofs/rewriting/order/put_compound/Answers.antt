@@ -1,4 +1,4 @@
-use Rattle.crs_value.specs.Prelude.{IsHorizontal, IsVertical}
+use Rattle.crs_value.specs.inner.Prelude.{IsHorizontal, IsVertical}
 use Rattle.crs_rules.proofs.FormOrderLemmas.{across-put, vertical-put}
 use Rattle.crs_rules.proofs.rewriting.order.put_compound.Goals as goal
 

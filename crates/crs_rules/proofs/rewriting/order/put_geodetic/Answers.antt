@@ -1,5 +1,5 @@
 use Rattle.std.proofs.Common.{subst, sym}
-use Rattle.crs_value.specs.Prelude.{GeodeticParts, IsGeodetic, SystemParts}
+use Rattle.crs_value.specs.inner.Prelude.{GeodeticParts, IsGeodetic, SystemParts}
 use Rattle.crs_rules.proofs.FormOrderLemmas.{geodetic-put}
 use Rattle.crs_rules.proofs.rewriting.order.put_geodetic.Goals as goal
 

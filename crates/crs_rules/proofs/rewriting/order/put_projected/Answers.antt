@@ -1,5 +1,5 @@
 use Rattle.std.proofs.Common.{subst, sym}
-use Rattle.crs_value.specs.Prelude.{ProjectedParts, IsProjected, SystemParts}
+use Rattle.crs_value.specs.inner.Prelude.{ProjectedParts, IsProjected, SystemParts}
 use Rattle.crs_rules.proofs.FormOrderLemmas.{projected-put}
 use Rattle.crs_rules.proofs.rewriting.order.put_projected.Goals as goal
 

@@ -1,5 +1,5 @@
 use Rattle.std.proofs.Common.{subst, sym}
-use Rattle.crs_value.specs.Prelude.{VerticalParts, IsVertical, SystemParts}
+use Rattle.crs_value.specs.inner.Prelude.{VerticalParts, IsVertical, SystemParts}
 use Rattle.crs_rules.proofs.FormOrderLemmas.{vertical-put}
 use Rattle.crs_rules.proofs.rewriting.order.put_vertical.Goals as goal
 
