@@ -98,26 +98,37 @@ fn count_ensemble(alloc: Global, frame: &mut Frame<'_>, uncounted: bool)
     }
 }
 
-// The classes of geodetic frames and ensembles.
-pub(super) const GEODETIC: (Class, Class) = (Class::GeodeticFrame, Class::GeodeticEnsemble);
+// The classes of a kind of frames and of its ensembles.
+#[derive(Clone, Copy)]
+pub(super) struct FrameClasses {
+    frame: Class,
+    ensemble: Class,
+}
 
-// The classes of vertical frames and ensembles.
-pub(super) const VERTICAL: (Class, Class) = (Class::VerticalFrame, Class::VerticalEnsemble);
+pub(super) const GEODETIC: FrameClasses = FrameClasses {
+    frame: Class::GeodeticFrame,
+    ensemble: Class::GeodeticEnsemble,
+};
 
-// A frame of the first class, or an ensemble of the second.
+pub(super) const VERTICAL: FrameClasses = FrameClasses {
+    frame: Class::VerticalFrame,
+    ensemble: Class::VerticalEnsemble,
+};
+
+// A frame, or an ensemble, of these classes.
 pub(super) fn rewrite_frame<'a>(
     alloc: Global,
     frame: &mut Frame<'a>,
-    classes: (Class, Class),
+    classes: FrameClasses,
     rules: &'a Rules,
 )
-    ensures { frame.new ≡ frame_or_ensemble (meaning rules.now) classes.0 classes.1
+    ensures { frame.new ≡ frame_or_ensemble (meaning rules.now) classes.frame classes.ensemble
         (counted_frame rules.now.uncounted.ensembles frame.old) }
 {
     count_ensemble(alloc, frame, rules.uncounted.ensembles);
     match frame {
-        Frame::Datum(found) => datum(found, classes.0, rules),
-        Frame::Ensemble(found) => ensemble(found, classes.1, rules),
+        Frame::Datum(found) => datum(found, classes.frame, rules),
+        Frame::Ensemble(found) => ensemble(found, classes.ensemble, rules),
     }
 }
 
