@@ -58,7 +58,7 @@ def is_asked(case: rows.Case) -> bool:
     if names and not (takes_rules and all(it in case.files for it in names)):
         return False
     inputs = ([b"canon"], [b"check"], [b"explain"], [b"group"], [b"canon", b"--lines"])
-    return words in inputs or len(words) == 3 and words[0] in (b"same", b"explain") and b"-" != words[1][:1]
+    return words in inputs or len(words) == 3 and words[0] in (b"same", b"explain") and b"--json" not in words
 
 
 def all_rows() -> List[rows.Case]:
