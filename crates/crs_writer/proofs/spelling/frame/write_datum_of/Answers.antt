@@ -8,4 +8,4 @@ pub returns : goal.returns
 returns c = written c.write_datum.result _ _ _ c.write_datum.ensures (λ w d r.
     w d (c.text.ensures d.name r.name)
     (first-said ReadsEllipsoid c.args.node.now class.Ellipsoid _ _ _ c.first-ellipsoid.ensures c.as_ref.ensures.value r.ellipsoid)
-    (c.text_in.ensures d.anchor r.anchor) (c.number_in-epoch.ensures d.anchor_epoch r.anchor_epoch) r.identifiers)
+    (c.text_in.ensures d.anchor r.anchor) (c.number_in.ensures d.anchor_epoch r.anchor_epoch) r.identifiers)

@@ -16,6 +16,6 @@ returns c =
     (w _ _ _ (Some (whole_value c.args.position)) _ _ _ (ap (λ (a : AxisParts). a.name) seen) (ap (λ (a : AxisParts). a.direction) seen)
     (copied _ _ (c.as_ref.ensures.value ∙ ap (λ (a : AxisParts). a.meridian) c.axis.view_is)) refl
     (ap (λ (s : SystemParts). asked_kind s.system_type axis.direction) (sym c.system.view_is)
-    ∙ ap (λ (a : AxisParts). asked_kind c.system.inside.system_type a.direction) seen ∙ sym c.asked_kind-asked.ensures) (copied _ _ c.unit_of.ensures)
+    ∙ ap (λ (a : AxisParts). asked_kind c.system.inside.system_type a.direction) seen ∙ sym c.asked_kind.ensures) (copied _ _ c.unit_of.ensures)
     (ap (λ (a : AxisParts). a.identifiers) seen)))
     c.write_axis.ensures

@@ -21,6 +21,6 @@ returns c = on_ok_weaker c.write_axis.result (λ w s a type shared r.
     placed c.args.level s c.args.at.position a _ _ _ c.in_ok-append.ensures
     (w _ _ _ (Some (whole_value c.args.at.position)) _ _ _ (c.text.ensures a.name r.name) direction
     (first-said ReadsAxisMeridian c.args.axis.now class.AxisMeridian _ _ _ c.first-meridian.ensures c.as_ref.ensures.value r.meridian) refl
-    (ap (λ t. asked_kind t a.direction) type ∙ ap (λ d. asked_kind c.args.at.system_type d) direction ∙ sym c.asked_kind-asked.ensures)
+    (ap (λ t. asked_kind t a.direction) type ∙ ap (λ d. asked_kind c.args.at.system_type d) direction ∙ sym c.asked_kind.ensures)
     (through (λ (n : Node) u. ReadsUnit n.class (item n) u) _ _ _ c.as_ref-2.ensures.value (c.unit_of-unit.ensures a.unit s.unit r.unit shared))
     r.identifiers)) c.write_axis.ensures

@@ -5,4 +5,4 @@ use Rattle.crs_writer.proofs.spelling.frame_parts.EllipsoidSpell.spell.Goals as 
 
 pub returns : goal.returns
 returns c =
-    spelled c.write_ellipsoid.result (ellipsoid_text c.args.level) _ _ _ _ c.self.view_is c.write_ellipsoid.ensures (λ w. w _ refl refl refl (copied _ _ c.as_ref-unit.ensures.value) refl)
+    spelled c.write_ellipsoid.result (ellipsoid_text c.args.level) _ _ _ _ c.self.view_is c.write_ellipsoid.ensures (λ w. w _ refl refl refl (copied _ _ c.as_ref.ensures.value) refl)

@@ -6,4 +6,4 @@ use Rattle.crs_writer.proofs.spelling.frame_parts.MeridianSpell.spell.Goals as g
 pub returns : goal.returns
 returns c = spelled c.write_measured.result (meridian_text c.args.level) _ _ _ _ c.self.view_is c.write_measured.ensures (λ w.
     unless-zero c.args.level (codes "PRIMEM[\"") _ _ _ _ _ _
-    (w _ _ _ _ refl refl (c.unit_said-unit.ensures _ _ refl (copied _ _ c.as_ref.ensures.value)) refl))
+    (w _ _ _ _ refl refl (c.unit_said.ensures _ _ refl (copied _ _ c.as_ref.ensures.value)) refl))

@@ -5,4 +5,4 @@ use Rattle.crs_writer.proofs.spelling.tail.ExtentSpell.spell.Goals as goal
 
 pub returns : goal.returns
 returns c =
-    spelled c.write_extent.result (extent_text c.args.level) _ _ _ _ c.self.view_is c.write_extent.ensures (λ w. w _ _ _ refl refl (copied _ _ c.as_ref.ensures.value))
+    spelled c.write_extent.result (extent_text c.args.level) _ _ _ _ c.self.view_is c.write_extent.ensures (λ w. w _ _ _ refl refl (copied _ _ c.as_ref-unit.ensures.value))
