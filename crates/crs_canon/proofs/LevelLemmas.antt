@@ -4,8 +4,7 @@ use Rattle.crs_value.specs.inner.Prelude.{IsCrs, Spells}
 use Rattle.crs_value.specs.declared.values.crs.Crs.{Crs}
 use Rattle.crs_value.specs.declared.values.level.Level.{Level}
 use Rattle.crs_value.specs.declared.values.level.Level.TheVariants as levels
-use Rattle.crs_same.specs.inner.Prelude.{SameCrs}
-use Rattle.crs_same.specs.inner.Prelude.{IsSamenessOf}
+use Rattle.crs_same.specs.inner.Prelude.{SameCrs, IsSamenessOf}
 use Rattle.crs_normal.specs.inner.Prelude.{IsNormalText}
 use Rattle.crs_writer.specs.inner.Prelude.{IsCanonicalOf}
 use Rattle.crs_canon.proofs.MainLemmas.{its-own}

@@ -4,8 +4,7 @@ use Rattle.crs_text.specs.inner.Prelude.{RefusedAt}
 use Rattle.crs_value.specs.inner.Prelude.{IsCrs, Spells, Refuses}
 use Rattle.crs_value.specs.declared.values.crs.Crs.{Crs}
 use Rattle.crs_value.specs.declared.values.level.Level.{Level}
-use Rattle.crs_same.specs.inner.Prelude.{SameCrs}
-use Rattle.crs_same.specs.inner.Prelude.{IsSamenessOf}
+use Rattle.crs_same.specs.inner.Prelude.{SameCrs, IsSamenessOf}
 use Rattle.crs_normal.specs.inner.Prelude.{IsNormalText}
 use Rattle.crs_writer.specs.inner.Prelude.{CanonicalText, IsCanonicalOf, IsCanonicalText}
 use Rattle.crs_canon.specs.MainTheorem.{IsAccepted, IsItsRefusal, MainTheorem, SpellSame}

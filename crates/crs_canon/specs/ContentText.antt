@@ -9,9 +9,7 @@ use Rattle.crs_value.specs.declared.values.level.Level.{Level}
 use Rattle.crs_same.specs.declared.content.Content.{Content}
 use Rattle.crs_same.specs.declared.content.Content.TheVariants as content
 use Rattle.crs_same.specs.SameParts.{SameUnit}
-use Rattle.crs_normal.specs.PartSpellings.{IsSpelledAxisMeridian, IsSpelledDeformationModel}
-use Rattle.crs_normal.specs.PartSpellings.{IsSpelledGeoidModel, IsSpelledIdent, IsSpelledMember}
-use Rattle.crs_normal.specs.PartSpellings.{IsSpelledParameter, IsSpelledUsage, unit_class}
+use Rattle.crs_normal.specs.PartSpellings.{IsSpelledAxisMeridian, IsSpelledDeformationModel, IsSpelledGeoidModel, IsSpelledIdent, IsSpelledMember, IsSpelledParameter, IsSpelledUsage, unit_class}
 use Rattle.crs_normal.specs.SpelledAs.{IsSpelledAs}
 use Rattle.crs_writer.specs.SetText.{IsSetText, SpellsOneOf}
 

@@ -1,12 +1,10 @@
 -- How a run ends, over one text or without a source.
-use Rattle.std.specs.Prelude.{◌≡◌, ◌≤◌, ◌<◌, ◌↔◌, ℕ, List, true, false}
-use Rattle.std.specs.Prelude.{IfErr, IfOk, IsErrOf, Result}
+use Rattle.std.specs.Prelude.{◌≡◌, ◌≤◌, ◌<◌, ◌↔◌, ℕ, List, true, false, IfErr, IfOk, IsErrOf, Result}
 use Rattle.std.specs.Io.KnownBytes.{Appends}
 use Rattle.crs_streams.specs.Streams.{SourceState, SinkState}
 use Rattle.crs_desk.specs.Whole.{IsWhole}
 use Rattle.crs_streams.specs.declared.fault.RunFault.{RunFault}
-use Rattle.crs_streams.specs.declared.fault.RunFault.TheVariants.{ReadFailed, WriteFailed, TooLong}
-use Rattle.crs_streams.specs.declared.fault.RunFault.TheVariants.{TooManyReads, Memory}
+use Rattle.crs_streams.specs.declared.fault.RunFault.TheVariants.{ReadFailed, WriteFailed, TooLong, TooManyReads, Memory}
 
 -- the sink got what a command writes, and this is its status
 pub record IsWritten (Output : List ℕ → ℕ → Type 0) (old new : SinkState)

@@ -1,6 +1,5 @@
 -- What a run over files writes, and its status.
-use Rattle.std.specs.Prelude.{◌≡◌, ◌⊎◌, ◌==◌, ◌++◌, ◌∷◌, [], ℕ, Bool, List, Option, IfSome, codes, max}
-use Rattle.std.specs.Prelude.{false, true, if◌then◌else◌}
+use Rattle.std.specs.Prelude.{◌≡◌, ◌⊎◌, ◌==◌, ◌++◌, ◌∷◌, [], ℕ, Bool, List, Option, IfSome, codes, max, false, true, if◌then◌else◌}
 use Rattle.std.specs.Io.KnownBytes.{Appends}
 use Rattle.crs_streams.specs.Escaped.{escaped}
 use Rattle.crs_streams.specs.Json.{json_text}
@@ -8,8 +7,7 @@ use Rattle.crs_group.specs.GroupOutput.{IsGroupOutput, IsGroupOutputUnder}
 use Rattle.crs_group.specs.declared.summary.Summary.{Summary}
 use Rattle.crs_streams.specs.Streams.{SinkState}
 use Rattle.crs_streams.specs.declared.fault.RunFault.{RunFault}
-use Rattle.crs_streams.specs.declared.fault.RunFault.TheVariants.{ReadFailed, WriteFailed, TooLong}
-use Rattle.crs_streams.specs.declared.fault.RunFault.TheVariants.{TooManyReads, Memory}
+use Rattle.crs_streams.specs.declared.fault.RunFault.TheVariants.{ReadFailed, WriteFailed, TooLong, TooManyReads, Memory}
 use Rattle.crs_desk.specs.declared.runs.files.FileTask.{FileTask}
 use Rattle.crs_desk.specs.declared.runs.files.FileTask.TheVariants as task
 use Rattle.crs_desk.specs.declared.runs.manner.Manner.{Manner}

@@ -1,6 +1,5 @@
 -- What a run over lines writes, and how it ends.
-use Rattle.std.specs.Prelude.{◌≡◌, ◌⊎◌, ◌++◌, ◌^◌, [], ◌∷◌, ℕ, List, Bool, true, false}
-use Rattle.std.specs.Prelude.{IsTrue, IsFalse, max}
+use Rattle.std.specs.Prelude.{◌≡◌, ◌⊎◌, ◌++◌, ◌^◌, [], ◌∷◌, ℕ, List, Bool, true, false, IsTrue, IsFalse, max}
 use Rattle.std.specs.List.{list_all}
 use Rattle.std.specs.Io.KnownBytes.{Appends}
 use Rattle.crs_text.specs.Tokens.{is_white}
@@ -9,8 +8,7 @@ use Rattle.crs_streams.specs.Lines.{AreLines, HasNoFeed}
 use Rattle.crs_streams.specs.LongLines.{EndsInFeed, HasShortLines, IsTooLong}
 use Rattle.crs_streams.specs.Streams.{SourceState, SinkState}
 use Rattle.crs_streams.specs.declared.fault.RunFault.{RunFault}
-use Rattle.crs_streams.specs.declared.fault.RunFault.TheVariants.{ReadFailed, WriteFailed, TooLong}
-use Rattle.crs_streams.specs.declared.fault.RunFault.TheVariants.{TooManyReads, Memory}
+use Rattle.crs_streams.specs.declared.fault.RunFault.TheVariants.{ReadFailed, WriteFailed, TooLong, TooManyReads, Memory}
 use Rattle.crs_desk.specs.Output.{IsLine}
 
 -- what a command writes for a text, and its status

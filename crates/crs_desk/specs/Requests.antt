@@ -1,6 +1,5 @@
 -- What a command line asks for, by the name of its command and the matches that `clap` gives.
-use Rattle.std.specs.Prelude.{◌≡◌, ◌||◌, [], ◌∷◌, Bool, List, Option}
-use Rattle.std.specs.Prelude.{Some, None, codes, unwrap_or, if◌then◌else◌}
+use Rattle.std.specs.Prelude.{◌≡◌, ◌||◌, [], ◌∷◌, Bool, List, Option, Some, None, codes, unwrap_or, if◌then◌else◌}
 use Rattle.std.specs.Str.{bytes_eq}
 use Rattle.clap.specs.Words.{Row, Text, all_of, first_of}
 use Rattle.crs_value.specs.declared.values.level.Level.{Level}

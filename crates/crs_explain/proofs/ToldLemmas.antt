@@ -7,8 +7,7 @@ use Rattle.crs_shape.specs.declared.unit_kind.UnitKind.TheVariants as kinds
 use Rattle.crs_value.specs.inner.Prelude.{ParameterParts, IsIn, IsParameter}
 use Rattle.crs_value.specs.Sound.{Each}
 use Rattle.crs_value.specs.declared.values.level.Level.{Level}
-use Rattle.crs_same.specs.inner.Prelude.{SameParameter, AllHaveSame, HasSame, SameSet}
-use Rattle.crs_same.specs.inner.Prelude.{Differences, Parts, identifiers, numbers, units}
+use Rattle.crs_same.specs.inner.Prelude.{SameParameter, AllHaveSame, HasSame, SameSet, Differences, Parts, identifiers, numbers, units}
 use Rattle.crs_same.specs.declared.step.Step.TheVariants as step
 use Rattle.crs_normal.specs.inner.Prelude.{IsCanonicalForm, IsSpelledParameter}
 use Rattle.crs_writer.specs.inner.Prelude.{SpellsOneOf, commas, comma_separated}

@@ -8,8 +8,7 @@ use Rattle.crs_shape.specs.declared.unit_kind.UnitKind.TheVariants as kinds
 use Rattle.crs_value.specs.inner.Prelude.{ParameterParts, IsIn, UnitParts}
 use Rattle.crs_value.specs.Values.{IdentParts}
 use Rattle.crs_value.specs.declared.values.level.Level.{Level}
-use Rattle.crs_same.specs.inner.Prelude.{SameIdents, SameUnit, SameValue, BothOrNeither}
-use Rattle.crs_same.specs.inner.Prelude.{◌⨾◌, DifferenceParts, Differences, Parts, exchanged, part}
+use Rattle.crs_same.specs.inner.Prelude.{SameIdents, SameUnit, SameValue, BothOrNeither, ◌⨾◌, DifferenceParts, Differences, Parts, exchanged, part}
 use Rattle.crs_same.specs.declared.content.Content.{Content}
 use Rattle.crs_same.specs.declared.step.Step.{Step}
 use Rattle.crs_canon.specs.Named.{ArePairedNames, named_once}

@@ -1,6 +1,5 @@
 -- The piece of a line at a place, and the caret below it.
-use Rattle.std.specs.Prelude.{◌≡◌, ℕ, ◌+◌, ◌-◌, ◌==◌, Bool, true, false, Option, Some, None, List, [], ◌++◌, length}
-use Rattle.std.specs.Prelude.{take, codes, encode_utf8, if◌then◌else◌}
+use Rattle.std.specs.Prelude.{◌≡◌, ℕ, ◌+◌, ◌-◌, ◌==◌, Bool, true, false, Option, Some, None, List, [], ◌++◌, length, take, codes, encode_utf8, if◌then◌else◌}
 use Rattle.std.specs.List.{flat_map, suffix_len}
 use Rattle.std.specs.Char.{is_ascii_whitespace}
 use Rattle.bstr.specs.Utf8.{lossy_chars}

@@ -8,8 +8,7 @@ use Rattle.crs_streams.specs.LongLines.{HasShortLines}
 use Rattle.crs_group.specs.GroupOutput.{IsGroupOutput, IsGroupOutputUnder}
 use Rattle.crs_streams.specs.Streams.{IsAskedFor, SourceState, SinkState}
 use Rattle.crs_streams.specs.declared.fault.RunFault.{RunFault}
-use Rattle.crs_streams.specs.declared.fault.RunFault.TheVariants.{ReadFailed, WriteFailed, TooLong}
-use Rattle.crs_streams.specs.declared.fault.RunFault.TheVariants.{TooManyReads, Memory}
+use Rattle.crs_streams.specs.declared.fault.RunFault.TheVariants.{ReadFailed, WriteFailed, TooLong, TooManyReads, Memory}
 use Rattle.crs_group.specs.declared.listing.Listing.{Listing}
 use Rattle.crs_group.specs.declared.summary.Summary.{Summary}
 

@@ -1,6 +1,5 @@
 -- Lines that begin with a name and a tab.
-use Rattle.std.specs.Prelude.{ℕ, ◌+◌, ◌==◌, [], ◌∷◌, Bool, true, false, not, nat_lt, List, decimal}
-use Rattle.std.specs.Prelude.{drop, length, map, take, unwrap_or, if◌then◌else◌}
+use Rattle.std.specs.Prelude.{ℕ, ◌+◌, ◌==◌, [], ◌∷◌, Bool, true, false, not, nat_lt, List, decimal, drop, length, map, take, unwrap_or, if◌then◌else◌}
 use Rattle.std.specs.List.{prefix_len}
 use Rattle.crs_group.specs.Catalogue.{nth}
 

@@ -1,6 +1,5 @@
 //! The catalogue: groups by their canonical texts, and the refused lines.
-ghost use Rattle.std.specs.Prelude.{◌≡◌, ◌+◌, ◌<◌, [], ◌∷◌, ◌++◌, List, Some, length};
-ghost use Rattle.std.specs.Prelude.{IfOk, IfSome, MatchResult, OnErr, OnOk};
+ghost use Rattle.std.specs.Prelude.{◌≡◌, ◌+◌, ◌<◌, [], ◌∷◌, ◌++◌, List, Some, length, IfOk, IfSome, MatchResult, OnErr, OnOk};
 ghost use Rattle.std.specs.Option.{option_copied, option_map};
 ghost use Rattle.std.specs.List.{list_all};
 ghost use Rattle.crs_text.specs.Tokens.{is_white};

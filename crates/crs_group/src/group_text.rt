@@ -2,8 +2,7 @@
 ghost use Rattle.std.specs.Prelude.{◌≡◌, ◌++◌, OnOk, Some};
 ghost use Rattle.std.specs.List.{flat_map};
 ghost use Rattle.crs_group.specs.Catalogue.{GroupParts, nth};
-ghost use Rattle.crs_group.specs.GroupOutput.{catalogue_text, group_line, group_lines, is_listed, label};
-ghost use Rattle.crs_group.specs.GroupOutput.{labels_text, listed_line, refused_written};
+ghost use Rattle.crs_group.specs.GroupOutput.{catalogue_text, group_line, group_lines, is_listed, label, labels_text, listed_line, refused_written};
 ghost use Rattle.crs_group.specs.GroupObjects.{group_object, json_line, refused_object};
 ghost use Rattle.crs_streams.specs.Json.{json_array, json_more};
 

@@ -1,6 +1,5 @@
 -- Rules, as callers see them: which names and units count as others, and what doesn't count.
-use Rattle.std.specs.Prelude.{ℕ, ◌&&◌, ◌-◌, Bool, List, [], ◌∷◌, Option, Some, None, codes, length}
-use Rattle.std.specs.Prelude.{if◌then◌else◌, nat_eq, take}
+use Rattle.std.specs.Prelude.{ℕ, ◌&&◌, ◌-◌, Bool, List, [], ◌∷◌, Option, Some, None, codes, length, if◌then◌else◌, nat_eq, take}
 use Rattle.std.specs.List.{ends_with}
 use Rattle.std.specs.Str.{bytes_eq}
 use denote.Enum.Bare.{sameb}

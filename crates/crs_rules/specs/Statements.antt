@@ -1,6 +1,5 @@
 -- The statements of a rules file: what each adds to those before it, or why it is refused.
-use Rattle.std.specs.Prelude.{◌≡◌, ◌⊎◌, ℕ, IsTrue, IsFalse, IfSome, List, [], ◌∷◌, ◌++◌}
-use Rattle.std.specs.Prelude.{Bool, true, Option, Some, None, codes, if◌then◌else◌}
+use Rattle.std.specs.Prelude.{◌≡◌, ◌⊎◌, ℕ, IsTrue, IsFalse, IfSome, List, [], ◌∷◌, ◌++◌, Bool, true, Option, Some, None, codes, if◌then◌else◌}
 use Rattle.std.specs.Str.{str_eq_ignore_ascii_case}
 use Rattle.crs_text.specs.Items.{Item, leaf, node, Siblings, End, More, arguments, place_of, raw_of}
 use Rattle.crs_text.specs.Tokens.{number, text, word}

@@ -21,8 +21,7 @@ use Rattle.crs_same.specs.PartsOfFrames.{parts_of_meridian, parts_of_frame}
 use Rattle.crs_same.specs.PartsOfSystems.{parts_of_system}
 use Rattle.crs_same.specs.Parts.{◌▸◌, Parts, PartsOf, ◌⨾◌, First, DifferenceParts, Differences}
 use Rattle.crs_same.specs.SameParts.{SameParameter, SameGeoidModel, SameDeformationModel, SameUsage, usages_of}
-use Rattle.crs_same.specs.SingleParts.{texts, optional_texts, words, unlike, optional, optional_numbers, units}
-use Rattle.crs_same.specs.SingleParts.{sets, identifiers}
+use Rattle.crs_same.specs.SingleParts.{texts, optional_texts, words, unlike, optional, optional_numbers, units, sets, identifiers}
 
 -- the parts of two methods: name, identifiers
 unfoldable pub parts_of_method : PartsOf MethodParts

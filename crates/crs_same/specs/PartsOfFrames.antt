@@ -10,8 +10,7 @@ use Rattle.crs_same.specs.declared.step.Step.TheVariants as step
 use Rattle.crs_same.specs.Contents.{length_unit}
 use Rattle.crs_same.specs.Parts.{◌▸◌, PartsOf, part, ◌⨾◌}
 use Rattle.crs_same.specs.SameParts.{SameMember, SameLength}
-use Rattle.crs_same.specs.SingleParts.{texts, optional_texts, unlike, numbers, optional_numbers, units}
-use Rattle.crs_same.specs.SingleParts.{sets, identifiers, nodes}
+use Rattle.crs_same.specs.SingleParts.{texts, optional_texts, unlike, numbers, optional_numbers, units, sets, identifiers, nodes}
 
 -- the parts of two ellipsoids: name,
 -- semi-major axis, inverse flattening, unit, identifiers

@@ -5,8 +5,7 @@ ghost use Rattle.crs_value.specs.declared.values.frame.Frame.TheVariants as fram
 ghost use Rattle.crs_same.specs.declared.content.Content.TheVariants as content;
 ghost use Rattle.crs_same.specs.declared.step.Step.TheVariants as step;
 ghost use Rattle.crs_same.specs.PartsOfFrames.{parts_of_ellipsoid, parts_of_ellipsoids, parts_of_given, datum_word};
-ghost use Rattle.crs_same.specs.PartsOfFrames.{unit_of, or_greenwich, parts_of_meridian};
-ghost use Rattle.crs_same.specs.PartsOfFrames.{parts_of_datum, parts_of_ensemble, parts_of_frame};
+ghost use Rattle.crs_same.specs.PartsOfFrames.{unit_of, or_greenwich, parts_of_meridian, parts_of_datum, parts_of_ensemble, parts_of_frame};
 ghost use Rattle.crs_same.specs.SingleParts.{sets};
 ghost use Rattle.crs_same.specs.inner.Walked.{Walked};
 ghost use Rattle.crs_same.specs.Parts.{◌▸◌, AreSame};

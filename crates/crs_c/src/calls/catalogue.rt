@@ -1,8 +1,7 @@
 //! What each call does to a catalogue, which it takes by value and hands back: where a text was placed, and numbers of
 //! its lines, as C has them.
 ghost use Rattle.std.specs.Prelude.{◌≡◌, length};
-ghost use Rattle.crs_c.specs.Catalogues.{IsAdded, IsAddedUnder, IsMadeEmpty, IsPieceAt, line_at};
-ghost use Rattle.crs_c.specs.Catalogues.{standing_of, without_memory};
+ghost use Rattle.crs_c.specs.Catalogues.{IsAdded, IsAddedUnder, IsMadeEmpty, IsPieceAt, line_at, standing_of, without_memory};
 
 use crate::calls::codes::{NO_LEVEL, NO_MEMORY, NO_NUMBER, OK, REFUSED, level_numbered};
 use crate::calls::piece::{MOST, Piece, piece_of};

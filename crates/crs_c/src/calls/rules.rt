@@ -4,8 +4,7 @@ ghost use Rattle.std.specs.Prelude.{◌≡◌};
 ghost use Rattle.crs_text.specs.Fault.{refusal_of};
 ghost use Rattle.crs_c.specs.Held.{nothing_held};
 ghost use Rattle.crs_c.specs.Pieces.{IsPiece};
-ghost use Rattle.crs_c.specs.RulesCalls.{IsFileRead, IsFormAt, IsFormed};
-ghost use Rattle.crs_c.specs.RulesCalls.{file_fault, file_read, form_fault, form_without_level};
+ghost use Rattle.crs_c.specs.RulesCalls.{IsFileRead, IsFormAt, IsFormed, file_fault, file_read, form_fault, form_without_level};
 
 use crate::calls::codes::{NO_LEVEL, NO_MEMORY, OK, REFUSED, level_numbered};
 use crate::calls::piece::{Piece, piece_of};

@@ -3,12 +3,10 @@ ghost use Rattle.crs_value.specs.SoundDynamic.{IsDeformationModel, IsDynamic};
 ghost use Rattle.crs_value.specs.SoundFrames.{IsDatum, IsEllipsoid, IsEnsemble, IsMember, IsMeridian};
 ghost use Rattle.crs_same.specs.SameParts.{SameDeformationModel, SameMember};
 ghost use Rattle.crs_same.specs.Parts.{AreSame};
-ghost use Rattle.crs_same.specs.PartsOfFrames.{parts_of_datum, parts_of_ellipsoid, parts_of_ensemble, parts_of_frame};
-ghost use Rattle.crs_same.specs.PartsOfFrames.{parts_of_given};
+ghost use Rattle.crs_same.specs.PartsOfFrames.{parts_of_datum, parts_of_ellipsoid, parts_of_ensemble, parts_of_frame, parts_of_given};
 ghost use Rattle.crs_same.specs.SameCrs.{SameDynamic};
 ghost use Rattle.crs_normal.specs.PartSpellings.{IsFrame, IsSpelledDatum, IsSpelledDeformationModel, IsSpelledDynamic};
-ghost use Rattle.crs_normal.specs.PartSpellings.{IsSpelledEllipsoid, IsSpelledEnsemble, IsSpelledFrame};
-ghost use Rattle.crs_normal.specs.PartSpellings.{IsSpelledMember, IsSpelledMeridian};
+ghost use Rattle.crs_normal.specs.PartSpellings.{IsSpelledEllipsoid, IsSpelledEnsemble, IsSpelledFrame, IsSpelledMember, IsSpelledMeridian};
 
 use crate::canonical::Canonical;
 use crs_normal::laws;

@@ -4,8 +4,7 @@ use Rattle.std.specs.Io.KnownBytes.{Appends}
 use Rattle.crs_streams.specs.LongLines.{EndsInFeed}
 use Rattle.crs_streams.specs.Streams.{SinkState}
 use Rattle.crs_streams.specs.declared.fault.RunFault.{RunFault}
-use Rattle.crs_streams.specs.declared.fault.RunFault.TheVariants.{ReadFailed, WriteFailed, TooLong}
-use Rattle.crs_streams.specs.declared.fault.RunFault.TheVariants.{TooManyReads, Memory}
+use Rattle.crs_streams.specs.declared.fault.RunFault.TheVariants.{ReadFailed, WriteFailed, TooLong, TooManyReads, Memory}
 use Rattle.crs_desk.specs.FilesRun.{IsFileAnswer, IsFileFront, IsFileOutput}
 use Rattle.crs_desk.specs.inner.LineCutting.{IsHealthy}
 use Rattle.crs_desk.specs.LinesRun.{Outputs}

@@ -7,10 +7,8 @@ use Rattle.crs_streams.specs.Lines.{AreLines, IsTextOf}
 use Rattle.crs_streams.specs.LongLines.{EndsInFeed}
 use Rattle.crs_streams.specs.Streams.{AppendsFront, SinkState, SourceState}
 use Rattle.crs_streams.specs.declared.fault.RunFault.{RunFault}
-use Rattle.crs_streams.specs.declared.fault.RunFault.TheVariants.{ReadFailed, WriteFailed, TooLong}
-use Rattle.crs_streams.specs.declared.fault.RunFault.TheVariants.{TooManyReads, Memory}
-use Rattle.crs_desk.specs.LinesRun.{AreOutputs, HasSent, IsFrontOutput, IsLinesOutput}
-use Rattle.crs_desk.specs.LinesRun.{LongLineAfter, Outputs}
+use Rattle.crs_streams.specs.declared.fault.RunFault.TheVariants.{ReadFailed, WriteFailed, TooLong, TooManyReads, Memory}
+use Rattle.crs_desk.specs.LinesRun.{AreOutputs, HasSent, IsFrontOutput, IsLinesOutput, LongLineAfter, Outputs}
 
 -- output that was not sent yet, and the greatest status so far
 pub record WriterParts : Type 0 where

@@ -2,8 +2,7 @@
 ghost use Rattle.std.specs.Prelude.{◌≡◌, [], ℕ, List, Option, IfErr, IfOk, IfSome, false, OnOk};
 ghost use Rattle.crs_streams.specs.Streams.{fresh_sink};
 ghost use Rattle.crs_desk.specs.inner.FileAnswers.{Ends, IsAnswerSent, IsFileFault, IsFileSent, IsSendFault, NoFront};
-ghost use Rattle.crs_desk.specs.FilesRun.{AreFilesAnswered, IsFilesFault, is_json};
-ghost use Rattle.crs_desk.specs.FilesRun.{name_prefix, IsGroupedOutput, IsTaskFront, IsTaskOutput};
+ghost use Rattle.crs_desk.specs.FilesRun.{AreFilesAnswered, IsFilesFault, is_json, name_prefix, IsGroupedOutput, IsTaskFront, IsTaskOutput};
 ghost use Rattle.crs_desk.specs.inner.LineCutting.{IsHealthy};
 ghost use Rattle.std.specs.Io.KnownBytes.{Appends};
 ghost use Rattle.crs_group.specs.GroupOutput.{IsGroupOutputBy};

@@ -1,6 +1,5 @@
 //! What a text spells, and the runs over one text that write a line for it: its canonical text, its kind, or its refusal.
-ghost use Rattle.std.specs.Prelude.{◌≡◌, IfOk, ◌++◌, ◌∷◌, [], codes, ℕ};
-ghost use Rattle.std.specs.Prelude.{List, MatchResult, Some};
+ghost use Rattle.std.specs.Prelude.{◌≡◌, IfOk, ◌++◌, ◌∷◌, [], codes, ℕ, List, MatchResult, Some};
 ghost use Rattle.crs_desk.specs.Ending.{IsRun};
 ghost use Rattle.crs_desk.specs.Output.{IsCanonOutput, IsCheckOutput, kind_word};
 ghost use Rattle.crs_streams.specs.Streams.{fresh_sink, fresh_source};

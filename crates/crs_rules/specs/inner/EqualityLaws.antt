@@ -3,8 +3,7 @@ use mathlib.Core.Bool.{beq}
 use Rattle.std.specs.Prelude.{◌≡◌, ◌&&◌, Bool, Decides, true, nat_eq}
 use Rattle.std.specs.Ordering.{int_eq}
 use Rattle.std.proofs.Common.{ap, rules, ◌∙◌}
-use Rattle.std.specs.Cmp.{IsEquivalence, booleans_Decides, decided, first_so, second_so, signed_Decides}
-use Rattle.std.specs.Cmp.{unsigned_Decides}
+use Rattle.std.specs.Cmp.{IsEquivalence, booleans_Decides, decided, first_so, second_so, signed_Decides, unsigned_Decides}
 use Rattle.std.specs.Cmp.Lexicographic.{bytes_decides, pointwise}
 use denote.Enum.Bare.{sameb, same_true, true_same}
 use Rattle.crs_decimal.specs.Value.{Value}

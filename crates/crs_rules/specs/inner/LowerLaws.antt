@@ -16,8 +16,7 @@ use Rattle.crs_same.specs.Sameness.{IsSamenessOf}
 use Rattle.crs_normal.specs.Normal.{IsNormalText}
 use Rattle.crs_normal.specs.inner.Ordered.{StaysInOrder}
 use Rattle.crs_normal.specs.inner.PartTexts.{axis_text, norm_axis_alone}
-use Rattle.crs_normal.specs.inner.SpelledConversions.{item_geoid_model, item_parameter, norm_parameter}
-use Rattle.crs_normal.specs.inner.SpelledConversions.{set_parameters}
+use Rattle.crs_normal.specs.inner.SpelledConversions.{item_geoid_model, item_parameter, norm_parameter, set_parameters}
 use Rattle.crs_normal.specs.inner.SpelledCrs.{item_crs, norm_crs}
 use Rattle.crs_normal.specs.inner.SpelledFrames.{item_member}
 use Rattle.crs_normal.specs.inner.SpelledItems.{item_ident}

@@ -1,14 +1,12 @@
 //! From the bytes of rules files to their rules, line by line.
-ghost use Rattle.std.specs.Prelude.{◌≡◌, ◌≢◌, ◌↔◌, ◌+◌, ◌^◌, ◌<◌, [], ◌∷◌, ℕ, List, length};
-ghost use Rattle.std.specs.Prelude.{IsTrue, MatchResult, OnErr, OnOk, Some};
+ghost use Rattle.std.specs.Prelude.{◌≡◌, ◌≢◌, ◌↔◌, ◌+◌, ◌^◌, ◌<◌, [], ◌∷◌, ℕ, List, length, IsTrue, MatchResult, OnErr, OnOk, Some};
 ghost use Rattle.std.specs.Option.{option_copied};
 ghost use Rattle.crs_text.specs.Items.{HasId, IsNode, arguments};
 ghost use Rattle.crs_streams.specs.Lines.{AreLines};
 ghost use Rattle.crs_value.specs.inner.Arguments.{Holds, ahead, item_at};
 ghost use Rattle.crs_rules.specs.RulesFile.{FaultOfLine, Reads, ReadsFile, RefusesFile, SpellsRules, is_idle, start};
 ghost use Rattle.crs_rules.specs.Statements.{Adds, AddsSet, Drops, FaultOfNode, FaultOfSet, FaultOfStatement};
-ghost use Rattle.crs_rules.specs.Statements.{FaultOfWord, FaultOver, IsRefusedBy, Joins, Over, States};
-ghost use Rattle.crs_rules.specs.Statements.{IsOfSet, joined, listed, refused_at};
+ghost use Rattle.crs_rules.specs.Statements.{FaultOfWord, FaultOver, IsRefusedBy, Joins, Over, States, IsOfSet, joined, listed, refused_at};
 ghost use Rattle.crs_rules.specs.inner.Grown.{HasGrown};
 ghost use Rattle.crs_rules.specs.inner.Marks.{IsMarked, gone_back};
 ghost use Rattle.crs_rules.specs.inner.Faults.{IsFaultIn};
