@@ -12,7 +12,7 @@ use Rattle.crs_value.specs.declared.values.crs.Crs.{Crs}
 use Rattle.crs_value.specs.declared.values.crs.Crs.TheVariants as crs
 use Rattle.std.specs.Cmp.Lexicographic.{slice_cmp}
 use Rattle.std.specs.Ordering.{nat_cmp, match_ordering}
-use Rattle.crs_rules.specs.FormOrder.{put, put_across, put_crs, put_geodetic, put_projected, put_vertical}
+use Rattle.crs_rules.specs.FormOrder.{in_form_order, put, put_across, put_crs, put_geodetic, put_projected, put_vertical}
 use Rattle.crs_rules.specs.ReorderedAxes.{unordered}
 use Rattle.crs_rules.specs.inner.Sinking.{axes_across, axes_along, axes_up, IsOrderless, IsOrderlessAcross, IsOrderlessCrs}
 use Rattle.crs_rules.specs.Rewritten.{across, among, arranged, arranged_across, arranged_crs, ascending, axis, compound, geodetic, projected, renamed, system, vertical}
@@ -148,6 +148,13 @@ module _ (text : AxisParts → List ℕ) (r : Meaning) where
       renamed r (if b then put_crs under x else x) ≡ (if b then arranged_crs text (renamed r x) else renamed r x)
   kept-by x true e = kept e x
   kept-by x false e = refl
+
+pub where-uncounted : (text : AxisParts → List ℕ) (r : Meaning) (x : Crs) → r.uncounted.axis_order ≡ true →
+    in_form_order text r x ≡ put_crs (λ a. text (axis r a)) x
+where-uncounted text r x e = ap (λ b. if b then put_crs (λ a. text (axis r a)) x else x) e
+
+pub where-counted : (text : AxisParts → List ℕ) (r : Meaning) (x : Crs) → r.uncounted.axis_order ≡ false → in_form_order text r x ≡ x
+where-counted text r x e = ap (λ b. if b then put_crs (λ a. text (axis r a)) x else x) e
 
 -- ---- the texts of the axes of a CRS under rules
 

@@ -1,4 +1,5 @@
-use Rattle.std.proofs.Common.{ap, sym, ◌∙◌}
+use Rattle.std.proofs.Common.{ap, ◌∙◌}
+use Rattle.std.proofs.lemmas.Result.{IfOk-weaker}
 use Rattle.crs_rules.specs.Rewritten.{renamed}
 use Rattle.crs_rules.specs.Rules.{meaning}
 use Rattle.crs_rules.proofs.form.put_in_form_order.Goals as goal
@@ -11,4 +12,5 @@ put_as_in-requires c =
 pub returns : goal.returns
 returns c =
     let m = meaning c.args.rules.now in
-    c.put_as_in.ensures m (c.rename.ensures ∙ ap (renamed m) (c.one_answer.ensures.value _ _ _ c.in_ok-other.ensures c.requires.spells))
+    let is = c.rename.ensures ∙ ap (renamed m) (c.one_answer.ensures.value _ _ _ c.in_ok-other.ensures c.requires.spells) in
+    IfOk-weaker c.put_as_in.result _ _ (λ _ put. put m is) c.put_as_in.ensures

@@ -2,8 +2,8 @@ use Rattle.crs_value.specs.inner.Prelude.{IsHorizontal, IsVertical}
 use Rattle.crs_rules.proofs.FormOrderLemmas.{across-put, vertical-put}
 use Rattle.crs_rules.proofs.rewriting.order.put_compound.Goals as goal
 
-pub invariant_of-value-2 : goal.invariant_of-value-2
-invariant_of-value-2 c =
+pub invariant_of-value : goal.invariant_of-value
+invariant_of-value c =
     let k = c.value.invariant in
     let asked = rw (← c.value.view_is) at c.requires in
     let (text, are) = asked.across in
