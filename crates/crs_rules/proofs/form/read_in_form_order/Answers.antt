@@ -1,6 +1,6 @@
 use Rattle.std.proofs.Common.{◌≡◌, ◌∙◌, false, subst, sym, true}
 use Rattle.crs_value.specs.declared.values.level.Level.TheVariants as levels
-use Rattle.crs_normal.specs.Prelude.{axis_text}
+use Rattle.crs_normal.specs.inner.Prelude.{axis_text}
 use Rattle.crs_rules.specs.FormOrder.{in_form_order}
 use Rattle.crs_rules.specs.Rules.{RulesParts, meaning}
 use Rattle.crs_rules.proofs.FormOrderLemmas.{where-counted, where-uncounted}
