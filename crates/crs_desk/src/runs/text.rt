@@ -7,6 +7,7 @@ ghost use Rattle.crs_text.specs.Refusal.{refused_text};
 ghost use Rattle.crs_text.specs.Fault.{refusal_of};
 ghost use Rattle.crs_value.specs.SpellsText.{IsFaultOfText, SpellsKind, Refuses};
 ghost use Rattle.crs_desk.specs.inner.Pieces.{IsWholeHeld};
+ghost use Rattle.crs_writer.specs.Canonical.{IsCanonicalOf};
 
 use crate::runs::answer::{Answer, ForText, TextCommand, write_answer};
 use crate::runs::reading::{read_pieces, read_text};
@@ -14,7 +15,7 @@ use crate::{Level, RunFault, Sink, Source};
 use crs_streams::append_refusal;
 use crs_text::{Fault, Feeder, Refusal, laws, read_items};
 use crs_value::{Kind, kind_of};
-use crs_writer::canon_in;
+use crs_writer::{Canon, canon_in};
 use std::alloc::{AllocError, Global};
 use std::io::{Read, Write};
 
@@ -64,12 +65,20 @@ impl TextCommand for CanonText {
     ghost Output = { λ s text written status. IsCanonOutput s.level text written status };
 
     fn output(&self, alloc: Global, text: &[u8]) -> Result<(Vec<u8>, u8), AllocError> {
-        let mut room = Vec::new(alloc);
-        match canon_in(alloc, text, self.level, &mut room) {
+        match canonical(alloc, text, self.level) {
             Ok(canon) => Ok((line_of(canon.into_bytes())?, 0)),
             Err(fault) => Ok((refused_line(alloc, b"", refusal_in(fault)?)?, 1)),
         }
     }
+}
+
+// The canonical text of a text, in memory that has room for more.
+fn canonical(alloc: Global, text: &[u8], level: Level) -> Result<Canon, Fault>
+    ensures answer { MatchResult result (λ canon. IsCanonicalOf level text.now canon.bytes) (IsFaultOfText text.now) }
+    ensures level { IfOk result (λ canon. canon.level ≡ level) }
+{
+    let mut room = Vec::new(alloc);
+    canon_in(alloc, text, level, &mut room)
 }
 
 /// Reads a text to its end, and writes a line: `accepted KIND` for a text that spells a CRS, with status 0, else the

@@ -4,7 +4,7 @@ use Rattle.crs_desk.proofs.CheckLemmas.{check-answered}
 use Rattle.crs_desk.proofs.runs.text.run_check.Goals as goal
 
 pub returns : goal.returns
-returns c =
+returns g c =
     let got : c.judged.result ≡ Ok c.in_ok-found.found = search rules in
     let found = rw got at c.judged.ensures in
     let answered = IfOk-weaker c.write_answer.result _ _
