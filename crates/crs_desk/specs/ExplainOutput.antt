@@ -10,7 +10,6 @@ use Rattle.crs_explain.specs.Explained.{IsExplained}
 use Rattle.crs_explain.specs.InOrder.{AreOrderedObjects, IsOrderedText}
 use Rattle.crs_explain.specs.Json.{IsRefusalObject}
 use Rattle.crs_desk.specs.Output.{IsLine, kind_word}
-use Rattle.crs_desk.specs.PairOutput.{IsPairOutput}
 use Rattle.crs_desk.specs.declared.runs.manner.Manner.{Manner}
 use Rattle.crs_desk.specs.declared.runs.manner.Manner.TheVariants as manner
 
@@ -61,9 +60,3 @@ abbrev pub TellsWhetherSame : Manner → List (List ℕ) → Level → Crs → C
 TellsWhetherSame how words level a b written status =
     (SameCrs level a b × IsLine (same_told how) 0 written status)
     ⊎ ((¬ SameCrs level a b) × AreDifferencesTold how words level a b written × (status ≡ 1))
-
--- what `explain` writes for two texts, with the parts in the order of some words, and its status
-abbrev pub IsExplainPairOutput : Manner → List (List ℕ) → Level → List ℕ → List ℕ → List ℕ → ℕ →
-    Type 0
-IsExplainPairOutput how words level =
-    IsPairOutput (TellsRefusalOf how) (TellsWhetherSame how words level)
