@@ -31,8 +31,7 @@ impl<'t> Row<'t> {
         let mut lines = bytes.splitn(2, |byte| *byte == b'\n');
         row.call = str::from_utf8(lines.next().unwrap_or(&[])).map_err(|_| unusable())?;
         for part in lines.next().unwrap_or(&[]).split(|byte| *byte == 0) {
-            row.input.extend_from_slice(part)?;
-            row.ends.push(row.input.len())?;
+            row.add(1, part)?;
         }
         Ok(row)
     }
