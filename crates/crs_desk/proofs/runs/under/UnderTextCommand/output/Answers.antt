@@ -9,7 +9,7 @@ returns-in_ok-line_of-in-Ok c =
       c.in-Ok.form.bytes,
       c.in-Ok.ensures.answer,
       record {
-        line = c.in_ok-line_of-in-Ok.ensures ∙ ap (λ bytes. bytes ++ 10 ∷ []) c.bytes.ensures;
+        line = c.in_ok-line_of-in-Ok.ensures ∙ ap (λ bytes. bytes ++ 10 ∷ []) c.into_bytes.ensures;
         is_status = refl;
       },
     )
