@@ -1,16 +1,6 @@
 -- The command line: what `clap`'s definition of the commands gives for the words.
-<<<<<<< HEAD
 use Rattle.std.specs.Prelude.{◌≡◌, ◌≢◌, ◌==◌, ◌++◌, [], ◌∷◌, Bool, true, false, not, List, Option, Some, None, codes, option_and_then, if◌then◌else◌}
 use Rattle.clap.specs.Words.{App, IsAmong, Rule, Shape, Text, fault_of, kind_of, new_app, new_rule, subcommand_of, takes, with_subcommand}
-=======
-use Rattle.std.specs.Prelude.{◌≡◌, ◌≢◌, ◌==◌, [], ◌∷◌, Bool, true, false, not, List, Option}
-use Rattle.std.specs.Prelude.{Some, None, codes}
-use Rattle.std.specs.Prelude.{option_and_then, if◌then◌else◌}
-use Rattle.clap.specs.Words.{App, IsAmong, Rule, Shape, Text, fault_of}
-use Rattle.clap.specs.Words.{kind_of}
-use Rattle.clap.specs.Words.{new_app, new_rule}
-use Rattle.clap.specs.Words.{subcommand_of, takes, with_subcommand}
->>>>>>> 7fa6ce9b15115d88f66f20353e08bf3b82629924
 use Rattle.clap.specs.Simple.{new_shape, on_top}
 use Rattle.crs_desk.specs.declared.line.requests.Request.{Request}
 use Rattle.crs_desk.specs.declared.line.requests.RequestFault.{RequestFault}
