@@ -8,11 +8,9 @@ ghost use Rattle.crs_c.specs.PieceBuffers.{buffers_of};
 
 use crate::calls::canon::answer_entries;
 use crate::calls::codes::kind_number;
-use crate::calls::explain::{explained_refusal, explanation, kind_of_text, refusal_and_numbers};
+use crate::calls::explain::{explained_refusal, explanation, give_explanation, kind_of_text};
 use crate::calls::refused::tell;
-use crate::{
-    Entry, Explained, NO_LEVEL, NO_MEMORY, OK, REFUSED, Refused, give, give_pieces, level_numbered,
-};
+use crate::{Entry, Explained, NO_LEVEL, NO_MEMORY, OK, REFUSED, Refused, give, level_numbered};
 use crs_canon::canon;
 use std::alloc::Global;
 
@@ -78,7 +76,7 @@ pub extern "C" fn crsdesk_explain(
 /// `out` or more pieces than `ends` has room for; `length` and `count` are their numbers, and a buffer with the room has
 /// what it has with 1. What a code doesn't mention is as before. Profile.
 #[unsafe(no_mangle)]
-#[tactic(auto, unfolding(crate::specs::ExplainPieces::IsRefusalPiecesAnswer, crate::specs::ExplainPieces::IsRefusalExplained, crate::specs::ExplainPieces::IsExplanationGiven))]
+#[tactic(auto, unfolding(crate::specs::ExplainPieces::IsRefusalPiecesAnswer, crate::specs::ExplainPieces::IsRefusalExplained))]
 pub extern "C" fn crsdesk_refusal_pieces(
     alloc: Global,
     text: &[u8],
@@ -95,9 +93,7 @@ pub extern "C" fn crsdesk_refusal_pieces(
 {
     match explained_refusal(alloc, text) {
         Ok(Some((refusal, told))) => {
-            *explained = refusal_and_numbers(refusal, &told);
-            let given = give_pieces(&told.pieces, out, length, ends, count);
-            if given == OK { REFUSED } else { given }
+            give_explanation(refusal, &told, out, length, ends, count, explained)
         }
         Ok(None) => OK,
         Err(_) => NO_MEMORY,

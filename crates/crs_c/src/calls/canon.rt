@@ -30,13 +30,6 @@ pub struct Entry {
     pub code: u32,
 }
 
-// The bytes of all texts, and the level that they are asked at.
-#[derive(Clone, Copy)]
-struct Asked<'a> {
-    texts: &'a [u8],
-    level: Level,
-}
-
 /// Answers the entries of many texts: how many, and why no more.
 pub fn answer_entries(
     alloc: Global,
@@ -50,11 +43,10 @@ pub fn answer_entries(
         (record { entries = entries.new; out = out.new; done = result.0 })
         result.1 }
 {
-    let asked = Asked { texts, level };
     let mut room = Vec::new(alloc);
     let mut at = 0;
     for index in 0..entries.len() {
-        let (entry, code) = answer(asked, entries[index], out, at, &mut room);
+        let (entry, code) = answer(alloc, texts, entries[index], level, out, at, &mut room);
         if code != OK {
             return (index, code);
         }
@@ -67,17 +59,18 @@ pub fn answer_entries(
 // Answers an entry, and writes its canonical text at this place. The text is first made in memory that goes from entry to
 // entry.
 fn answer(
-    asked: Asked<'_>,
+    alloc: Global,
+    texts: &[u8],
     entry: Entry,
+    level: Level,
     out: &mut [u8],
     at: usize,
     room: &mut Vec<u8>,
 ) -> (Entry, u32)
     requires { at ≤ length out.old }
-    ensures { IsTurn asked.level asked.texts.now at entry out.old result.0 out.new result.1 }
+    ensures { IsTurn level texts.now at entry out.old result.0 out.new result.1 }
 {
-    let alloc = *room.allocator();
-    match canon_in(alloc, text_of(asked.texts, entry), asked.level, room) {
+    match canon_in(alloc, text_of(texts, entry), level, room) {
         Ok(canonical) => {
             let answered = written(canonical.bytes(), entry, out, at);
             *room = canonical.into_bytes();

@@ -1,11 +1,14 @@
 //! The kind of the CRS that a text spells, or why it is refused, explained to a person, and as data.
-ghost use Rattle.std.specs.Prelude.{◌≡◌, IfOk, MatchOption, MatchResult};
+ghost use Rattle.std.specs.Prelude.{IfOk, MatchOption, MatchResult};
 ghost use Rattle.crs_value.specs.SpellsText.{IsFaultOfText, Refuses, SpellsKind};
 ghost use Rattle.crs_canon.specs.MainTheorem.{IsAccepted};
 ghost use Rattle.crs_explain.specs.Explained.{AreExplainedPieces};
 ghost use Rattle.crs_c.specs.Explain.{IsExplanation};
-ghost use Rattle.crs_c.specs.ExplainPieces.{refusal_and_numbers};
+ghost use Rattle.crs_c.specs.ExplainPieces.{IsExplanationGiven};
+ghost use Rattle.crs_c.specs.PieceBuffers.{buffers_of};
 
+use crate::calls::buffer::give_pieces;
+use crate::calls::codes::{OK, REFUSED};
 use crate::calls::refused::{Refused, place_and_number};
 use crs_explain::{ExplanationPieces, refusal_pieces, refusal_text};
 use crs_text::{Fault, Refusal, read_items};
@@ -82,14 +85,28 @@ pub struct Explained {
     pub node: usize,
 }
 
-/// A refusal and the numbers of its explanation.
-pub fn refusal_and_numbers(refusal: Refusal, told: &ExplanationPieces) -> Explained
-    ensures { result ≡ refusal_and_numbers refusal told.now }
+/// Gives the explanation of a refusal in pieces.
+#[tactic(auto, unfolding(crate::specs::ExplainPieces::IsExplanationGiven))]
+pub fn give_explanation(
+    refusal: Refusal,
+    told: &ExplanationPieces,
+    out: &mut [u8],
+    length: &mut usize,
+    ends: &mut [usize],
+    count: &mut usize,
+    explained: &mut Explained,
+) -> u32
+    ensures { IsExplanationGiven refusal told.now
+        (record { buffers = buffers_of out.old length.old ends.old count.old; explained = explained.old })
+        (record { buffers = buffers_of out.new length.new ends.new count.new; explained = explained.new })
+        result }
 {
-    Explained {
+    *explained = Explained {
         refused: place_and_number(refusal),
         line: told.line,
         column: told.column,
         node: told.node,
-    }
+    };
+    let given = give_pieces(&told.pieces, out, length, ends, count);
+    if given == OK { REFUSED } else { given }
 }
