@@ -49,11 +49,17 @@ pub fn put_prefixes(out: &mut Answer, input: &[u8]) {
 fn put_prefix(out: &mut Answer, prefix: &[u8]) {
     match read_items(out.alloc(), prefix) {
         Ok(_items) => out.put(" accepted"),
-        Err(Fault::Refused(refusal)) => write!(out, " {}@{}", refusal.number(), refusal.place()),
-        Err(Fault::Memory(error)) => out.note(Err(error)),
+        Err(fault) => put_verdict(out, fault),
     }
     if !out.holds(agree_in_many(out.alloc(), prefix)) {
         out.put(" another-in-pieces");
+    }
+}
+
+fn put_verdict(out: &mut Answer, fault: Fault) {
+    match fault {
+        Fault::Refused(refusal) => write!(out, " {}@{}", refusal.number(), refusal.place()),
+        Fault::Memory(error) => out.note(Err(error)),
     }
 }
 
