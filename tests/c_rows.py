@@ -58,7 +58,8 @@ def is_asked(case: rows.Case) -> bool:
     if names and not (takes_rules and all(it in case.files for it in names)):
         return False
     inputs = ([b"canon"], [b"check"], [b"explain"], [b"group"], [b"canon", b"--lines"])
-    return words in inputs or len(words) == 3 and words[0] in (b"same", b"explain") and b"--json" not in words
+    of_two = len(words) == 3 and words[0] in (b"same", b"explain") and not {b"--json", b"--files"} & set(words)
+    return words in inputs or of_two
 
 
 def all_rows() -> List[rows.Case]:
