@@ -60,10 +60,3 @@ pub begun_keeps : (rows : List Row) (os : List Open) (depth row : ℕ) (square :
 begun_keeps rows os depth row square progress h last lt twelve =
     let fits : depth < length os = omega arith in
     (omega arith, record { opens = rw held-push (omega arith, h.opens); word = λ no. cc })
-
--- the table still fits once a row is another
-pub row_keeps : (rows : List Row) (os : List Open) (depth at : ℕ) (row : Row) (progress : Progress) → IsRoomy (record { rows = rows; opens = held depth os; progress = progress }) →
-    IsRoomy (record { rows = set rows at row; opens = held depth os; progress = progress })
-row_keeps rows os depth at row progress h =
-    let same : length (set rows at row) ≡ length rows = length-set rows at row in
-    record { opens = rw same h.opens; word = λ w. rw same (h.word w) }

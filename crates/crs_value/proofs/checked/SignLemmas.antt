@@ -12,32 +12,6 @@ use Rattle.crs_value.specs.Checks.{IsAboveZero, NotAbove, IsNegative, IsLeast}
 use Rattle.crs_value.specs.inner.FirstByte.{is_telling}
 use Rattle.crs_value.specs.Reads.{ReadsNumber}
 
--- 0 where there is none
-abbrev first_byte : List ℕ → ℕ
-first_byte [] = 0
-first_byte (byte ∷ bytes) = byte
-
-sign-by : (s : Sign) (whole fraction exponent : List ℕ) (b : ℕ) → b ≡ first_byte (sign_text s ++ whole ++ fraction ++ exponent) → (b ≡ 45 → ⊥) → is_minus s ≡ false
-sign-by unsigned whole fraction exponent b e other = refl
-sign-by plus whole fraction exponent b e other = refl
-sign-by minus whole fraction exponent b e other = absurd (other e)
-
-normal-zero : (v : Value) → IsNormal v → v.digits ≡ 0 → v.negative ≡ true → ⊥
-normal-zero v normal none below =
-    let P : ℕ → Type 0 = λ d. is_normal (record { negative = v.negative; digits = d; power = v.power }) ≡ true in
-    let Q : Bool → Type 0 = λ n. is_normal (record { negative = n; digits = 0; power = v.power }) ≡ true in
-    (let e = (and_parts (is_power v.power) false (subst Q below (subst P none normal))).1 in cc)
-
-pub below-sure : (item : Item) (b : ℕ) → b ≡ first_byte (raw_of item) → (b ≡ 45 → ⊥) → IsLeast (IsNegative item) None
-below-sure item b e other = λ f h. wrong h.1.0 h.1.1.0 h.1.1.1
-  where
-    wrong : (v : Value) → ReadsNumber item v → v.negative ≡ true → ⊥
-    wrong v (normal, (p, spells, bounded, same)) below =
-        ⊎_elim (λ h. let k : false ≡ true = sym unsigned-is ∙ h ∙ below in cc) (λ h. normal-zero v normal h.1 below) same.1
-      where
-        unsigned-is : is_minus p.sign ≡ false
-        unsigned-is = sign-by p.sign p.whole (fraction_text p.fraction) (exponent_text p.exponent) b (e ∙ ap first_byte spells.0) other
-
 -- ---- a first digit that isn't 0
 
 fold-some : (ds : List ℕ) (n : ℕ) → 0 < n → 0 < fold (λ m d. m * 10 + (d - 48)) n ds
