@@ -2,7 +2,7 @@
 use Rattle.std.specs.Prelude.{◌≡◌, ℕ, List, MatchOption}
 use Rattle.crs_text.specs.Refusal.{RefusedAt}
 use Rattle.crs_value.specs.declared.values.level.Level.{Level}
-use Rattle.crs_value.specs.SpellsText.{Refuses}
+use Rattle.crs_value.specs.Spells.{Refuses}
 use Rattle.crs_c.specs.declared.calls.refused.Refused.{Refused}
 use Rattle.crs_c.specs.Codes.{level_numbered}
 use Rattle.crs_c.specs.Refusals.{place_and_number}

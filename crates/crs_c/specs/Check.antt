@@ -1,7 +1,7 @@
 -- What crsdesk_check answers.
 use Rattle.std.specs.Prelude.{◌≡◌, ◌⊎◌, ℕ, List}
 use Rattle.crs_value.specs.declared.values.crs.Kind.{Kind}
-use Rattle.crs_value.specs.SpellsText.{SpellsKind}
+use Rattle.crs_value.specs.Spells.{SpellsKind}
 use Rattle.crs_c.specs.Answers.{Answer, IsRefusedBy, IsWithoutMemory}
 use Rattle.crs_c.specs.Codes.{kind_number}
 

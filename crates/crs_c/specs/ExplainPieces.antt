@@ -2,7 +2,7 @@
 use Rattle.std.specs.Prelude.{◌≡◌, ◌==◌, ◌⊎◌, ℕ, List, if◌then◌else◌}
 use Rattle.crs_text.specs.Refusal.{RefusedAt}
 use Rattle.crs_value.specs.declared.values.crs.Crs.{Crs}
-use Rattle.crs_value.specs.SpellsText.{Spells, Refuses}
+use Rattle.crs_value.specs.Spells.{Spells, Refuses}
 use Rattle.crs_explain.specs.Differing.{AreDifferencePieces}
 use Rattle.crs_explain.specs.Explained.{AreExplainedPieces, ExplainedPieces}
 use Rattle.crs_c.specs.declared.calls.explain.Explained.{Explained}

@@ -1,7 +1,7 @@
 -- Two texts, judged one after the other.
 use Rattle.std.specs.Prelude.{◌⊎◌, ℕ, List}
 use Rattle.crs_value.specs.declared.values.crs.Crs.{Crs}
-use Rattle.crs_value.specs.SpellsText.{Spells}
+use Rattle.crs_value.specs.Spells.{Spells}
 use Rattle.crs_c.specs.Answers.{Answer, IsRefusedBy, IsWithoutMemory}
 
 -- a second text: what is said of its CRS; its refusal with code 2; or code 3

@@ -1,7 +1,7 @@
 -- What the calls on rules answer.
 use Rattle.std.specs.Prelude.{◌≡◌, ◌⊎◌, [], ℕ, List, Option, Some, None, MatchOption, length}
 use Rattle.crs_text.specs.Refusal.{RefusedAt}
-use Rattle.crs_value.specs.SpellsText.{Refuses}
+use Rattle.crs_value.specs.Spells.{Refuses}
 use Rattle.crs_value.specs.declared.values.level.Level.{Level}
 use Rattle.crs_rules.specs.Rewritten.{IsForm}
 use Rattle.crs_rules.specs.RulesFile.{ReadsFile, RefusesFile}

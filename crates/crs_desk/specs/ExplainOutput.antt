@@ -4,7 +4,7 @@ use Rattle.crs_text.specs.Refusal.{RefusedAt}
 use Rattle.crs_value.specs.declared.values.crs.Crs.{Crs}
 use Rattle.crs_value.specs.declared.values.crs.Kind.{Kind}
 use Rattle.crs_value.specs.declared.values.level.Level.{Level}
-use Rattle.crs_value.specs.SpellsText.{Refuses, SpellsKind}
+use Rattle.crs_value.specs.Spells.{Refuses, SpellsKind}
 use Rattle.crs_same.specs.SameCrs.{SameCrs}
 use Rattle.crs_explain.specs.Explained.{IsExplained}
 use Rattle.crs_explain.specs.InOrder.{AreOrderedObjects, IsOrderedText}

@@ -3,7 +3,7 @@ use Rattle.std.specs.Prelude.{◌≡◌, ◌++◌, ◌⊎◌, ℕ, List, [], ◌
 use Rattle.crs_text.specs.Refusal.{RefusedAt, refused_text}
 use Rattle.crs_value.specs.declared.values.crs.Kind.{Kind}
 use Rattle.crs_value.specs.declared.values.crs.Kind.TheVariants as kind
-use Rattle.crs_value.specs.SpellsText.{SpellsKind, Refuses}
+use Rattle.crs_value.specs.Spells.{SpellsKind, Refuses}
 use Rattle.crs_value.specs.declared.values.level.Level.{Level}
 use Rattle.crs_writer.specs.Canonical.{IsCanonicalOf}
 

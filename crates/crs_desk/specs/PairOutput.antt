@@ -1,7 +1,7 @@
 -- What is written for two texts that are compared, and the status.
 use Rattle.std.specs.Prelude.{◌⊎◌, ℕ, List, codes}
 use Rattle.crs_value.specs.declared.values.crs.Crs.{Crs}
-use Rattle.crs_value.specs.SpellsText.{Spells}
+use Rattle.crs_value.specs.Spells.{Spells}
 
 -- what is written of the second of two texts, where the first spells a CRS: the refusal of the
 -- second after the word for it, or the comparison with the CRS that it spells

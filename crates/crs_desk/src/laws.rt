@@ -8,7 +8,7 @@ ghost use Rattle.crs_rules.specs.Rules.{RulesParts};
 ghost use Rattle.crs_rules.specs.SoundRules.{AreRules};
 ghost use Rattle.crs_rules.specs.Rewritten.{IsForm, SameUnder};
 ghost use Rattle.crs_same.specs.SameCrs.{SameCrs};
-ghost use Rattle.crs_value.specs.SpellsText.{Spells};
+ghost use Rattle.crs_value.specs.Spells.{Spells};
 ghost use Rattle.crs_value.specs.declared.values.crs.Crs.{Crs};
 ghost use Rattle.crs_value.specs.declared.values.level.Level.{Level};
 

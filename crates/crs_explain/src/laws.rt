@@ -2,7 +2,7 @@
 ghost use Rattle.std.specs.Prelude.{◌≡◌, [], ℕ, List, map};
 ghost use Rattle.crs_value.specs.Values.{ParameterParts};
 ghost use Rattle.crs_value.specs.Sound.{Each};
-ghost use Rattle.crs_value.specs.SoundConversion.{IsParameter};
+ghost use Rattle.crs_value.specs.SoundParts.{IsParameter};
 ghost use Rattle.crs_value.specs.declared.values.level.Level.{Level};
 ghost use Rattle.crs_same.specs.SameParts.{SameParameter};
 ghost use Rattle.crs_same.specs.Sets.{SameSet};

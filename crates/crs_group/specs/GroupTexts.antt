@@ -4,7 +4,7 @@ use Rattle.std.specs.List.{flat_map}
 use Rattle.crs_text.specs.Refusal.{RefusedAt}
 use Rattle.crs_text.specs.Tokens.{IsWhite}
 use Rattle.crs_value.specs.Sound.{Each}
-use Rattle.crs_value.specs.SpellsText.{Spells, Refuses}
+use Rattle.crs_value.specs.Spells.{Spells, Refuses}
 use Rattle.crs_value.specs.declared.values.crs.Crs.{Crs}
 use Rattle.crs_value.specs.declared.values.level.Level.{Level}
 use Rattle.crs_same.specs.SameCrs.{SameCrs}

@@ -3,7 +3,7 @@ ghost use Rattle.std.specs.Prelude.{◌≡◌, ◌+◌, ◌<◌, [], ◌∷◌, 
 ghost use Rattle.std.specs.Option.{option_copied, option_map};
 ghost use Rattle.std.specs.List.{list_all};
 ghost use Rattle.crs_text.specs.Tokens.{is_white};
-ghost use Rattle.crs_value.specs.SpellsText.{IsFaultOfText};
+ghost use Rattle.crs_value.specs.Spells.{IsFaultOfText};
 ghost use Rattle.crs_writer.specs.Canonical.{IsCanonicalOf};
 ghost use Rattle.crs_rules.specs.Rules.{RulesParts};
 ghost use Rattle.crs_rules.specs.Rewritten.{IsForm};

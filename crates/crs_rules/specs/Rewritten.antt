@@ -15,7 +15,7 @@ use Rattle.crs_value.specs.declared.values.crs.Crs.{Crs}
 use Rattle.crs_value.specs.declared.values.frame.Frame.{Frame}
 use Rattle.crs_rules.specs.Rules.{Meaning, without_ensemble, RulesParts, meaning}
 use Rattle.crs_value.specs.Sound.{IsAxis}
-use Rattle.crs_value.specs.SpellsText.{Spells}
+use Rattle.crs_value.specs.Spells.{Spells}
 use Rattle.crs_value.specs.declared.values.level.Level.{Level}
 use Rattle.crs_normal.specs.AxisAlone.{IsSpelledAxis}
 use Rattle.crs_writer.specs.Canonical.{IsCanonicalText, IsCanonicalOf}

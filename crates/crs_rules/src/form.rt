@@ -1,6 +1,6 @@
 //! The form of a text under rules, and the CRSs that are told apart by their parts.
 ghost use Rattle.std.specs.Prelude.{◌≡◌, IfOk, MatchResult, OnOk};
-ghost use Rattle.crs_value.specs.SpellsText.{IsFaultOfText, Spells};
+ghost use Rattle.crs_value.specs.Spells.{IsFaultOfText, Spells};
 ghost use Rattle.crs_value.specs.declared.values.crs.Crs.{Crs};
 ghost use Rattle.crs_value.specs.declared.values.level.Level.TheVariants as levels;
 ghost use Rattle.crs_normal.specs.inner.PartTexts.{axis_text};

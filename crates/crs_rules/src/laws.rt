@@ -1,7 +1,7 @@
 //! Laws of forms: calls that do nothing, and whose contracts are the laws.
 ghost use Rattle.std.specs.Prelude.{◌≡◌, ◌↔◌, ℕ, List, true};
 ghost use Rattle.crs_value.specs.SoundCrs.{IsCrs};
-ghost use Rattle.crs_value.specs.SpellsText.{Spells};
+ghost use Rattle.crs_value.specs.Spells.{Spells};
 ghost use Rattle.crs_value.specs.Values.{AxisParts};
 ghost use Rattle.crs_value.specs.declared.values.crs.Crs.{Crs};
 ghost use Rattle.crs_value.specs.declared.values.level.Level.{Level};

@@ -8,15 +8,11 @@ pub mod NamedValues
 pub mod Reading
 pub mod Reads
 pub mod ReadsCrs
-pub mod ReadsNamed
 pub mod Sound
 pub mod SoundCompound
-pub mod SoundConversion
 pub mod SoundCrs
-pub mod SoundDynamic
-pub mod SoundFrames
+pub mod SoundParts
 pub mod SoundSingle
 pub mod Spells
-pub mod SpellsText
 pub mod Values
 pub mod inner

@@ -8,11 +8,10 @@ use Rattle.crs_shape.specs.declared.direction.Direction.{Direction}
 use Rattle.crs_shape.specs.declared.system_type.SystemType.{SystemType}
 use Rattle.crs_shape.specs.declared.unit_kind.UnitKind.{UnitKind}
 use Rattle.crs_shape.specs.Words.{SpellsWord, direction_word, system_word, unit_word}
-use Rattle.crs_value.specs.Reading.{those, ReadsFirst, ReadsOne, ReadsIfAny, ReadsAll, ReadsOneElse}
-use Rattle.crs_value.specs.ReadsNamed.{ReadsNamed}
+use Rattle.crs_value.specs.Reading.{those, ReadsFirst, ReadsOne, ReadsIfAny, ReadsAll, ReadsOneElse, ReadsNamed}
 use Rattle.crs_value.specs.Values.{UnitParts, AxisMeridianParts, AxisParts, SystemParts, EllipsoidParts, MeridianParts, DatumParts, EnsembleParts, BoxParts, ExtentParts, UsageParts, SaysSome, TailParts, ParameterParts, ConversionParts, DynamicParts}
 use Rattle.crs_shape.specs.declared.class.Class.TheVariants as class
-pub use Rattle.crs_value.specs.ReadsNamed.{ReadsText, single_of, ReadsIdent, ReadsTextOf, ReadsIds, ReadsNamed as ReadsMember, ReadsNamed as ReadsMethod, ReadsNamed as ReadsGeoidModel, ReadsNamed as ReadsDeformationModel}
+pub use Rattle.crs_value.specs.Reading.{ReadsText, single_of, ReadsIdent, ReadsTextOf, ReadsIds, ReadsNamed as ReadsMember, ReadsNamed as ReadsMethod, ReadsNamed as ReadsGeoidModel, ReadsNamed as ReadsDeformationModel}
 
 -- ---- single items
 

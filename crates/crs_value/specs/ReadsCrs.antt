@@ -15,9 +15,8 @@ use Rattle.crs_value.specs.declared.values.frame.Frame.{Frame}
 use Rattle.crs_value.specs.declared.values.frame.Frame.TheVariants as frame
 use Rattle.crs_value.specs.CompoundValues.{CompoundParts}
 use Rattle.crs_value.specs.CrsValues.{GeodeticParts, BaseParts, ProjectedParts, VerticalParts}
-use Rattle.crs_value.specs.Reading.{ReadsOne, ReadsIfAny, ReadsAll, ReadsOneElse}
+use Rattle.crs_value.specs.Reading.{ReadsOne, ReadsIfAny, ReadsAll, ReadsOneElse, ReadsTextOf, ReadsIds, ReadsNamed}
 use Rattle.crs_value.specs.Reads.{ReadsUnit, ReadsDatum, ReadsEnsemble, ReadsMeridian, ReadsSystem, ReadsTail, ReadsConversion, ReadsDynamic}
-use Rattle.crs_value.specs.ReadsNamed.{ReadsTextOf, ReadsIds, ReadsNamed}
 
 -- the item is a reference frame of this class, and this is its value
 abbrev pub ReadsAsDatum : Class → Item → Frame → Type 0

@@ -8,9 +8,7 @@ use Rattle.crs_value.specs.declared.values.frame.Frame.TheVariants as frame
 use Rattle.crs_value.specs.CrsValues.{GeodeticParts, BaseParts, ProjectedParts, VerticalParts}
 use Rattle.crs_value.specs.Values.{DynamicParts}
 use Rattle.crs_value.specs.Sound.{Each, IsText, IsIdent, IsNamed, IsUnitOf, IsSystem, IsAllowed, IsTail}
-use Rattle.crs_value.specs.SoundConversion.{IsConversion}
-use Rattle.crs_value.specs.SoundDynamic.{IsDynamic}
-use Rattle.crs_value.specs.SoundFrames.{IsMeridian, IsDatum, IsEnsemble}
+use Rattle.crs_value.specs.SoundParts.{IsConversion, IsDynamic, IsMeridian, IsDatum, IsEnsemble}
 
 -- what is asked of a geodetic frame or ensemble: it has an ellipsoid
 abbrev pub IsGeodeticFrame : Frame → Type 0

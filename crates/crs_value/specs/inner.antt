@@ -1,13 +1,10 @@
 pub mod Arguments
-pub mod Classes
 pub mod Cursor
 pub mod FirstArguments
 pub mod FirstByte
-pub mod FoundArguments
 pub mod Fronts
 pub mod Judged
 pub mod KeptLaws
-pub mod Least
 pub mod Prelude
 pub mod QuickChecks
 pub mod ReadOnce

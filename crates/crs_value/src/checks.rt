@@ -10,9 +10,7 @@ ghost use Rattle.crs_shape.specs.declared.class.Class.{Class};
 ghost use Rattle.crs_shape.specs.Shaped.{Shaped};
 ghost use Rattle.crs_value.specs.Checks.{at, AnyOf, IsLeast};
 ghost use Rattle.crs_value.specs.inner.Cursor.{args, item};
-ghost use Rattle.crs_value.specs.inner.FoundArguments.{from_found, AllShaped};
-ghost use Rattle.crs_value.specs.inner.Least.{lesser};
-ghost use Rattle.crs_value.specs.inner.Arguments.{item_at, Holds, TakesOne};
+ghost use Rattle.crs_value.specs.inner.Arguments.{from_found, AllShaped, lesser, item_at, Holds, TakesOne};
 
 use crate::reading::arguments::{first, later};
 use crate::reading::cursor::Cursor;

@@ -6,8 +6,7 @@ ghost use Rattle.crs_text.specs.Written.{AreFormed};
 ghost use Rattle.crs_value.specs.declared.values.crs.Crs.{Crs};
 ghost use Rattle.crs_value.specs.Reads.{ReadsIdent, ReadsUnit, ReadsMember, ReadsExtent, ReadsUsage, ReadsParameter, ReadsGeoidModel};
 ghost use Rattle.crs_value.specs.SoundCrs.{IsCrs};
-ghost use Rattle.crs_value.specs.Spells.{SpellsCrs, RefusesCrs};
-ghost use Rattle.crs_value.specs.SpellsText.{Spells, Refuses, IsRefusalNumber};
+ghost use Rattle.crs_value.specs.Spells.{SpellsCrs, RefusesCrs, Spells, Refuses, IsRefusalNumber};
 ghost use Rattle.crs_value.specs.inner.ReadOnce.{IsReadOnce};
 
 pub mod parts;

@@ -1,8 +1,7 @@
 //! The canonical text of a text that spells a CRS.
 ghost use Rattle.std.specs.Prelude.{◌≡◌, [], IfOk, MatchResult, Some};
 ghost use Rattle.crs_shape.specs.ShapeFault.{class_of_root};
-ghost use Rattle.crs_value.specs.Spells.{SpellsCrs};
-ghost use Rattle.crs_value.specs.SpellsText.{IsFaultOfText};
+ghost use Rattle.crs_value.specs.Spells.{SpellsCrs, IsFaultOfText};
 ghost use Rattle.crs_value.specs.declared.values.crs.Crs.{Crs};
 ghost use Rattle.crs_writer.specs.inner.FromItems.{IsRead};
 ghost use Rattle.crs_writer.specs.Canonical.{IsCanonicalOf, IsCanonicalText};

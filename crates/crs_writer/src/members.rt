@@ -2,9 +2,8 @@
 ghost use Rattle.std.specs.Prelude.{◌≡◌, ◌<◌, [], ℕ, IfSome, IsTrue, List, MatchOption, OnOk, length};
 ghost use Rattle.crs_text.specs.Items.{Item};
 ghost use Rattle.crs_shape.specs.declared.class.Class.{Class};
-ghost use Rattle.crs_value.specs.inner.FoundArguments.{from_found};
+ghost use Rattle.crs_value.specs.inner.Arguments.{from_found, Holds};
 ghost use Rattle.crs_value.specs.Reading.{ReadsEach};
-ghost use Rattle.crs_value.specs.inner.Arguments.{Holds};
 ghost use Rattle.crs_normal.specs.inner.Ordered.{put};
 ghost use Rattle.crs_writer.specs.inner.Node.{item};
 ghost use Rattle.crs_writer.specs.inner.FromItems.{Writes};

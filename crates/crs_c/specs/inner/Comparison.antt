@@ -2,7 +2,7 @@
 use Rattle.std.specs.Prelude.{◌≡◌, ◌⊎◌, List, ℕ}
 use Rattle.crs_text.specs.Refusal.{RefusedAt}
 use Rattle.crs_value.specs.declared.values.crs.Crs.{Crs}
-use Rattle.crs_value.specs.SpellsText.{Spells, Refuses}
+use Rattle.crs_value.specs.Spells.{Spells, Refuses}
 use Rattle.crs_c.specs.declared.calls.refused.Refused.{Refused}
 use Rattle.crs_c.specs.Refusals.{place_and_number}
 

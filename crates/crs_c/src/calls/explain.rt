@@ -1,6 +1,6 @@
 //! The kind of the CRS that a text spells, or why it is refused, explained to a person, and as data.
 ghost use Rattle.std.specs.Prelude.{IfOk, MatchOption, MatchResult};
-ghost use Rattle.crs_value.specs.SpellsText.{IsFaultOfText, Refuses, SpellsKind};
+ghost use Rattle.crs_value.specs.Spells.{IsFaultOfText, Refuses, SpellsKind};
 ghost use Rattle.crs_canon.specs.MainTheorem.{IsAccepted};
 ghost use Rattle.crs_explain.specs.Explained.{AreExplainedPieces};
 ghost use Rattle.crs_c.specs.Explain.{IsExplanation};

@@ -1,6 +1,5 @@
 //! Reference frames, ensembles and their members, ellipsoids, prime meridians, and dynamic parts.
-ghost use Rattle.crs_value.specs.SoundDynamic.{IsDeformationModel, IsDynamic};
-ghost use Rattle.crs_value.specs.SoundFrames.{IsDatum, IsEllipsoid, IsEnsemble, IsMember, IsMeridian};
+ghost use Rattle.crs_value.specs.SoundParts.{IsDeformationModel, IsDynamic, IsDatum, IsEllipsoid, IsEnsemble, IsMember, IsMeridian};
 ghost use Rattle.crs_same.specs.SameParts.{SameDeformationModel, SameMember};
 ghost use Rattle.crs_same.specs.Parts.{AreSame};
 ghost use Rattle.crs_same.specs.PartsOfFrames.{parts_of_datum, parts_of_ellipsoid, parts_of_ensemble, parts_of_frame, parts_of_given};

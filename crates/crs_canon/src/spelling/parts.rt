@@ -1,7 +1,7 @@
 //! Identifiers, units, axes, usages and their extents, conversions and geoid models.
 ghost use Rattle.crs_shape.specs.declared.unit_kind.UnitKind.TheVariants as kinds;
 ghost use Rattle.crs_value.specs.Sound.{IsAxis, IsAxisMeridian, IsIdent, IsUnit, IsBox, IsExtent, IsUsage};
-ghost use Rattle.crs_value.specs.SoundConversion.{IsConversion, IsGeoidModel, IsMethod, IsParameter};
+ghost use Rattle.crs_value.specs.SoundParts.{IsConversion, IsGeoidModel, IsMethod, IsParameter};
 ghost use Rattle.crs_same.specs.SameParts.{SameGeoidModel, SameParameter, SameAxisAlone, SameAxisMeridian, SameUnit, SameBox, SameExtent, SameUsage};
 ghost use Rattle.crs_same.specs.SameIdents.{SameIdent};
 ghost use Rattle.crs_same.specs.Parts.{AreSame};

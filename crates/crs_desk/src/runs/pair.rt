@@ -2,7 +2,7 @@
 ghost use Rattle.std.specs.Prelude.{ℕ, List, IfOk};
 ghost use Rattle.crs_value.specs.declared.values.crs.Crs.{Crs};
 ghost use Rattle.crs_value.specs.declared.values.level.Level.{Level};
-ghost use Rattle.crs_value.specs.SpellsText.{IsFaultOfText, Refuses};
+ghost use Rattle.crs_value.specs.Spells.{IsFaultOfText, Refuses};
 ghost use Rattle.crs_desk.specs.PairOutput.{IsPairOutput, IsSecondOutput};
 
 use crate::Level;

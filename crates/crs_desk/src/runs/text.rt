@@ -5,7 +5,7 @@ ghost use Rattle.crs_desk.specs.Output.{IsCanonOutput, IsCheckOutput, kind_word}
 ghost use Rattle.crs_streams.specs.Streams.{fresh_sink, fresh_source};
 ghost use Rattle.crs_text.specs.Refusal.{refused_text};
 ghost use Rattle.crs_text.specs.Fault.{refusal_of};
-ghost use Rattle.crs_value.specs.SpellsText.{IsFaultOfText, SpellsKind, Refuses};
+ghost use Rattle.crs_value.specs.Spells.{IsFaultOfText, SpellsKind, Refuses};
 ghost use Rattle.crs_desk.specs.inner.Pieces.{IsWholeHeld};
 ghost use Rattle.crs_writer.specs.Canonical.{IsCanonicalOf};
 

@@ -3,7 +3,7 @@
 ghost use Rattle.std.specs.Prelude.{◌≡◌, ◌≤◌, ◌++◌, IfOk, MatchResult, OnOk, codes, length};
 ghost use Rattle.std.specs.List.{prefix_len};
 ghost use Rattle.std.specs.Option.{option_map};
-ghost use Rattle.crs_value.specs.SpellsText.{IsFaultOfText};
+ghost use Rattle.crs_value.specs.Spells.{IsFaultOfText};
 ghost use Rattle.crs_canon.specs.MainTheorem.{IsAccepted};
 ghost use Rattle.crs_writer.specs.Canonical.{IsCanonicalOf};
 ghost use Rattle.crs_rules.specs.Rewritten.{IsForm};

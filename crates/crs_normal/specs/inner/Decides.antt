@@ -2,9 +2,8 @@
 -- same.
 use Rattle.std.specs.Prelude.{◌≡◌, ◌↔◌}
 use Rattle.crs_value.specs.Sound.{Each, IsIdent, IsUsage}
-use Rattle.crs_value.specs.SoundConversion.{IsGeoidModel, IsParameter}
+use Rattle.crs_value.specs.SoundParts.{IsGeoidModel, IsParameter, IsMember}
 use Rattle.crs_value.specs.SoundCrs.{IsCrs}
-use Rattle.crs_value.specs.SoundFrames.{IsMember}
 use Rattle.crs_value.specs.Kept.{kept}
 use Rattle.crs_value.specs.declared.values.level.Level.{Level}
 use Rattle.crs_same.specs.SameParts.{SameGeoidModel, SameParameter, SameMember, SameUsage}

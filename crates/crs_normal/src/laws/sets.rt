@@ -5,7 +5,7 @@ ghost use Rattle.crs_text.specs.Written.{item_text};
 ghost use Rattle.crs_value.specs.Values.{GeoidModelParts, ParameterParts, IdentParts, MemberParts, UsageParts};
 ghost use Rattle.crs_value.specs.declared.values.level.Level.{Level};
 ghost use Rattle.crs_value.specs.Sound.{Each};
-ghost use Rattle.crs_value.specs.SoundConversion.{IsParameter};
+ghost use Rattle.crs_value.specs.SoundParts.{IsParameter};
 ghost use Rattle.crs_normal.specs.Ascending.{Ascends, IsIn};
 ghost use Rattle.crs_normal.specs.inner.Decides.{SetsDecide};
 ghost use Rattle.crs_normal.specs.inner.Ordered.{StaysInOrder, in_order};

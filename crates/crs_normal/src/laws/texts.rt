@@ -1,7 +1,7 @@
 //! Normal texts: equal exactly where the CRSs that they spell are the same.
 ghost use Rattle.std.specs.Prelude.{◌≡◌, ◌↔◌, ℕ, List};
 ghost use Rattle.crs_value.specs.SoundCrs.{IsCrs};
-ghost use Rattle.crs_value.specs.SpellsText.{Spells};
+ghost use Rattle.crs_value.specs.Spells.{Spells};
 ghost use Rattle.crs_value.specs.declared.values.crs.Crs.{Crs};
 ghost use Rattle.crs_value.specs.declared.values.level.Level.{Level};
 ghost use Rattle.crs_value.specs.declared.values.level.Level.TheVariants as levels;

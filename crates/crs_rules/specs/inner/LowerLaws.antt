@@ -5,9 +5,9 @@ use Rattle.crs_text.specs.Written.{item_text}
 use Rattle.crs_value.specs.Values.{ParameterParts, AxisParts, UsageParts}
 use Rattle.crs_value.specs.NamedValues.{IdentParts, NamedParts}
 use Rattle.crs_value.specs.Sound.{Each, IsAxis}
-use Rattle.crs_value.specs.SoundConversion.{IsParameter}
+use Rattle.crs_value.specs.SoundParts.{IsParameter}
 use Rattle.crs_value.specs.SoundCrs.{IsCrs}
-use Rattle.crs_value.specs.SpellsText.{Spells}
+use Rattle.crs_value.specs.Spells.{Spells}
 use Rattle.crs_value.specs.declared.values.crs.Crs.{Crs}
 use Rattle.crs_value.specs.declared.values.level.Level.{Level}
 use Rattle.crs_value.specs.declared.values.level.Level.TheVariants as levels

@@ -5,10 +5,8 @@ use Rattle.crs_text.specs.inner.Prelude.{Item, arguments, rest_of, raw_of, here,
 use Rattle.crs_shape.specs.declared.class.Class.{Class}
 use Rattle.crs_shape.specs.inner.Prelude.{Shaped}
 use Rattle.crs_value.specs.Checks.{IsAboveZero, NotAbove, IsNegative, AnyOf, IsLeast}
-use Rattle.crs_value.specs.inner.FoundArguments.{from_found, AllShaped}
-use Rattle.crs_value.specs.inner.Least.{lesser}
+use Rattle.crs_value.specs.inner.Arguments.{from_found, AllShaped, lesser, item_at, Holds, IsFound, TakesOne}
 use Rattle.crs_value.specs.Reading.{those}
-use Rattle.crs_value.specs.inner.Arguments.{item_at, Holds, IsFound, TakesOne}
 use Rattle.crs_value.specs.Reads.{ReadsNumber}
 use Rattle.crs_value.proofs.found.ArgumentLemmas.{SlotsBound, arguments-few, found-is, found-holds, all-shaped, found-shaped, nothing}
 use Rattle.crs_value.proofs.checked.LeastLemmas.{least-more, least-single}

@@ -5,7 +5,7 @@ use Rattle.crs_shape.specs.declared.class.Class.{Class}
 use Rattle.crs_shape.specs.declared.class.Class.TheVariants as class
 use Rattle.crs_shape.specs.inner.Prelude.{dimensions_of}
 use Rattle.crs_value.specs.Checks.{BadDynamic, IsUnsteady, BadOrders, BadOrder, LacksOrder, IsBadOrder, orders_in, BadOwnUnit, Misfits, HasOwnUnit, IsSuperfluous, BadUnit, units_in, at, AnyOf, IsLeast, OfAxes, OfHead, once, OfCrs, BreaksAmong, RepeatsAny}
-use Rattle.crs_value.specs.inner.Least.{lesser}
+use Rattle.crs_value.specs.inner.Arguments.{lesser}
 use Rattle.crs_value.specs.Reading.{those}
 use Rattle.crs_value.proofs.checked.LeastLemmas.{least-same, least-below, either-is}
 

@@ -3,7 +3,7 @@ use Rattle.std.proofs.Common.{◌≡◌, ℕ, ◌<◌, ◌≤◌, true, false, i
 use Rattle.std.proofs.lemmas.Bool.Decides.{nat_tests}
 use Rattle.crs_text.specs.inner.Prelude.{Item, RefusedAt, is_before}
 use Rattle.crs_value.specs.Checks.{AnyOf, IsLeast}
-use Rattle.crs_value.specs.inner.Least.{lesser}
+use Rattle.crs_value.specs.inner.Arguments.{lesser}
 
 -- b doesn't go before a
 abbrev pub IsFirst : RefusedAt → RefusedAt → Type 0

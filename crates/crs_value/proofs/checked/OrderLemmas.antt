@@ -8,10 +8,8 @@ use Rattle.crs_shape.specs.declared.class.Class.{Class}
 use Rattle.crs_shape.specs.declared.class.Class.TheVariants as class
 use Rattle.crs_shape.specs.inner.Prelude.{Shaped}
 use Rattle.crs_value.specs.Checks.{orders_in, SomeHasOrder, AllHaveOrder, LacksOrder, ReadsOrder, IsPosition, HasThis, OneHas, IsWrongOrder, IsBadOrder, BadOrders, BadOrder, at, AnyOf, IsLeast}
-use Rattle.crs_value.specs.inner.FoundArguments.{from_found, AllShaped}
-use Rattle.crs_value.specs.inner.Least.{lesser}
+use Rattle.crs_value.specs.inner.Arguments.{from_found, AllShaped, lesser, item_at, Holds, IsFound}
 use Rattle.crs_value.specs.Reading.{OneIs, those, ReadsFirst}
-use Rattle.crs_value.specs.inner.Arguments.{item_at, Holds, IsFound}
 use Rattle.crs_value.specs.Reads.{ReadsNumber}
 use Rattle.crs_value.proofs.found.ArgumentLemmas.{found-is, found-holds, found-shaped, all-shaped}
 use Rattle.crs_value.proofs.found.NodeLemmas.{drop-more, drop-short}

@@ -5,7 +5,7 @@ use Rattle.crs_shape.specs.declared.class.Class.{Class}
 use Rattle.crs_shape.specs.declared.class.Class.TheVariants as class
 use Rattle.crs_shape.specs.inner.Prelude.{dimensions_of}
 use Rattle.crs_value.specs.Checks.{BadDynamic, RepeatsAny, UnknownType, UnknownDirection, AnyOf, IsLeast, anchors, OfCrs, OfCompound, OfUnit, Own, BreaksAmong}
-use Rattle.crs_value.specs.inner.Classes.{HasSystem}
+use Rattle.crs_value.specs.inner.ReadOnce.{HasSystem}
 use Rattle.crs_value.proofs.checked.LeastLemmas.{least-beside}
 use Rattle.crs_value.specs.Reading.{those}
 

@@ -1,7 +1,7 @@
 -- Places: what a text's items hold lies within the text.
 use Rattle.std.proofs.Common.{◌≡◌, ℕ, ◌≤◌, length, List, [], ◌∷◌, ◌++◌, sym, subst, arith}
 use Rattle.crs_text.specs.inner.Prelude.{Token, single, comma, opening, closing, Forms, Fronts, Item, leaf, node, Siblings, End, More, arguments, place_of, tokens, others_tokens, RefusedAt, SpellsNode}
-use Rattle.crs_value.specs.SpellsText.{IsFrom}
+use Rattle.crs_value.specs.Spells.{IsFrom}
 
 abbrev TokenWithin : ℕ → Token → Type 0
 TokenWithin total (single kind place raw) = place ≤ total

@@ -3,7 +3,7 @@ use Rattle.std.proofs.Common.{◌≡◌, ℕ, ◌+◌, ◌<◌, ◌≤◌, lengt
 use Rattle.crs_decimal.specs.inner.Prelude.{Number, SameNumber, whole_number, Value, exact}
 use Rattle.crs_text.specs.inner.Prelude.{Item, RefusedAt}
 use Rattle.crs_value.specs.Checks.{LacksOrder, ReadsOrder, HasThis, OneHas, IsBadOrder, BadOrders, BadOrder, AnyOf, IsLeast}
-use Rattle.crs_value.specs.inner.FoundArguments.{HasPlace, AreInOrder}
+use Rattle.crs_value.specs.inner.Arguments.{HasPlace, AreInOrder}
 use Rattle.crs_value.specs.Reading.{ReadsFirst}
 use Rattle.crs_value.proofs.checked.CheckLemmas.{DenotesOne}
 use Rattle.crs_value.proofs.checked.OrderLemmas.{order-one, wrong-none, order-all}

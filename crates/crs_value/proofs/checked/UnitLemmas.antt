@@ -8,10 +8,8 @@ use Rattle.crs_shape.specs.declared.unit_kind.UnitKind.{UnitKind}
 use Rattle.crs_shape.specs.declared.unit_kind.UnitKind.TheVariants as kinds
 use Rattle.crs_shape.specs.inner.Prelude.{asked_kind, SpellsWord, unit_word, Shaped}
 use Rattle.crs_value.specs.Checks.{Asks, Fits, units_in, Misfits, BadOwnUnit, HasOwnUnit, BadShared, BadUnit, AllAsk, at, AnyOf, IsLeast}
-use Rattle.crs_value.specs.inner.FoundArguments.{from_found, AllShaped}
-use Rattle.crs_value.specs.inner.Least.{lesser}
+use Rattle.crs_value.specs.inner.Arguments.{from_found, AllShaped, lesser, item_at, Holds, IsFound}
 use Rattle.crs_value.specs.Reading.{those, IsReading}
-use Rattle.crs_value.specs.inner.Arguments.{item_at, Holds, IsFound}
 use Rattle.crs_value.specs.Reads.{ReadsDirection, ReadsKind}
 use Rattle.crs_value.proofs.found.ArgumentLemmas.{SlotsBound, found-is, found-holds, found-shaped}
 use Rattle.crs_value.proofs.checked.CheckLemmas.{only-of}

@@ -7,11 +7,10 @@ use Rattle.crs_text.specs.declared.items.ItemKind.TheVariants as kinds
 use Rattle.crs_shape.specs.declared.class.Class.{Class}
 use Rattle.crs_shape.specs.declared.class.Class.TheVariants as class
 use Rattle.crs_shape.specs.inner.Prelude.{is_keyword, one_if, how_many, is_bounded, least, most, Allowed, Shaped, AreShaped, class_in, class_of_kind, SlotParts, slots_of, is_class}
-use Rattle.crs_value.specs.inner.FoundArguments.{from_found, AllShaped}
+use Rattle.crs_value.specs.inner.Arguments.{from_found, AllShaped, item_at, ahead, Holds, IsFound}
 use Rattle.crs_value.specs.Checks.{AtClass, Breaks, BreaksAmong}
 use Rattle.crs_value.specs.inner.ReadOnce.{IsSound}
 use Rattle.crs_value.specs.Reading.{Each, is_same, is_a, those}
-use Rattle.crs_value.specs.inner.Arguments.{item_at, ahead, Holds, IsFound}
 
 pub ahead_at : (tree : Item) (items : Siblings) (at : Option ℕ) → IsAt tree items at → ahead tree at ≡ items
 ahead_at tree items None e = sym e

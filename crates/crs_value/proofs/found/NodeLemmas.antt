@@ -5,10 +5,9 @@ use Rattle.std.specs.Option.{IsSome}
 use Rattle.crs_text.specs.inner.Prelude.{Item, arguments, rest_of, here}
 use Rattle.crs_shape.specs.declared.class.Class.{Class}
 use Rattle.crs_shape.specs.inner.Prelude.{least, slots_of, Shaped}
-use Rattle.crs_value.specs.inner.FoundArguments.{from_found}
+use Rattle.crs_value.specs.inner.Arguments.{from_found, item_at, Holds, IsFound}
 use Rattle.crs_value.specs.inner.ReadOnce.{IsSound}
 use Rattle.crs_value.specs.Reading.{is_same, those, ReadsFirst, ReadsOptional, ReadsEach}
-use Rattle.crs_value.specs.inner.Arguments.{item_at, Holds, IsFound}
 use Rattle.crs_value.proofs.found.ArgumentLemmas.{AllSound, SlotsCount, arguments-many, found-is, found-holds, arguments-sound, each-drop, all-shaped, arguments-shaped}
 
 -- the list holds the values of those before; with the values of the rest it is that of all

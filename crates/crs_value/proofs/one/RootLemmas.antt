@@ -7,7 +7,7 @@ use Rattle.crs_shape.specs.inner.Prelude.{is_keyword, first_named, root_classes,
 use Rattle.crs_value.specs.declared.values.crs.Crs.{Crs}
 use Rattle.crs_value.specs.Checks.{IsLeast, Breaks}
 use Rattle.crs_value.specs.inner.ReadOnce.{IsSound}
-use Rattle.crs_value.specs.inner.FoundArguments.{IsAmong}
+use Rattle.crs_value.specs.inner.Arguments.{IsAmong}
 use Rattle.crs_value.specs.ReadsCrs.{ReadsCrs}
 use Rattle.crs_value.specs.Spells.{SpellsCrs, BreaksFirst, RefusesCrs}
 use Rattle.crs_value.proofs.checked.CheckLemmas.{DenotesOne}

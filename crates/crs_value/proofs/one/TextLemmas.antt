@@ -3,8 +3,7 @@ use Rattle.std.proofs.Common.{◌≡◌, ℕ, inl, inr, List, subst}
 use Rattle.crs_text.specs.inner.Prelude.{Item, RefusedAt, SpellsNode, RefusesText}
 use Rattle.crs_shape.specs.inner.Prelude.{AtRoot}
 use Rattle.crs_value.specs.declared.values.crs.Crs.{Crs}
-use Rattle.crs_value.specs.Spells.{SpellsCrs, RefusesCrs}
-use Rattle.crs_value.specs.SpellsText.{Spells, Refuses}
+use Rattle.crs_value.specs.Spells.{SpellsCrs, RefusesCrs, Spells, Refuses}
 use Rattle.crs_value.proofs.checked.CheckLemmas.{DenotesOne}
 use Rattle.crs_value.proofs.checked.LeastLemmas.{same-fault}
 use Rattle.crs_value.proofs.one.RootLemmas.{spelled-one, spelled-not-refused, refused-one}

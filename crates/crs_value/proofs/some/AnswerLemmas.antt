@@ -6,8 +6,7 @@ use Rattle.crs_shape.specs.inner.Prelude.{IsFree, AtRoot, IsPlaceIn, IsShapeNumb
 use Rattle.crs_value.specs.declared.values.crs.Crs.{Crs}
 use Rattle.crs_value.specs.Checks.{IsLeast, Breaks}
 use Rattle.crs_value.specs.ReadsCrs.{ReadsCrs}
-use Rattle.crs_value.specs.Spells.{SpellsCrs}
-use Rattle.crs_value.specs.SpellsText.{Spells, IsRefusalNumber, Refuses}
+use Rattle.crs_value.specs.Spells.{SpellsCrs, Spells, IsRefusalNumber, Refuses}
 use Rattle.crs_value.proofs.found.ArgumentLemmas.{SlotsCount}
 use Rattle.crs_value.proofs.checked.CheckLemmas.{DenotesOne}
 use Rattle.crs_value.proofs.checked.PlaceLemmas.{node-within}

@@ -8,13 +8,10 @@ use Rattle.crs_value.specs.declared.values.compound.Horizontal.{Horizontal}
 use Rattle.crs_value.specs.declared.values.compound.Horizontal.TheVariants as horizontals
 use Rattle.crs_value.specs.declared.values.crs.Crs.TheVariants as crs
 use Rattle.crs_value.specs.declared.values.frame.Frame.TheVariants as frames
-use Rattle.crs_value.specs.inner.ReadOnce.{IsSound}
-use Rattle.crs_value.specs.inner.FoundArguments.{IsAmong}
-use Rattle.crs_value.specs.Reading.{Each, those, ReadsFirst, ReadsElse}
-use Rattle.crs_value.specs.inner.Arguments.{Requires, RequiresOneOf}
+use Rattle.crs_value.specs.inner.ReadOnce.{IsSound, IsUnitClass}
+use Rattle.crs_value.specs.inner.Arguments.{IsAmong, Requires, RequiresOneOf}
+use Rattle.crs_value.specs.Reading.{Each, those, ReadsFirst, ReadsElse, ReadsNamed}
 use Rattle.crs_value.specs.Reads.{ReadsNumberOf, ReadsUnit, ReadsMeridian, ReadsAsUnit, ReadsUnitOf, parameter_units, ReadsParameter, ReadsConversion, ReadsDynamic}
-use Rattle.crs_value.specs.inner.Classes.{IsUnitClass}
-use Rattle.crs_value.specs.ReadsNamed.{ReadsNamed}
 use Rattle.crs_value.specs.ReadsCrs.{IsGeodeticClass, ReadsAsDatum, ReadsAsEnsemble, ReadsFrame, ReadsGeodetic, ReadsBase, ReadsProjected, ReadsVertical, ReadsAsHorizontal, ReadsHorizontal, ReadsCompound, ReadsCrs}
 use Rattle.crs_value.proofs.found.ArgumentLemmas.{SlotsCount, arguments-sound}
 use Rattle.crs_value.proofs.found.FrameLemmas.{one-there}

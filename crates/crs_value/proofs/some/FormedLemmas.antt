@@ -6,7 +6,7 @@ use Rattle.crs_text.specs.inner.Prelude.{number, Item, leaf, node, Siblings, End
 use Rattle.crs_shape.specs.declared.class.Class.{Class}
 use Rattle.crs_shape.specs.declared.class.Class.TheVariants as class
 use Rattle.crs_shape.specs.inner.Prelude.{Shaped}
-use Rattle.crs_value.specs.inner.FoundArguments.{AllShaped}
+use Rattle.crs_value.specs.inner.Arguments.{AllShaped}
 use Rattle.crs_value.specs.Reading.{Each, is_a, those, ReadsFirst}
 use Rattle.crs_value.specs.Reads.{ReadsNumber}
 use Rattle.crs_value.proofs.found.ArgumentLemmas.{each-if, arguments-shaped, shaped-number}

@@ -10,12 +10,12 @@ use Rattle.crs_shape.specs.declared.system_type.SystemType.TheVariants as types
 use Rattle.crs_shape.specs.declared.unit_kind.UnitKind.{UnitKind}
 use Rattle.crs_shape.specs.declared.unit_kind.UnitKind.TheVariants as kinds
 use Rattle.crs_value.specs.Checks.{IsAboveZero, NotAbove, IsNegative, AxisCount, orders_in, ReadsOrder, IsPosition, HasThis, OneHas, IsBadOrder, BadOrders, BadOrder, IsNotEllipsoidal, IsNotPlane, IsNotHorizontal, BadComponent, BadComponents, BadSystem, Asks, Fits, units_in, Misfits, BadOwnUnit, HasOwnUnit, AllAsk, BadUnit, at, AnyOf, FirstIs, IsLeast, BadDynamic, anchors, once, OfHead, OfCrs, OfUnit, OfEllipsoid, Own, AtClass, Breaks, BreaksAmong, horizontal_classes, RepeatsAny}
-use Rattle.crs_value.specs.inner.Least.{lesser}
+use Rattle.crs_value.specs.inner.Arguments.{lesser}
 use Rattle.crs_value.specs.Reading.{Each, those, ReadsFirst}
 use Rattle.crs_value.specs.Reads.{HasType, HasDimension, ReadsNumber, ReadsType, ReadsDirection}
 use Rattle.crs_value.proofs.checked.CheckLemmas.{DenotesOne, number-one}
 use Rattle.crs_value.proofs.some.DecisionLemmas.{Decided, Known, decided-as, decided-both, decided-either, decided-not, decided-some, decided-this, decided-word, type-known, direction-known, decided-kind, decided-kinds, decided-none, whether-ellipsoidal, decided-bool, decided-same, decided-value, decided-one, decided-one-of, decided-each, decided-position, decided-above}
-use Rattle.crs_value.specs.SpellsText.{IsFrom}
+use Rattle.crs_value.specs.Spells.{IsFrom}
 use Rattle.crs_value.proofs.checked.LeastLemmas.{least-same, least-either, least-one, least-is}
 use Rattle.crs_value.proofs.checked.PlaceLemmas.{Within, AreWithin, Fine, fine-as, place-within, arguments-within}
 use Rattle.crs_value.proofs.some.FormedLemmas.{Numbers, Ready, AllReady, those-ready, those-within, number-some, first-known}

@@ -6,12 +6,10 @@ use Rattle.crs_shape.specs.declared.class.Class.{Class}
 use Rattle.crs_shape.specs.declared.class.Class.TheVariants as class
 use Rattle.crs_shape.specs.declared.system_type.SystemType.{SystemType}
 use Rattle.crs_shape.specs.inner.Prelude.{SpellsWord, unit_word}
-use Rattle.crs_value.specs.inner.ReadOnce.{IsSound}
-use Rattle.crs_value.specs.Reading.{those, ReadsFirst, ReadsOptional, ReadsEach, ReadsElse}
+use Rattle.crs_value.specs.inner.ReadOnce.{IsSound, IsUnitClass}
+use Rattle.crs_value.specs.Reading.{those, ReadsFirst, ReadsOptional, ReadsEach, ReadsElse, ReadsText, ReadsTextOf, single_of, ReadsIdent, ReadsIds, ReadsNamed}
 use Rattle.crs_value.specs.inner.Arguments.{Requires}
 use Rattle.crs_value.specs.Reads.{ReadsNumber, ReadsType, ReadsDirection, ReadsKind, ReadsNumberOf, ReadsNumberAt, ReadsUnit, ReadsAxisMeridian, ReadsAxis, ReadsHead, ReadsSystem, ReadsEllipsoid, ReadsMeridian, ReadsDatum, ReadsEnsemble, ReadsBox, ReadsExtent, ReadsUsage, ReadsBare, ReadsTail}
-use Rattle.crs_value.specs.inner.Classes.{IsUnitClass}
-use Rattle.crs_value.specs.ReadsNamed.{ReadsText, ReadsTextOf, single_of, ReadsIdent, ReadsIds, ReadsNamed}
 use Rattle.crs_value.specs.NamedValues.{IdentParts}
 use Rattle.crs_value.specs.Values.{AxisParts, UnitParts, SystemParts, BoxParts, ExtentParts}
 use Rattle.crs_value.proofs.found.ArgumentLemmas.{AllSound, SlotsCount, arguments-sound, each-drop, not-none}

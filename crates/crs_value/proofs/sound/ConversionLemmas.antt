@@ -2,12 +2,11 @@
 use Rattle.std.proofs.Common.{Some, None, List, [], ◌∷◌, IfSome}
 use Rattle.crs_shape.specs.declared.class.Class.{Class}
 use Rattle.crs_shape.specs.declared.class.Class.TheVariants as class
-use Rattle.crs_value.specs.Reading.{Each}
+use Rattle.crs_value.specs.Reading.{Each, ReadsNamed}
 use Rattle.crs_value.specs.Reads.{ReadsAsUnit, ReadsUnitOf, ReadsParameter, ReadsConversion}
-use Rattle.crs_value.specs.inner.Classes.{IsUnitClass}
-use Rattle.crs_value.specs.ReadsNamed.{ReadsNamed}
+use Rattle.crs_value.specs.inner.ReadOnce.{IsUnitClass}
 use Rattle.crs_value.specs.Sound.{IsNamed, IsUnit}
-use Rattle.crs_value.specs.SoundConversion.{IsParameter, IsConversion}
+use Rattle.crs_value.specs.SoundParts.{IsParameter, IsConversion}
 use Rattle.crs_value.proofs.sound.PartLemmas.{Tells, first-tells, each-tells, else-tells, text-of-tells, number-of-tells, identifiers-tell, named-tells, unit-tells}
 
 -- ---- the unit of a parameter

@@ -11,16 +11,13 @@ use Rattle.crs_shape.specs.inner.Prelude.{most, is_bounded, slots_of, IsOneOf, d
 use Rattle.crs_value.specs.declared.values.frame.Frame.{Frame}
 use Rattle.crs_value.specs.declared.values.frame.Frame.TheVariants as frames
 use Rattle.crs_value.specs.Checks.{Own}
-use Rattle.crs_value.specs.inner.Classes.{HasSystem}
-use Rattle.crs_value.specs.inner.ReadOnce.{IsSound}
-use Rattle.crs_value.specs.Reading.{is_same, those, ReadsOptional, ReadsOne}
+use Rattle.crs_value.specs.inner.ReadOnce.{HasSystem, IsSound}
+use Rattle.crs_value.specs.Reading.{is_same, those, ReadsOptional, ReadsOne, ReadsNamed}
 use Rattle.crs_value.specs.inner.Arguments.{Requires}
 use Rattle.crs_value.specs.Reads.{ReadsUnit, ReadsEllipsoid, ReadsMeridian, ReadsDatum, ReadsEnsemble, ReadsSystem, ReadsConversion}
-use Rattle.crs_value.specs.ReadsNamed.{ReadsNamed}
 use Rattle.crs_value.specs.ReadsCrs.{ReadsAsDatum, ReadsAsEnsemble, ReadsFrame, ReadsGeodeticFrame, IsGeodeticClass, ReadsGeodetic, ReadsBase, ReadsProjected, ReadsVertical}
 use Rattle.crs_value.specs.Sound.{IsUnitOf, IsNamed}
-use Rattle.crs_value.specs.SoundConversion.{IsConversion}
-use Rattle.crs_value.specs.SoundFrames.{IsDatum, IsEnsemble, IsMeridian}
+use Rattle.crs_value.specs.SoundParts.{IsConversion, IsDatum, IsEnsemble, IsMeridian}
 use Rattle.crs_value.specs.SoundSingle.{IsGeodeticFrame, IsVerticalFrame, IsGeodetic, IsBase, IsProjected, IsVertical}
 use Rattle.crs_value.specs.Values.{SystemParts, EllipsoidParts}
 use Rattle.crs_value.proofs.checked.OwnLemmas.{own-of-crs}

@@ -9,12 +9,11 @@ use Rattle.crs_value.specs.declared.values.frame.Frame.TheVariants as frames
 use Rattle.crs_value.specs.Checks.{BadDynamic, HasEnsemble, IsUnsteady, at, AnyOf}
 use Rattle.crs_value.specs.inner.ReadOnce.{IsSound}
 use Rattle.crs_value.specs.Values.{DynamicParts}
-use Rattle.crs_value.specs.Reading.{those, ReadsElse, ReadsFirst, ReadsOptional}
+use Rattle.crs_value.specs.Reading.{those, ReadsElse, ReadsFirst, ReadsOptional, ReadsNamed}
 use Rattle.crs_value.specs.Reads.{ReadsNumberOf, ReadsDynamic}
 use Rattle.crs_value.specs.ReadsCrs.{ReadsAsDatum, ReadsAsEnsemble, ReadsFrame}
-use Rattle.crs_value.specs.ReadsNamed.{ReadsNamed}
 use Rattle.crs_value.specs.Sound.{IsNamed}
-use Rattle.crs_value.specs.SoundDynamic.{IsDynamic}
+use Rattle.crs_value.specs.SoundParts.{IsDynamic}
 use Rattle.crs_value.specs.SoundSingle.{IsDynamicOf}
 use Rattle.crs_value.proofs.sound.PartLemmas.{Tells, first-tells, optional-tells, number-of-tells, named-tells}
 

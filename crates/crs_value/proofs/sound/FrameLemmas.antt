@@ -7,12 +7,11 @@ use Rattle.crs_shape.specs.declared.class.Class.{Class}
 use Rattle.crs_shape.specs.declared.class.Class.TheVariants as class
 use Rattle.crs_shape.specs.declared.unit_kind.UnitKind.TheVariants as kinds
 use Rattle.crs_value.specs.Checks.{IsAboveZero, NotAbove, IsNegative, at, AnyOf, Own}
-use Rattle.crs_value.specs.Reading.{those, ReadsFirst, ReadsEach}
+use Rattle.crs_value.specs.Reading.{those, ReadsFirst, ReadsEach, ReadsNamed}
 use Rattle.crs_value.specs.inner.Arguments.{Requires}
 use Rattle.crs_value.specs.Reads.{ReadsNumber, ReadsNumberOf, ReadsUnit, ReadsEllipsoid, ReadsMeridian, ReadsDatum, ReadsEnsemble}
-use Rattle.crs_value.specs.ReadsNamed.{ReadsNamed}
 use Rattle.crs_value.specs.Sound.{IsNamed, IsUnitOf}
-use Rattle.crs_value.specs.SoundFrames.{IsEllipsoid, IsMeridian, IsDatum, IsEnsemble}
+use Rattle.crs_value.specs.SoundParts.{IsEllipsoid, IsMeridian, IsDatum, IsEnsemble}
 use Rattle.crs_value.proofs.found.ArgumentLemmas.{SlotsCount, not-none}
 use Rattle.crs_value.proofs.some.DecisionLemmas.{decided-above, stable}
 use Rattle.crs_value.proofs.sound.KnownWordLemmas.{own-free}

@@ -13,10 +13,9 @@ use Rattle.crs_shape.specs.declared.system_type.SystemType.{SystemType}
 use Rattle.crs_shape.specs.declared.unit_kind.UnitKind.{UnitKind}
 use Rattle.crs_shape.specs.declared.unit_kind.UnitKind.TheVariants as kinds
 use Rattle.crs_value.specs.Checks.{at, Own}
-use Rattle.crs_value.specs.inner.ReadOnce.{IsSound}
+use Rattle.crs_value.specs.inner.ReadOnce.{IsSound, IsUnitClass}
 use Rattle.crs_value.specs.Reading.{those}
 use Rattle.crs_value.specs.Reads.{ReadsType, ReadsDirection, ReadsKind}
-use Rattle.crs_value.specs.inner.Classes.{IsUnitClass}
 use Rattle.crs_value.proofs.found.ArgumentLemmas.{same_class}
 
 -- a number, a text or a word has no class of which this holds

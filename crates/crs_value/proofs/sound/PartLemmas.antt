@@ -13,11 +13,9 @@ use Rattle.crs_shape.specs.inner.Prelude.{keywords_of, Shaped, SpellsWord, unit_
 use Rattle.crs_shape.specs.declared.unit_kind.UnitKind.{UnitKind}
 use Rattle.crs_shape.specs.declared.unit_kind.UnitKind.TheVariants as kinds
 use Rattle.crs_value.specs.Checks.{IsAboveZero, NotAbove, at, AnyOf, OfUnit, Own}
-use Rattle.crs_value.specs.inner.ReadOnce.{IsSound}
-use Rattle.crs_value.specs.Reading.{those, ReadsFirst, ReadsOptional, ReadsElse, ReadsEach}
+use Rattle.crs_value.specs.inner.ReadOnce.{IsSound, IsUnitClass}
+use Rattle.crs_value.specs.Reading.{those, ReadsFirst, ReadsOptional, ReadsElse, ReadsEach, ReadsText, ReadsTextOf, single_of, ReadsIdent, ReadsIds, ReadsNamed}
 use Rattle.crs_value.specs.Reads.{ReadsNumber, ReadsKind, ReadsNumberOf, ReadsUnit}
-use Rattle.crs_value.specs.inner.Classes.{IsUnitClass}
-use Rattle.crs_value.specs.ReadsNamed.{ReadsText, ReadsTextOf, single_of, ReadsIdent, ReadsIds, ReadsNamed}
 use Rattle.crs_value.specs.Sound.{Each, IsText, IsIdent, IsNamed, IsUnit, Suits, IsUnitOf, IsAxisUnit}
 use Rattle.crs_value.specs.NamedValues.{IdentParts}
 use Rattle.crs_value.proofs.found.ArgumentLemmas.{arguments-sound}

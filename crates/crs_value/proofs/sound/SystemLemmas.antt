@@ -9,8 +9,7 @@ use Rattle.crs_shape.specs.declared.unit_kind.UnitKind.{UnitKind}
 use Rattle.crs_shape.specs.declared.unit_kind.UnitKind.TheVariants as kinds
 use Rattle.crs_shape.specs.inner.Prelude.{IsOneOf, dimensions_of, asked_kind}
 use Rattle.crs_value.specs.Checks.{IsPosition, orders_in, SomeHasOrder, AllHaveOrder, LacksOrder, OneHas, ReadsOrder, IsBadOrder, BadOrders, BadOrder, Asks, Fits, units_in, Misfits, BadOwnUnit, IsSuperfluous, HasOwnUnit, AllAsk, SharedFits, BadUnit, at, AnyOf, OfHead, BadSystems}
-use Rattle.crs_value.specs.inner.Classes.{HasSystem}
-use Rattle.crs_value.specs.inner.ReadOnce.{IsSound}
+use Rattle.crs_value.specs.inner.ReadOnce.{HasSystem, IsSound}
 use Rattle.crs_value.specs.Reading.{OneIs, those, ReadsFirst, ReadsOptional, ReadsEach}
 use Rattle.crs_value.specs.inner.Arguments.{Requires}
 use Rattle.crs_value.specs.Reads.{HasType, ReadsKind, ReadsNumberOf, ReadsUnit, ReadsAxis, ReadsHead, ReadsSystem}

@@ -10,8 +10,7 @@ use Rattle.crs_shape.specs.declared.class.Class.{Class}
 use Rattle.crs_shape.specs.inner.Prelude.{or_later, fault_by, step_as, first_inside, first_in_arguments, Shaped, class_in, is_of, misplaced, missing, SlotParts, is_class, takes, slots_of, again, any_of, one_of, some_of}
 use Rattle.crs_value.specs.Checks.{IsLeast, AtClass, Own, Breaks, BreaksAmong}
 use Rattle.crs_value.specs.inner.Judged.{is_in, Gives, Judged, Walked, Passed, Answers}
-use Rattle.crs_value.specs.inner.Least.{lesser}
-use Rattle.crs_value.specs.inner.Arguments.{item_at, ahead}
+use Rattle.crs_value.specs.inner.Arguments.{lesser, item_at, ahead}
 use Rattle.crs_value.proofs.found.ArgumentLemmas.{ahead_at, class-is}
 use Rattle.crs_value.proofs.checked.LeastLemmas.{IsFirst, first-self, first-trans, least-either, least-same, least-beside}
 

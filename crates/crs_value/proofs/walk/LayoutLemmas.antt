@@ -13,10 +13,9 @@ use Rattle.crs_value.specs.declared.judging.quick_checks.Layout.{Layout}
 use Rattle.crs_value.specs.declared.judging.quick_checks.AxesFacts.{AxesFacts}
 use Rattle.crs_value.specs.declared.judging.quick_checks.AxisFacts.{AxisFacts}
 use Rattle.crs_value.specs.Checks.{IsLeast, once, BreaksAmong, OfHead, RepeatsAny}
-use Rattle.crs_value.specs.inner.FoundArguments.{AllShaped}
+use Rattle.crs_value.specs.inner.Arguments.{AllShaped, item_at, ahead, Holds}
 use Rattle.crs_value.specs.inner.Judged.{AllLeave, Gives, Leaves, Walked}
 use Rattle.crs_value.specs.Reading.{Each, is_a, those}
-use Rattle.crs_value.specs.inner.Arguments.{item_at, ahead, Holds}
 use Rattle.crs_value.specs.Reads.{HasType}
 use Rattle.crs_value.specs.inner.QuickChecks.{are_free, is_head, is_tail, the_one, AreOrdered, HasFacts, IsLaid, IsNoted, PassesButDynamic, HaveFacts, UnitsFit}
 use Rattle.crs_value.proofs.found.ArgumentLemmas.{ahead_at, all-shaped, arguments-shaped, each-both, holds_at, those-first}

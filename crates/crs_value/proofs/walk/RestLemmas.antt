@@ -11,10 +11,9 @@ use Rattle.crs_shape.specs.declared.unit_kind.UnitKind.TheVariants as kinds
 use Rattle.crs_shape.specs.inner.Prelude.{IsOneOf, class_in}
 use Rattle.crs_value.specs.declared.judging.quick_checks.AxesFacts.{AxesFacts}
 use Rattle.crs_value.specs.Checks.{BadDynamic, orders_in, SomeHasOrder, IsBadOrder, BadOrders, BadOrder, Asks, AllAsk, IsSuperfluous, HasOwnUnit, BadOwnUnit, BadUnit, AnyOf, IsLeast, BreaksAmong, OfHead, BadSystems, Own, IsRepeated, RepeatsAny}
-use Rattle.crs_value.specs.inner.Classes.{HasSystem}
-use Rattle.crs_value.specs.inner.Least.{lesser}
+use Rattle.crs_value.specs.inner.ReadOnce.{HasSystem}
+use Rattle.crs_value.specs.inner.Arguments.{lesser, item_at, ahead}
 use Rattle.crs_value.specs.Reading.{Each, OneIs, is_a, those}
-use Rattle.crs_value.specs.inner.Arguments.{item_at, ahead}
 use Rattle.crs_value.specs.Reads.{HasType}
 use Rattle.crs_value.specs.inner.QuickChecks.{the_one, AreOrdered, HaveFacts, UnitsFit, PassesButDynamic, rank, Climbs}
 use Rattle.crs_value.specs.inner.WholeNumbers.{IsWholeOf}

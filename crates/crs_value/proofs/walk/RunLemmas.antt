@@ -6,7 +6,7 @@ use Rattle.crs_shape.specs.declared.unit_kind.UnitKind.TheVariants as kinds
 use Rattle.crs_value.specs.declared.judging.quick_checks.AxesFacts.{AxesFacts}
 use Rattle.crs_value.specs.declared.judging.quick_checks.AxisFacts.{AxisFacts}
 use Rattle.crs_value.specs.Checks.{orders_in, units_in, Asks, BadOwnUnit, IsLeast}
-use Rattle.crs_value.specs.inner.FoundArguments.{AreInOrder, HasPlace}
+use Rattle.crs_value.specs.inner.Arguments.{AreInOrder, HasPlace}
 use Rattle.crs_value.specs.Reading.{Each}
 use Rattle.crs_value.specs.inner.QuickChecks.{the_one, HasFacts, IsNoted, HaveFacts}
 use Rattle.crs_value.proofs.found.ArgumentLemmas.{each-on}

@@ -15,10 +15,9 @@ use Rattle.crs_value.specs.declared.judging.quick_checks.AxesFacts.{AxesFacts}
 use Rattle.crs_value.specs.declared.judging.quick_checks.AxisFacts.{AxisFacts}
 use Rattle.crs_value.specs.declared.judging.quick_checks.Layout.{Layout}
 use Rattle.crs_value.specs.Checks.{BadOrder, orders_in, units_in, Asks, Fits, BadOwnUnit, IsLeast, once, BadSystems, RepeatsAny}
-use Rattle.crs_value.specs.inner.FoundArguments.{AreInOrder, HasPlace}
+use Rattle.crs_value.specs.inner.Arguments.{AreInOrder, HasPlace, item_at, ahead, Holds}
 use Rattle.crs_value.specs.inner.Judged.{Walked}
 use Rattle.crs_value.specs.Reading.{Each, those, ReadsFirst}
-use Rattle.crs_value.specs.inner.Arguments.{item_at, ahead, Holds}
 use Rattle.crs_value.specs.Reads.{HasType, ReadsDirection}
 
 -- the item of this number, or none

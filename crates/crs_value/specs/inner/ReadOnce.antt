@@ -1,12 +1,31 @@
--- What is read from items of one kind of node: one value at most, and from well-formed accepted
--- items only what is asked of it.
+-- A bridge: the classes of some slots.
+use Rattle.crs_shape.specs.declared.class.Class.{Class}
 use Rattle.std.specs.Prelude.{◌≡◌}
 use Rattle.crs_text.specs.Items.{Item}
-use Rattle.crs_shape.specs.declared.class.Class.{Class}
 use Rattle.crs_text.specs.Refusal.{RefusedAt}
 use Rattle.crs_text.specs.Written.{AreFormed}
 use Rattle.crs_shape.specs.Shaped.{Shaped}
 use Rattle.crs_value.specs.Checks.{Breaks}
+use Rattle.crs_shape.specs.declared.class.Class.TheVariants as class
+
+-- the classes of units
+abbrev pub IsUnitClass : Class → Type 0
+IsUnitClass class.LengthUnit = Unit {0}
+IsUnitClass class.AngleUnit = Unit {0}
+IsUnitClass class.ScaleUnit = Unit {0}
+IsUnitClass class.PlainUnit = Unit {0}
+IsUnitClass class.AxisUnit = Unit {0}
+IsUnitClass other = ⊥
+
+-- the classes of CRS that have a coordinate system of their own
+abbrev pub HasSystem : Class → Type 0
+HasSystem class.GeodeticCrs = Unit {0}
+HasSystem class.GeographicCrs = Unit {0}
+HasSystem class.ProjectedCrs = Unit {0}
+HasSystem class.VerticalCrs = Unit {0}
+HasSystem other = ⊥
+
+-- ---- what is read from items of one kind of node: one value at most, and from well-formed accepted items only what is asked of it
 
 -- a well-formed item of the shape of its class that breaks no check
 pub record IsSound (c : Class) (item : Item) : Type 0 where

@@ -5,10 +5,9 @@ ghost use Rattle.crs_shape.specs.Shaped.{Shaped};
 ghost use Rattle.crs_shape.specs.declared.class.Class.TheVariants as classes;
 ghost use Rattle.crs_value.specs.inner.Cursor.{args, item};
 ghost use Rattle.crs_value.specs.Checks.{IsPosition, HasThis, OneHas, LacksOrder, SomeHasOrder, BadOrders, orders_in, BadOrder, IsBadOrder, Asks, Fits, AllAsk, SharedFits, BadUnit, BadOwnUnit, HasOwnUnit, AnyOf, IsLeast};
-ghost use Rattle.crs_value.specs.inner.FoundArguments.{from_found, AllShaped};
+ghost use Rattle.crs_value.specs.inner.Arguments.{from_found, AllShaped, item_at, Holds, TakesOne};
 ghost use Rattle.crs_value.specs.inner.FirstArguments.{AreFirsts};
 ghost use Rattle.crs_value.specs.Reading.{IsReading};
-ghost use Rattle.crs_value.specs.inner.Arguments.{item_at, Holds, TakesOne};
 ghost use Rattle.crs_value.specs.Reads.{HasType, ReadsKind};
 
 use crate::checks::crs::{has_some, type_of};

@@ -6,9 +6,8 @@ ghost use Rattle.crs_shape.specs.Shaped.{Shaped};
 ghost use Rattle.crs_value.specs.Checks.{AxisCount, BadDynamic, BadSystem, HasEnsemble, AnyOf, IsLeast, BreaksAmong, anchors, once, IsRepeated, OfHead, OfAxes, OfCrs, Repeats, RepeatsAny};
 ghost use Rattle.crs_value.specs.inner.Cursor.{args, item};
 ghost use Rattle.crs_value.specs.inner.FirstArguments.{AreFirsts};
-ghost use Rattle.crs_value.specs.inner.FoundArguments.{AllShaped};
+ghost use Rattle.crs_value.specs.inner.Arguments.{AllShaped, item_at, IsFound, TakesOne};
 ghost use Rattle.crs_value.specs.Reading.{those, IsReading};
-ghost use Rattle.crs_value.specs.inner.Arguments.{item_at, IsFound, TakesOne};
 ghost use Rattle.crs_value.specs.Reads.{HasType, HasDimension};
 
 use crate::checks::axes::{bad_order, bad_unit};

@@ -5,11 +5,9 @@ ghost use Rattle.crs_shape.specs.declared.class.Class.TheVariants as kinds;
 ghost use Rattle.crs_shape.specs.Keywords.{every_class, root_classes};
 ghost use Rattle.crs_shape.specs.ShapeFault.{is_of};
 ghost use Rattle.crs_shape.specs.Slots.{any_of, slots_of};
-ghost use Rattle.crs_value.specs.inner.Classes.{HasSystem};
-ghost use Rattle.crs_value.specs.inner.FoundArguments.{IsAmong};
+ghost use Rattle.crs_value.specs.inner.ReadOnce.{HasSystem};
+ghost use Rattle.crs_value.specs.inner.Arguments.{IsAmong, lesser, item_at, Holds};
 ghost use Rattle.crs_value.specs.inner.Judged.{class_at, Answers, Judged};
-ghost use Rattle.crs_value.specs.inner.Least.{lesser};
-ghost use Rattle.crs_value.specs.inner.Arguments.{item_at, Holds};
 ghost use Rattle.crs_value.specs.inner.QuickChecks.{is_head, is_tail, rest_slots, Laid};
 
 use crate::checks::crs::{bad_dynamic, whole_crs};

@@ -6,9 +6,8 @@ ghost use Rattle.crs_shape.specs.declared.class.Class.{Class};
 ghost use Rattle.crs_shape.specs.Dimensions.{dimensions_of};
 ghost use Rattle.crs_shape.specs.Shaped.{Shaped};
 ghost use Rattle.crs_value.specs.Checks.{orders_in, units_in, once, Asks, BadOwnUnit, Fits, IsLeast, OfHead, RepeatsAny};
-ghost use Rattle.crs_value.specs.inner.FoundArguments.{AllShaped, HasPlace};
+ghost use Rattle.crs_value.specs.inner.Arguments.{AllShaped, HasPlace, item_at, ahead, Holds};
 ghost use Rattle.crs_value.specs.Reading.{is_a, those};
-ghost use Rattle.crs_value.specs.inner.Arguments.{item_at, ahead, Holds};
 ghost use Rattle.crs_value.specs.Reads.{HasType};
 ghost use Rattle.crs_value.specs.inner.QuickChecks.{rank, the_one, AreOrdered, Climbs, HasFacts, IsBehindName, IsHeld, IsLaid, IsNoted, PassesButDynamic, HaveFacts, IsShaped, UnitsFit};
 

@@ -3,16 +3,14 @@
 ghost use Rattle.crs_shape.specs.declared.class.Class.{Class};
 ghost use Rattle.crs_shape.specs.declared.class.Class.TheVariants as class;
 ghost use Rattle.crs_value.specs.Reads.{ReadsAxis, ReadsAxisMeridian, ReadsBox, ReadsDatum, ReadsEllipsoid, ReadsEnsemble, ReadsExtent, ReadsIdent, ReadsMember, ReadsMeridian, ReadsUnit, ReadsUsage, ReadsConversion, ReadsGeoidModel, ReadsMethod, ReadsParameter, ReadsDeformationModel, ReadsDynamic};
-ghost use Rattle.crs_value.specs.inner.Classes.{IsUnitClass};
+ghost use Rattle.crs_value.specs.inner.ReadOnce.{IsUnitClass, IsReadAs, IsReadOnce};
 ghost use Rattle.crs_value.specs.ReadsCrs.{IsGeodeticClass, ReadsBase, ReadsCompound, ReadsGeodetic, ReadsProjected, ReadsVertical};
-ghost use Rattle.crs_value.specs.SoundDynamic.{IsDeformationModel, IsDynamic};
+ghost use Rattle.crs_value.specs.SoundParts.{IsDeformationModel, IsDynamic, IsConversion, IsGeoidModel, IsMethod, IsParameter};
 ghost use Rattle.crs_value.specs.Sound.{IsAxis, IsAxisMeridian, IsIdent, IsUnit, IsBox, IsExtent, IsUsage};
 ghost use Rattle.crs_value.specs.SoundCompound.{IsCompound};
-ghost use Rattle.crs_value.specs.SoundConversion.{IsConversion, IsGeoidModel, IsMethod, IsParameter};
-ghost use Rattle.crs_value.specs.SoundFrames.{IsEllipsoid, IsMember, IsMeridian};
+ghost use Rattle.crs_value.specs.SoundParts.{IsEllipsoid, IsMember, IsMeridian};
 ghost use Rattle.crs_value.specs.SoundSingle.{IsBase, IsGeodetic, IsGeodeticFrame, IsProjected, IsVertical, IsVerticalFrame};
 ghost use Rattle.crs_value.specs.declared.values.frame.Frame.TheVariants as frame;
-ghost use Rattle.crs_value.specs.inner.ReadOnce.{IsReadAs, IsReadOnce};
 
 /// An item is read as one axis at most, of whatever class it is; likewise the other nodes that aren't members of sets.
 /// Profile.

@@ -3,8 +3,7 @@ ghost use Rattle.std.specs.Prelude.{◌≡◌, MatchResult, IfOk, Some};
 ghost use Rattle.crs_shape.specs.ShapeFault.{class_of_root};
 ghost use Rattle.crs_value.specs.declared.values.crs.Crs.{Crs};
 ghost use Rattle.crs_value.specs.ReadsCrs.{kind_of};
-ghost use Rattle.crs_value.specs.Spells.{SpellsCrs, IsFaultOf, RefusesCrs};
-ghost use Rattle.crs_value.specs.SpellsText.{Spells, IsFaultOfText};
+ghost use Rattle.crs_value.specs.Spells.{SpellsCrs, IsFaultOf, RefusesCrs, Spells, IsFaultOfText};
 
 use crate::judging::node::root_judged;
 use crate::reading::cursor::Cursor;

@@ -5,7 +5,7 @@ ghost use Rattle.crs_value.specs.inner.Cursor.{item};
 ghost use Rattle.crs_value.specs.inner.ReadOnce.{IsSound};
 ghost use Rattle.crs_value.specs.Reads.{ReadsUnitOf, parameter_units, ReadsConversion, ReadsParameter};
 ghost use Rattle.crs_value.specs.Values.{ConversionParts, ParameterParts};
-ghost use Rattle.crs_value.specs.SoundConversion.{IsConversion, IsParameter};
+ghost use Rattle.crs_value.specs.SoundParts.{IsConversion, IsParameter};
 
 use crate::reading::arguments::first;
 use crate::reading::cursor::Cursor;

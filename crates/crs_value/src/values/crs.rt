@@ -4,7 +4,7 @@ ghost use Rattle.crs_value.specs.ReadsCrs.{kind_by, kind_of, ReadsCrs};
 ghost use Rattle.crs_shape.specs.Keywords.{root_classes};
 ghost use Rattle.crs_value.specs.inner.Cursor.{item};
 ghost use Rattle.crs_value.specs.inner.ReadOnce.{IsSound};
-ghost use Rattle.crs_value.specs.inner.FoundArguments.{IsAmong};
+ghost use Rattle.crs_value.specs.inner.Arguments.{IsAmong};
 ghost use Rattle.crs_value.specs.Spells.{IsFaultOf};
 ghost use Rattle.crs_value.specs.declared.values.crs.Crs.{Crs};
 

@@ -68,7 +68,7 @@ pub struct Datum<'a> {
 
 impl<'a> Model for Datum<'a> {
     ghost use Rattle.std.specs.Option.{option_copied};
-    ghost use Rattle.crs_value.specs.SoundFrames.{IsDatum};
+    ghost use Rattle.crs_value.specs.SoundParts.{IsDatum};
     ghost use Rattle.crs_value.specs.Values.{DatumParts};
 
     ghost Value = { DatumParts };
@@ -106,7 +106,7 @@ pub struct Ensemble<'a> {
 }
 
 impl<'a> Model for Ensemble<'a> {
-    ghost use Rattle.crs_value.specs.SoundFrames.{IsEnsemble};
+    ghost use Rattle.crs_value.specs.SoundParts.{IsEnsemble};
     ghost use Rattle.crs_value.specs.Values.{EnsembleParts};
 
     ghost Value = { EnsembleParts };

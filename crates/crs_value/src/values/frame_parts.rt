@@ -1,10 +1,9 @@
 //! Ellipsoids, prime meridians and what dynamic frames say.
 ghost use Rattle.std.specs.Prelude.{◌≡◌};
-ghost use Rattle.crs_value.specs.SoundFrames.{IsEllipsoid, IsMeridian};
+ghost use Rattle.crs_value.specs.SoundParts.{IsEllipsoid, IsMeridian, IsDynamic};
 ghost use Rattle.crs_value.specs.Values.{EllipsoidParts, MeridianParts, DynamicParts};
 ghost use Rattle.crs_value.specs.Reads.{ReadsEllipsoid, ReadsMeridian, ReadsDynamic};
 ghost use Rattle.crs_value.specs.inner.Arguments.{Requires};
-ghost use Rattle.crs_value.specs.SoundDynamic.{IsDynamic};
 ghost use Rattle.crs_shape.specs.declared.class.Class.TheVariants as classes;
 
 use crate::reading::cursor::Cursor;

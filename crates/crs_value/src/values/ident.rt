@@ -6,9 +6,8 @@ ghost use Rattle.crs_shape.specs.declared.class.Class.TheVariants as classes;
 ghost use Rattle.crs_value.specs.inner.Cursor.{item};
 ghost use Rattle.crs_value.specs.inner.ReadOnce.{IsSound};
 ghost use Rattle.crs_value.specs.Members.{HaveSameMembers, IsIn};
-ghost use Rattle.crs_value.specs.Reading.{ReadsFirst, ReadsOptional};
+ghost use Rattle.crs_value.specs.Reading.{ReadsFirst, ReadsOptional, ReadsNamed};
 ghost use Rattle.crs_value.specs.Reads.{ReadsText, single_of, ReadsIdent};
-ghost use Rattle.crs_value.specs.ReadsNamed.{ReadsNamed};
 ghost use Rattle.crs_value.specs.Sound.{IsIdent, IsNamed};
 ghost use Rattle.crs_value.specs.NamedValues.{IdentParts, NamedParts};
 

@@ -1,7 +1,6 @@
 //! Units, axes and coordinate systems.
 ghost use Rattle.crs_value.specs.inner.Cursor.{item};
-ghost use Rattle.crs_value.specs.inner.ReadOnce.{IsSound};
-ghost use Rattle.crs_value.specs.inner.Classes.{HasSystem, IsUnitClass};
+ghost use Rattle.crs_value.specs.inner.ReadOnce.{IsSound, HasSystem, IsUnitClass};
 ghost use Rattle.crs_value.specs.Reads.{ReadsKind, ReadsUnit, ReadsDirection, ReadsAxisMeridian, ReadsAxis, HasType, ReadsType, ReadsSystem};
 ghost use Rattle.crs_value.specs.Sound.{IsUnit, IsAxis, IsAxisMeridian, own_or, IsSystem};
 ghost use Rattle.crs_value.specs.Values.{UnitParts, AxisParts, AxisMeridianParts, SystemParts};

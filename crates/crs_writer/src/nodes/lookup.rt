@@ -1,9 +1,8 @@
 //! The arguments of a node, by their class.
 ghost use Rattle.std.specs.Prelude.{◌≡◌, IsTrue, drop};
 ghost use Rattle.crs_text.specs.Items.{arguments, rest_of, here, HasId};
-ghost use Rattle.crs_value.specs.inner.FoundArguments.{from_found};
+ghost use Rattle.crs_value.specs.inner.Arguments.{from_found, item_at, ahead, Holds};
 ghost use Rattle.crs_value.specs.Reading.{those};
-ghost use Rattle.crs_value.specs.inner.Arguments.{item_at, ahead, Holds};
 ghost use Rattle.crs_writer.specs.inner.Found.{AreLeaves};
 
 use crs_shape::{Class, Sought};

@@ -44,9 +44,8 @@ impl<'i, 'a> Node<'i, 'a> {
     ghost use Rattle.crs_text.specs.Items.{arguments, raw_of, skip};
     ghost use Rattle.crs_shape.specs.declared.direction.Direction.{Direction};
     ghost use Rattle.crs_shape.specs.declared.unit_kind.UnitKind.{UnitKind};
-    ghost use Rattle.crs_value.specs.inner.FoundArguments.{from_found};
+    ghost use Rattle.crs_value.specs.inner.Arguments.{from_found, Holds};
     ghost use Rattle.crs_value.specs.Reading.{ReadsFirst, ReadsIfAny, ReadsOne, ReadsOptional};
-    ghost use Rattle.crs_value.specs.inner.Arguments.{Holds};
     ghost use Rattle.crs_value.specs.Reads.{LacksUsage, ReadsDirection, ReadsKind, ReadsNumberOf, ReadsText, ReadsTextOf, ReadsUnit, single_of, ReadsNumberAt, ReadsUnitOf, parameter_units};
     ghost use Rattle.crs_value.specs.Values.{UnitParts};
     ghost use Rattle.crs_writer.specs.inner.Node.{IsFirst, args, item};

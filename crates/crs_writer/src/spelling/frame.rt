@@ -2,10 +2,9 @@
 ghost use Rattle.std.specs.Prelude.{◌≡◌, ◌∷◌, ◌++◌, OnOk, codes};
 ghost use Rattle.std.specs.Option.{option_copied};
 ghost use Rattle.crs_text.specs.Written.{item_text};
-ghost use Rattle.crs_value.specs.Reading.{ReadsOne};
+ghost use Rattle.crs_value.specs.Reading.{ReadsOne, ReadsNamed};
 ghost use Rattle.crs_value.specs.Reads.{ReadsDatum, ReadsEnsemble};
 ghost use Rattle.crs_value.specs.ReadsCrs.{ReadsGeodeticFrame, ReadsVerticalFrame};
-ghost use Rattle.crs_value.specs.ReadsNamed.{ReadsNamed};
 ghost use Rattle.crs_value.specs.Values.{DatumParts, EnsembleParts};
 ghost use Rattle.crs_value.specs.declared.values.frame.Frame.{Frame};
 ghost use Rattle.crs_normal.specs.inner.PartTexts.{datum_text, ensemble_text, frame_text, member_text};

@@ -1,5 +1,5 @@
 use Rattle.std.proofs.Common.{length}
-use Rattle.crs_value.specs.inner.FoundArguments.{from_found}
+use Rattle.crs_value.specs.inner.Arguments.{from_found}
 use Rattle.crs_value.proofs.checked.CheckLemmas.{Checked}
 use Rattle.crs_value.proofs.checks.any_from.Given as goal
 

@@ -1,5 +1,5 @@
 use Rattle.crs_shape.specs.declared.class.Class.TheVariants as class
-use Rattle.crs_value.specs.inner.FoundArguments.{from_found}
+use Rattle.crs_value.specs.inner.Arguments.{from_found}
 use Rattle.crs_value.proofs.checked.OrderLemmas.{Seeking}
 use Rattle.crs_value.proofs.checks.axes.one_has.Given as goal
 

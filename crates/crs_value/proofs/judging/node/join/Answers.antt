@@ -1,5 +1,5 @@
 use Rattle.std.proofs.Common.{sym, ◌∙◌, ap}
-use Rattle.crs_value.specs.inner.Least.{lesser}
+use Rattle.crs_value.specs.inner.Arguments.{lesser}
 use Rattle.crs_value.proofs.checked.LeastLemmas.{lesser-none}
 use Rattle.crs_value.proofs.judging.node.join.Goals as goal
 

@@ -1,8 +1,7 @@
 use Rattle.std.proofs.Common.{length}
 use Rattle.crs_shape.specs.declared.class.Class.TheVariants as class
 use Rattle.crs_value.specs.inner.Cursor.{args}
-use Rattle.crs_value.specs.inner.FoundArguments.{from_found}
-use Rattle.crs_value.specs.inner.Arguments.{item_at}
+use Rattle.crs_value.specs.inner.Arguments.{from_found, item_at}
 use Rattle.crs_value.proofs.checked.UnitLemmas.{Asking}
 use Rattle.crs_value.proofs.checks.axes.Asking.fits_as.Given as goal
 

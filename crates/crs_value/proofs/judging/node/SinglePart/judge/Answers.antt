@@ -1,6 +1,6 @@
 use Rattle.std.proofs.Common.{None, Some, [], ◌∷◌, sym, ◌∙◌, subst}
 use Rattle.crs_shape.specs.declared.class.Class.{Class}
-use Rattle.crs_value.specs.inner.Classes.{HasSystem}
+use Rattle.crs_value.specs.inner.ReadOnce.{HasSystem}
 use Rattle.crs_value.specs.inner.Judged.{Answers}
 use Rattle.crs_value.specs.inner.Arguments.{item_at}
 use Rattle.crs_value.proofs.walk.JudgedLemmas.{named-of, single-is, single-not}

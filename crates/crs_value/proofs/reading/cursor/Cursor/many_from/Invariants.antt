@@ -2,7 +2,7 @@ use Rattle.std.proofs.Common.{length}
 use Rattle.crs_text.specs.inner.Prelude.{arguments}
 use Rattle.crs_value.specs.inner.Cursor.{item}
 use Rattle.crs_value.specs.Reading.{those}
-use Rattle.crs_value.specs.inner.FoundArguments.{from_found}
+use Rattle.crs_value.specs.inner.Arguments.{from_found}
 use Rattle.crs_value.proofs.found.NodeLemmas.{Going}
 use Rattle.crs_value.proofs.reading.cursor.Cursor.many_from.Given as goal
 

@@ -1,11 +1,37 @@
--- What is asked of ellipsoids, prime meridians, reference frames and ensembles by themselves.
-use Rattle.std.specs.Prelude.{◌≡◌, ◌≢◌, false, [], IfSome}
+-- What is asked of conversions, dynamic parts and reference frames by themselves.
+use Rattle.std.specs.Prelude.{IfSome, ◌≡◌, ◌≢◌, false, []}
 use Rattle.crs_decimal.specs.Value.{IsNormal}
-use Rattle.crs_shape.specs.declared.unit_kind.UnitKind.TheVariants as kinds
+use Rattle.crs_value.specs.Values.{ParameterParts, ConversionParts, DynamicParts, EllipsoidParts, MeridianParts, DatumParts, EnsembleParts}
+use Rattle.crs_value.specs.Sound.{Each, IsText, IsIdent, IsNamed, IsUnit, IsUnitOf}
 use Rattle.crs_value.specs.Checks.{IsAboveZero}
-use Rattle.crs_value.specs.Sound.{Each, IsText, IsIdent, IsNamed, IsUnitOf}
-use Rattle.crs_value.specs.Values.{EllipsoidParts, MeridianParts, DatumParts, EnsembleParts}
-pub use Rattle.crs_value.specs.Sound.{IsNamed as IsMember}
+use Rattle.crs_shape.specs.declared.unit_kind.UnitKind.TheVariants as kinds
+pub use Rattle.crs_value.specs.Sound.{IsNamed as IsMethod, IsNamed as IsGeoidModel, IsNamed as IsDeformationModel, IsNamed as IsMember}
+
+-- ---- what is asked of conversions by themselves
+
+-- what is asked of a parameter of a conversion: its unit, if it has one, may be of each kind
+pub record IsParameter (parameter : ParameterParts) : Type 0 where
+  pub name : IsText parameter.name
+  pub value : IsNormal parameter.value
+  pub unit : IfSome parameter.unit IsUnit
+  pub identifiers : Each IsIdent parameter.identifiers
+
+-- what is asked of a conversion: its name is a text, and its parts are as asked of them
+pub record IsConversion (conversion : ConversionParts) : Type 0 where
+  pub name : IsText conversion.name
+  pub method : IsNamed conversion.method
+  pub parameters : Each IsParameter conversion.parameters
+  pub identifiers : Each IsIdent conversion.identifiers
+
+-- ---- what is asked of dynamic parts by themselves
+
+-- what is asked of a dynamic part: its epoch is a decimal in
+-- its normal form, and its model, if it has one, is as asked
+pub record IsDynamic (dynamic : DynamicParts) : Type 0 where
+  pub epoch : IsNormal dynamic.epoch
+  pub model : IfSome dynamic.model IsNamed
+
+-- ---- what is asked of ellipsoids, prime meridians, reference frames and ensembles by themselves
 
 -- what is asked of an ellipsoid: its semi-major axis is above zero, its inverse flattening isn't
 -- negative, and its unit, if it has one, fits one of length
