@@ -3,12 +3,9 @@ pub mod Innermost
 pub mod Items
 pub mod Keywords
 pub mod Position
-pub mod Quoted
 pub mod Refusal
-pub mod Settled
 pub mod TextFault
 pub mod Tokens
-pub mod Utf8
 pub mod Viable
 pub mod Written
 pub mod inner

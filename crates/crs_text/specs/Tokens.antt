@@ -1,9 +1,56 @@
--- Tokens: single ones (numbers, quoted texts and words), commas and the two kinds of delimiters;
--- and the tokens of a text, with white space before, between and after them.
-use Rattle.std.specs.Prelude.{◌≡◌, ℕ, ◌+◌, ◌&&◌, ◌||◌, ◌==◌, nat_le, Bool, true, false, IsTrue, List, [], ◌∷◌, ◌++◌, length, IsUtf8}
+-- Quoted texts: from a quote to the next one that isn't doubled.
+use Rattle.std.specs.Prelude.{◌≡◌, ℕ, ◌+◌, ◌==◌, Bool, IsTrue, IsFalse, List, [], ◌∷◌, ◌++◌, if◌then◌else◌, ◌⊎◌, ◌≤◌, length, take, IsUtf8, ◌&&◌, ◌||◌, nat_le, true, false}
 use Rattle.std.specs.List.{list_all}
 use Rattle.crs_decimal.specs.Spelling.{is_digit, is_run_byte, is_run_start, IsInBounds}
-use Rattle.crs_text.specs.Quoted.{IsInside, StopsAt, BeginsWith, is_quote}
+
+-- characters with each quote among them written twice
+abbrev pub doubled : List ℕ → List ℕ
+doubled [] = []
+doubled (c ∷ cs) = if c == 34 then 34 ∷ 34 ∷ doubled cs else c ∷ doubled cs
+
+-- what may be between the quotes of a text: its characters, each quote doubled
+abbrev pub IsInside : List ℕ → Type 0
+IsInside raw = (characters : List ℕ) × (raw ≡ doubled characters)
+
+-- the bytes don't go on with one that passes this test
+abbrev pub StopsAt : (ℕ → Bool) → List ℕ → Type 0
+StopsAt takes [] = Unit {0}
+StopsAt takes (b ∷ bs) = IsFalse (takes b)
+
+-- the bytes begin with one that passes this test
+abbrev pub BeginsWith : (ℕ → Bool) → List ℕ → Type 0
+BeginsWith test [] = ⊥
+BeginsWith test (b ∷ bs) = IsTrue (test b)
+
+-- a quote
+abbrev pub is_quote : ℕ → Bool
+is_quote b = b == 34
+
+-- the bytes after an opening quote are this inside, the closing quote, and the rest
+pub record IsShut (after raw rest : List ℕ) : Type 0 where
+  pub parts : after ≡ raw ++ 34 ∷ rest
+  pub inside : IsInside raw
+  pub ends : StopsAt is_quote rest
+
+-- the bytes after an opening quote, through the closing quote or, where there is none, to the end
+abbrev pub Through : List ℕ → List ℕ → Type 0
+Through after inside =
+    ((raw rest : List ℕ) × IsShut after raw rest × (inside ≡ raw ++ 34 ∷ []))
+    ⊎ (IsInside after × (inside ≡ after))
+
+-- ---- where bytes are well-formed UTF-8, and how far
+
+-- some bytes after these complete them to well-formed UTF-8
+abbrev pub IsUtf8Front : List ℕ → Type 0
+IsUtf8Front bytes = (more : List ℕ) × IsUtf8 (bytes ++ more)
+
+-- n is the length of the longest front of the bytes that is well-formed UTF-8
+pub record IsLongestUtf8 (bytes : List ℕ) (n : ℕ) : Type 0 where
+  pub within : n ≤ length bytes
+  pub well_formed : IsUtf8 (take n bytes)
+  pub longest : (m : ℕ) → m ≤ length bytes → IsUtf8 (take m bytes) → m ≤ n
+
+-- ---- tokens: single ones (numbers, quoted texts and words), commas and the two kinds of delimiters; and the tokens of a text, with white space before, between and after them
 
 -- the kinds of single tokens: numbers, quoted texts and words
 pub data Kind : Type 0 where

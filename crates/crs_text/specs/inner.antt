@@ -1,11 +1,9 @@
 pub mod Examples
 pub mod Feeding
 pub mod KeywordTable
-pub mod Laid
 pub mod Lexing
 pub mod Nesting
 pub mod Prelude
-pub mod Rows
 pub mod Runs
 pub mod Scan
 pub mod State

@@ -1,7 +1,6 @@
 //! Texts that come in pieces.
 ghost use Rattle.std.specs.Prelude.{◌≡◌, ◌++◌, [], None, take, IfErr, MatchResult};
-ghost use Rattle.crs_text.specs.Settled.{IsTakenSoFar, IsPieceFault, IsWantUnrefused};
-ghost use Rattle.crs_text.specs.TextFault.{SpellsNode, IsTextFault};
+ghost use Rattle.crs_text.specs.TextFault.{IsTakenSoFar, IsPieceFault, IsWantUnrefused, SpellsNode, IsTextFault};
 ghost use Rattle.crs_text.specs.inner.Feeding.{IsSettledTo, IsRefusalOf};
 
 use crate::fault::Fault;

@@ -1,11 +1,9 @@
 ghost use Rattle.std.specs.Prelude.{◌≡◌, ℕ, ◌+◌, ◌^◌, ◌<◌, ◌≤◌, ◌↔◌, IfSome, IsTrue, Option, length, take, drop, slice_index_or};
 ghost use Rattle.crs_text.specs.Items.{More, End, arguments, count, first_of, rest_of, skip, kind_of_item, raw_of, place_of};
 ghost use Rattle.crs_text.specs.Items.{keyword_in, close_of, size_of, here, HasId, IsAt, IsNumberOf};
-ghost use Rattle.crs_text.specs.inner.Table.{no_row};
-ghost use Rattle.crs_text.specs.inner.Rows.{rows, row_of};
-ghost use Rattle.crs_text.specs.inner.Tree.{raw_place};
+ghost use Rattle.crs_text.specs.inner.Table.{no_row, rows, row_of};
+ghost use Rattle.crs_text.specs.inner.Tree.{raw_place, AreSquare, bytes_beside, bytes_of_rows};
 ghost use Rattle.crs_text.specs.Written.{AreFormed, item_text};
-ghost use Rattle.crs_text.specs.inner.Laid.{AreSquare, bytes_beside, bytes_of_rows};
 
 use crate::keyword::Keyword;
 use crate::table::{Row, Table};

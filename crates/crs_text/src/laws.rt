@@ -3,13 +3,12 @@ ghost use Rattle.std.specs.Prelude.{◌≡◌, ◌≤◌, ◌↔◌, ◌⊎◌, 
 ghost use Rattle.crs_text.specs.Tokens.{Token, opening, AreTokens};
 ghost use Rattle.crs_text.specs.Items.{Item, tokens, AreNode, BeginsNoNode};
 ghost use Rattle.crs_text.specs.Keywords.{AreSpelled};
-ghost use Rattle.crs_text.specs.TextFault.{SpellsNode, RefusesText};
+ghost use Rattle.crs_text.specs.TextFault.{SpellsNode, RefusesText, IsSettledRefusal, IsTakenSoFar};
 ghost use Rattle.crs_text.specs.Position.{IsPosition};
 ghost use Rattle.crs_text.specs.declared.position.Position.{Position};
 ghost use Rattle.crs_text.specs.Written.{WrittenSpells, AreFormed, item_text, at_place};
 ghost use Rattle.crs_text.specs.inner.Examples.{AreSized, AreFoundByNumber, AreLimited, AreSettledRows};
 ghost use Rattle.crs_text.specs.Viable.{IsViable, IsViableAtAnyDepth, Allows, IsFull};
-ghost use Rattle.crs_text.specs.Settled.{IsSettledRefusal, IsTakenSoFar};
 
 /// Letter case doesn't count in a keyword: a word is one exactly where it is that one's spelling, letter case aside.
 /// ISO 19162:2019, "Keywords".

@@ -1,9 +1,8 @@
 //! The token at the front of what is left of a text, or its flaw. Runs are found as a whole, not byte by byte.
 ghost use Rattle.std.specs.Prelude.{◌≡◌, ◌+◌, ◌≤◌, ◌<◌, ◌∷◌, length, take, drop, MatchOption, MatchBool, MatchResult, IsTrue, IfSome};
-ghost use Rattle.crs_text.specs.Quoted.{BeginsWith, IsInside, StopsAt, is_quote};
+ghost use Rattle.crs_text.specs.Tokens.{BeginsWith, IsInside, StopsAt, is_quote, IsLongestUtf8, IsUtf8Front};
 ghost use Rattle.crs_text.specs.inner.Lexing.{IsShutAt, IsLexed, IsValidTo};
 ghost use Rattle.crs_decimal.specs.Spelling as spelling;
-ghost use Rattle.crs_text.specs.Utf8.{IsLongestUtf8, IsUtf8Front};
 ghost use Rattle.crs_text.specs.inner.Runs.{IsOneDigit, IsSigned, IsFractional};
 
 use crate::refusal::Reason;

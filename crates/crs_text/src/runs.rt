@@ -1,7 +1,7 @@
 //! How far runs of bytes go, sixteen bytes at a time.
 ghost use Rattle.std.specs.Prelude.{◌≡◌, ◌≤◌, ℕ, Bool, length, IsTrue, IsFalse, IfSome};
 ghost use Rattle.std.specs.List.{prefix_len};
-ghost use Rattle.crs_text.specs.Quoted.{StopsAt};
+ghost use Rattle.crs_text.specs.Tokens.{StopsAt};
 ghost use Rattle.crs_text.specs.inner.Runs.{first_set, is_plain_ascii};
 ghost use Rattle.crs_text.specs.Tokens as tokens;
 ghost use Rattle.crs_decimal.specs.Spelling as spelling;

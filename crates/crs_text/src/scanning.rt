@@ -1,8 +1,7 @@
 //! From a text to its items, in one pass: each token is found, and the table takes it or refuses it.
 ghost use Rattle.std.specs.Prelude.{◌≡◌, ◌+◌, ◌≤◌, ◌<◌, ℕ, List, length, drop, true, MatchResult, IfSome, IsTrue};
 ghost use Rattle.std.specs.List.{prefix_len};
-ghost use Rattle.crs_text.specs.Tokens.{Forms, opening, is_letter, is_white};
-ghost use Rattle.crs_text.specs.Quoted.{BeginsWith};
+ghost use Rattle.crs_text.specs.Tokens.{Forms, opening, is_letter, is_white, BeginsWith};
 ghost use Rattle.crs_text.specs.TextFault.{IsTextFault, SpellsNode};
 ghost use Rattle.crs_text.specs.inner.Scan.{IsReached, IsFurther, IsPassed, IsTaken, IsStoppedBy, IsScanned};
 ghost use Rattle.crs_text.specs.inner.Lexing.{IsLexed};

@@ -1,10 +1,9 @@
 ghost use Rattle.std.specs.Prelude.{◌≡◌, ◌+◌, ◌-◌, ◌<◌, ◌≤◌, ◌&&◌, true, IsSome, IfOk, OnOk, OnErr, MatchBool, [], length};
 ghost use Rattle.crs_text.specs.inner.Table.{may_begin, with_first, with_opened, flat_single, may_go_on, flat_comma, has_square};
-ghost use Rattle.crs_text.specs.inner.Table.{flat_close, IsStep, IsOpened, IsNodeBegun, is_whole};
+ghost use Rattle.crs_text.specs.inner.Table.{flat_close, IsStep, IsOpened, IsNodeBegun, is_whole, flat};
 ghost use Rattle.crs_text.specs.Items.{keyword_at};
 ghost use Rattle.crs_text.specs.Keywords.{keyword_of};
 ghost use Rattle.crs_text.specs.inner.State.{start};
-ghost use Rattle.crs_text.specs.inner.Rows.{flat};
 
 use crate::items::ItemKind;
 use crate::keyword::Keyword;

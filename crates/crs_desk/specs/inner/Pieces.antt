@@ -1,6 +1,6 @@
 -- A bridge: what a feeder holds of a text that is read piece by piece.
 use Rattle.std.specs.Prelude.{◌≡◌, ◌⊎◌, ◌++◌, ℕ, Bool, true, false, List}
-use Rattle.crs_text.specs.Settled.{IsSettledRefusal}
+use Rattle.crs_text.specs.TextFault.{IsSettledRefusal}
 use Rattle.crs_streams.specs.Streams.{SourceState}
 use Rattle.crs_desk.specs.Whole.{IsWhole}
 

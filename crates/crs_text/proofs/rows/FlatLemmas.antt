@@ -9,7 +9,7 @@ use Rattle.crs_text.specs.Tokens.{Kind, number, word, Token, single, comma, open
 use Rattle.crs_text.specs.Items.{Item, leaf, Siblings, End, More, count}
 use Rattle.crs_text.specs.inner.State.{Frame, State, wants, worded, after, gather, only_if, same_square, behind_leaf, behind_item, step}
 use Rattle.crs_text.specs.inner.Table.{Flat, item_kind, leaf_row, no_row, may_begin, counted, flat_step, flat_single, flat_comma, flat_open, flat_close, with_leaf, with_open, with_close, IsNodeBegun}
-use Rattle.crs_text.specs.inner.Rows.{node_rows, rows, rows_of_items, rows_before, open_row, rows_of_frames, opens_of, flat}
+use Rattle.crs_text.specs.inner.Table.{node_rows, rows, rows_of_items, rows_before, open_row, rows_of_frames, opens_of, flat}
 use Rattle.crs_text.specs.declared.items.ItemKind.TheVariants.{Word, Node}
 use Rattle.crs_text.specs.declared.table.Row.{Row}
 use Rattle.crs_text.specs.declared.table.Open.{Open}

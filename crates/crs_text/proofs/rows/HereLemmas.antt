@@ -5,7 +5,7 @@ use Rattle.std.proofs.Math.Seq.{drop-append_seam}
 use Rattle.std.proofs.lemmas.List.{append-nil, map-append}
 use Rattle.crs_text.specs.Tokens.{number, text, word}
 use Rattle.crs_text.specs.Items.{Item, leaf, node, Siblings, End, More, arguments, size_of, sizes, inside, inside_items}
-use Rattle.crs_text.specs.inner.Rows.{rows, rows_of_items, row_of}
+use Rattle.crs_text.specs.inner.Table.{rows, rows_of_items, row_of}
 use Rattle.crs_text.specs.declared.table.Row.{Row}
 
 -- an item, how many delimiters are open around it, and the later arguments of its node

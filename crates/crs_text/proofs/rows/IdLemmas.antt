@@ -5,7 +5,7 @@ use Rattle.std.proofs.Math.Seq.{drop-cons, take-append_seam}
 use Rattle.std.proofs.lemmas.Bool.{cases_lt}
 use Rattle.std.proofs.lemmas.List.{length-map, map-append, get_or-map, get_or_past, drop-drop, drop-map}
 use Rattle.crs_text.specs.Items.{Item, Siblings, End, More, arguments, count, first_of, rest_of, skip, size_of, here, HasId, IsAt}
-use Rattle.crs_text.specs.inner.Rows.{rows, row_of}
+use Rattle.crs_text.specs.inner.Table.{rows, row_of}
 use Rattle.crs_text.specs.declared.table.Row.{Row}
 use Rattle.crs_text.proofs.rows.HereLemmas.{Here, items_at, row_at, heres, Begins, Continues, IsLinked, AreLinked, length-rows, linked-heres, linked-drop, rows-heres, rows-heres_in, items-heres}
 

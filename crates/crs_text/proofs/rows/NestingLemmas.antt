@@ -4,9 +4,8 @@ use Rattle.std.specs.Option.{option_to_list}
 use Rattle.std.specs.List.{fold, prefix_len}
 use Rattle.std.proofs.lemmas.List.{append-nil, length-drop, drop-drop, reverse-append}
 use Rattle.std.proofs.lemmas.List.Sums.{fold-append, prefix_len-le-length}
-use Rattle.crs_text.specs.Quoted.{StopsAt}
+use Rattle.crs_text.specs.Tokens.{StopsAt, Token, single, comma, opening, closing, opening_byte, is_white, Forms, Fronts, IsAfterWhite}
 use Rattle.crs_text.specs.Tokens as tokens
-use Rattle.crs_text.specs.Tokens.{Token, single, comma, opening, closing, opening_byte, is_white, Forms, Fronts, IsAfterWhite}
 use Rattle.crs_text.specs.Items.{Item, AreNode}
 use Rattle.crs_text.specs.Items as items
 use Rattle.crs_text.specs.Viable.{IsViable, open_after, opens, last_of, MayFollow}

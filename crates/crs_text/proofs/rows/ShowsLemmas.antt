@@ -5,8 +5,7 @@ use Rattle.crs_text.specs.Tokens.{Token, opening}
 use Rattle.crs_text.specs.Items.{Item, AreNode}
 use Rattle.crs_text.specs.Viable.{IsViable, IsViableAtAnyDepth}
 use Rattle.crs_text.specs.inner.State.{State, wants, worded, after, start, step, run}
-use Rattle.crs_text.specs.inner.Table.{Flat, flat_step, IsOpened, is_whole}
-use Rattle.crs_text.specs.inner.Rows.{flat, Shows}
+use Rattle.crs_text.specs.inner.Table.{Flat, flat_step, IsOpened, is_whole, flat, Shows}
 use Rattle.crs_text.specs.declared.table.Opened.TheVariants.{TooDeep, Refused}
 use Rattle.crs_text.specs.declared.table.Progress.{Progress}
 use Rattle.crs_text.specs.declared.table.Progress.TheVariants.{BeforeItem, AfterWord, AfterItem}

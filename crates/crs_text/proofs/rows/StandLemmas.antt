@@ -4,8 +4,7 @@ use Rattle.std.proofs.lemmas.List.{length-append, drop_at}
 use Rattle.std.proofs.Math.Seq.{take-append_seam}
 use Rattle.crs_text.specs.Tokens as tokens
 use Rattle.crs_text.specs.Tokens.{Token, single, spelling, IsFormed, Forms, Fronts}
-use Rattle.crs_text.specs.inner.Laid.{AreLaid, EndsIn}
-use Rattle.crs_text.specs.inner.Tree.{StandsAt, TokenStands, AllStand, EachToken, IsTable}
+use Rattle.crs_text.specs.inner.Tree.{AreLaid, EndsIn, StandsAt, TokenStands, AllStand, EachToken, IsTable}
 use Rattle.crs_text.specs.inner.Table.{Flat}
 use Rattle.crs_text.specs.inner.Scan.{IsScanned}
 use Rattle.crs_text.proofs.texts.WrittenLemmas.{fronts_formed}

@@ -9,8 +9,7 @@ use Rattle.crs_decimal.specs.declared.fault.NumberFault.{NumberFault}
 use Rattle.crs_decimal.specs.declared.fault.NumberFault.TheVariants.{Malformed, Range}
 use Rattle.crs_text.specs.Tokens.{Kind, number, word, Token, single, comma, opening, closing, IsFormed}
 use Rattle.crs_text.specs.Items.{Item, leaf, node, Siblings, End, More, tokens, others_tokens, first_of, kind_of_item, raw_of, place_of, here, HasId}
-use Rattle.crs_text.specs.inner.Table.{item_kind, leaf_row}
-use Rattle.crs_text.specs.inner.Rows.{rows, rows_of_items, row_of}
+use Rattle.crs_text.specs.inner.Table.{item_kind, leaf_row, rows, rows_of_items, row_of}
 use Rattle.crs_text.specs.inner.Tree.{part_of, parts, parts_of_items, tree, tree-parts, raw_place, part, tree_of, StandsAt, TokenStands, EachToken, AllStand, IsTable}
 use Rattle.crs_text.specs.declared.items.ItemKind.TheVariants.{Number}
 use Rattle.crs_text.specs.declared.table.Row.{Row}

@@ -1,12 +1,10 @@
 -- The worked texts of which a part is settled.
 use Rattle.std.proofs.Common.{◌≡◌, ℕ, ◌+◌, Some, None, true, false, codes, List, [], ◌∷◌, ◌++◌, length, refl, arith, IsUtf8}
-use Rattle.crs_text.specs.Quoted.{is_quote}
+use Rattle.crs_text.specs.Tokens.{is_quote, Token, single, comma, opening, closing, is_white}
 use Rattle.crs_text.specs.Tokens as tokens
-use Rattle.crs_text.specs.Tokens.{Token, single, comma, opening, closing, is_white}
 use Rattle.crs_text.specs.inner.State.{State, start, step, run}
-use Rattle.crs_text.specs.TextFault.{IsTooDeep}
+use Rattle.crs_text.specs.TextFault.{IsTooDeep, FormsSettled, SettledFronts, IsSettledRefusal, IsTakenSoFar}
 use Rattle.crs_text.specs.declared.refusal.Reason.TheVariants.{BadCharacter, Unexpected}
-use Rattle.crs_text.specs.Settled.{FormsSettled, SettledFronts, IsSettledRefusal, IsTakenSoFar}
 use Rattle.crs_text.specs.inner.Examples.{begun}
 use Rattle.crs_text.proofs.tokens.FrontsLemmas.{at_once}
 use Rattle.crs_text.proofs.tokens.ViableLemmas.{viable_from_run}

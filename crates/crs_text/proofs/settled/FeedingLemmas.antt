@@ -9,19 +9,15 @@ use Rattle.std.proofs.lemmas.List.Sums.{prefix_len-le-length, prefix_len_stops}
 use Rattle.std.proofs.lemmas.Bool.{and_parts}
 use Rattle.crs_decimal.specs.inner.Prelude.{is_run_byte, is_run_start}
 use Rattle.crs_text.specs.Tokens as tokens
-use Rattle.crs_text.specs.Tokens.{Kind, number, word, Token, single, comma, opening, closing, is_white, is_letter, is_word_byte, IsWord, Forms, IsAfterWhite}
-use Rattle.crs_text.specs.Quoted.{StopsAt, BeginsWith, doubled, IsInside, IsShut}
+use Rattle.crs_text.specs.Tokens.{Kind, number, word, Token, single, comma, opening, closing, is_white, is_letter, is_word_byte, IsWord, Forms, IsAfterWhite, StopsAt, BeginsWith, doubled, IsInside, IsShut, IsUtf8Front}
 use Rattle.crs_text.specs.inner.Lexing.{IsShutAt, IsValidTo, IsLexed}
-use Rattle.crs_text.specs.Utf8.{IsUtf8Front}
-use Rattle.crs_text.specs.TextFault.{IsFlaw, IsStop, IsTextFault}
-use Rattle.crs_text.specs.Settled.{IsSettled, FormsSettled, SettledFronts, IsRunSettled, IsSettledStop, IsTakenSoFar}
+use Rattle.crs_text.specs.TextFault.{IsFlaw, IsStop, IsTextFault, IsSettled, FormsSettled, SettledFronts, IsRunSettled, IsSettledStop, IsTakenSoFar}
 use Rattle.crs_text.specs.inner.Feeding.{IsFlawSettled, IsLexedSettled, IsUnsettled, IsSettledTo, IsUnsettledAt, IsSettledFault, IsPendingIn, IsPendingBefore, StaysPending, IsUnsettledIn, IsInsideTo, IsOpenTo, IsFedTo, IsFed, IsRefusalOf}
 use Rattle.crs_text.specs.declared.feeding.Held.{Held}
 use Rattle.crs_text.specs.declared.feeding.Pending.{Pending}
 use Rattle.crs_text.specs.declared.feeding.Pending.TheVariants as pending
-use Rattle.crs_text.specs.inner.Rows.{Shows, flat}
+use Rattle.crs_text.specs.inner.Table.{Shows, flat, Flat}
 use Rattle.crs_text.specs.inner.State.{start}
-use Rattle.crs_text.specs.inner.Table.{Flat}
 use Rattle.crs_text.specs.Refusal.{RefusedAt}
 use Rattle.crs_text.specs.inner.Scan.{IsReached, IsTaken, IsStoppedBy}
 use Rattle.crs_text.specs.declared.fault.Fault.{Fault}

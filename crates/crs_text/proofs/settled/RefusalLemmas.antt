@@ -4,12 +4,10 @@ use Rattle.std.specs.List.{list_all}
 use Rattle.std.proofs.lemmas.Bool.{cases_Bool}
 use Rattle.crs_decimal.specs.inner.Prelude.{is_run_byte}
 use Rattle.crs_text.specs.Tokens.{Token, single}
-use Rattle.crs_text.specs.inner.Table.{Flat}
-use Rattle.crs_text.specs.inner.Rows.{Shows}
+use Rattle.crs_text.specs.inner.Table.{Flat, Shows}
 use Rattle.crs_text.specs.declared.refusal.Reason.{Reason}
 use Rattle.crs_text.specs.declared.refusal.Reason.TheVariants.{BadCharacter, BadNumber, NumberRange, NotUtf8}
-use Rattle.crs_text.specs.TextFault.{reason_number, IsStop}
-use Rattle.crs_text.specs.Settled.{IsSettled, SettledFronts, IsRunSettled, IsSettledRefusal, IsTakenSoFar}
+use Rattle.crs_text.specs.TextFault.{reason_number, IsStop, IsSettled, SettledFronts, IsRunSettled, IsSettledRefusal, IsTakenSoFar}
 use Rattle.crs_text.specs.inner.Feeding.{IsFlawSettled, IsUnsettled}
 use Rattle.crs_text.proofs.tokens.QuotedLemmas.{true_not_false}
 use Rattle.crs_text.proofs.rows.ShowsLemmas.{viable_from_shows}

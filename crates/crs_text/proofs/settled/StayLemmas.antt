@@ -5,14 +5,11 @@ use Rattle.std.proofs.lemmas.List.{append-nil, length-append}
 use Rattle.std.proofs.lemmas.List.Folds.{list_all-append}
 use Rattle.std.proofs.lemmas.Bool.{cases_lt}
 use Rattle.crs_decimal.specs.inner.Prelude.{is_run_byte}
-use Rattle.crs_text.specs.Quoted.{StopsAt, is_quote, IsShut, Through}
-use Rattle.crs_text.specs.Utf8.{IsUtf8Front}
-use Rattle.crs_text.specs.Tokens.{Token, single, closing, is_white, takes_byte, Ends, IsPlaced, spelling, Forms, IsAfterWhite, Fronts}
+use Rattle.crs_text.specs.Tokens.{StopsAt, is_quote, IsShut, Through, IsUtf8Front, Token, single, closing, is_white, takes_byte, Ends, IsPlaced, spelling, Forms, IsAfterWhite, Fronts}
 use Rattle.crs_text.specs.Viable.{IsViable}
 use Rattle.crs_text.specs.declared.refusal.Reason.{Reason}
 use Rattle.crs_text.specs.declared.refusal.Reason.TheVariants.{BadCharacter, BadNumber, NumberRange, NotUtf8, OpenText, Unexpected, UnexpectedEnd, TooDeep}
-use Rattle.crs_text.specs.TextFault.{BeginsNoToken, IsFirstRun, IsFlaw, IsStop, RefusesText}
-use Rattle.crs_text.specs.Settled.{IsSettled, FormsSettled, SettledFronts, IsRunSettled, IsSettledStop, IsSettledRefusal, IsTakenSoFar}
+use Rattle.crs_text.specs.TextFault.{BeginsNoToken, IsFirstRun, IsFlaw, IsStop, RefusesText, IsSettled, FormsSettled, SettledFronts, IsRunSettled, IsSettledStop, IsSettledRefusal, IsTakenSoFar}
 use Rattle.crs_text.specs.inner.Feeding.{IsUnsettled}
 use Rattle.crs_text.proofs.tokens.TokenLemmas.{Forms-one}
 use Rattle.crs_text.proofs.tokens.FlawLemmas.{flaw_some}

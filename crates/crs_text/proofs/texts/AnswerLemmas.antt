@@ -6,8 +6,7 @@ use Rattle.crs_text.specs.Tokens.{Token, opening, is_white, Forms, IsAfterWhite,
 use Rattle.crs_text.specs.Items.{Item}
 use Rattle.crs_text.specs.Viable.{IsViable}
 use Rattle.crs_text.specs.inner.State.{start}
-use Rattle.crs_text.specs.inner.Table.{Flat, flat_step, is_whole}
-use Rattle.crs_text.specs.inner.Rows.{Shows, flat}
+use Rattle.crs_text.specs.inner.Table.{Flat, flat_step, is_whole, Shows, flat}
 use Rattle.crs_text.specs.declared.refusal.Reason.{Reason}
 use Rattle.crs_text.specs.declared.refusal.Reason.TheVariants.{Unexpected, UnexpectedEnd, TooDeep}
 use Rattle.crs_text.specs.declared.table.Progress.{Progress}

@@ -3,9 +3,7 @@ use Rattle.std.proofs.Common.{◌≡◌, ℕ, ◌+◌, false, List, [], ◌∷�
 use Rattle.std.specs.List.{list_all}
 use Rattle.std.proofs.lemmas.Bool.Decides.{nat_tests}
 use Rattle.crs_decimal.specs.inner.Prelude.{is_run_byte, HasForm, IsInBounds}
-use Rattle.crs_text.specs.Quoted.{IsInside, StopsAt, Through}
-use Rattle.crs_text.specs.Utf8.{IsUtf8Front, IsLongestUtf8}
-use Rattle.crs_text.specs.Tokens.{number, text, Token, single, Forms}
+use Rattle.crs_text.specs.Tokens.{IsInside, StopsAt, Through, IsUtf8Front, IsLongestUtf8, number, text, Token, single, Forms}
 use Rattle.crs_text.specs.declared.refusal.Reason.{Reason}
 use Rattle.crs_text.specs.declared.refusal.Reason.TheVariants.{BadCharacter, BadNumber, NumberRange, NotUtf8, OpenText}
 use Rattle.crs_text.specs.TextFault.{begins_token, BeginsNoToken, IsFirstRun, IsFlaw}

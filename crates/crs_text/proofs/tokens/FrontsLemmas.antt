@@ -3,8 +3,7 @@ use Rattle.std.proofs.Common.{◌≡◌, ℕ, ◌<◌, true, false, List, [], �
 use Rattle.std.proofs.lemmas.Bool.Decides.{nat_tests}
 use Rattle.std.proofs.lemmas.List.{length-append}
 use Rattle.crs_decimal.specs.inner.Prelude.{is_run_start}
-use Rattle.crs_text.specs.Quoted.{StopsAt, BeginsWith}
-use Rattle.crs_text.specs.Tokens.{number, word, Token, single, is_white, is_letter, IsWord, IsFormed, Forms, IsAfterWhite, Fronts, spelling}
+use Rattle.crs_text.specs.Tokens.{StopsAt, BeginsWith, number, word, Token, single, is_white, is_letter, IsWord, IsFormed, Forms, IsAfterWhite, Fronts, spelling}
 use Rattle.crs_text.proofs.tokens.QuotedLemmas.{run_split}
 use Rattle.crs_text.proofs.tokens.TokenLemmas.{Forms-one}
 

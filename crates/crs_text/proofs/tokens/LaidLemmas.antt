@@ -5,9 +5,8 @@ use Rattle.std.proofs.lemmas.List.{append-nil, length-append, nil_from_length}
 use Rattle.std.proofs.Math.Seq.{drop-cons}
 use Rattle.crs_text.specs.Tokens.{number, text, word, Token, single, opening, closing, spelling, IsAfterWhite, Forms, Fronts}
 use Rattle.crs_text.specs.Items.{Item, leaf, node, Siblings, End, More, tokens, others_tokens, count, first_of, here, HasId}
-use Rattle.crs_text.specs.inner.Laid.{AreLaid, AreSquare, EndsIn, bytes_beside, bytes_of_rows}
-use Rattle.crs_text.specs.inner.Rows.{rows, rows_of_items, row_of}
-use Rattle.crs_text.specs.inner.Tree.{StandsAt}
+use Rattle.crs_text.specs.inner.Tree.{AreLaid, AreSquare, EndsIn, bytes_beside, bytes_of_rows, StandsAt}
+use Rattle.crs_text.specs.inner.Table.{rows, rows_of_items, row_of}
 use Rattle.crs_text.specs.Written.{item_text, others_text}
 use Rattle.crs_text.specs.declared.items.ItemKind.TheVariants.{Node}
 use Rattle.crs_text.specs.declared.table.Row.{Row}

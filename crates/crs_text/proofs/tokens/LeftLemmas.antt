@@ -6,9 +6,7 @@ use Rattle.std.specs.Str.Lossy.{utf8_valid_len, utf8_error_len}
 use Rattle.std.proofs.lemmas.Bool.{cases_Bool, eqb-true, or_from}
 use Rattle.bstr.proofs.lemmas.LossyLemmas.{utf8_valid_len-cases}
 use Rattle.crs_decimal.specs.inner.Prelude.{is_run_byte, is_run_start, HasForm, IsInBounds}
-use Rattle.crs_text.specs.Quoted.{IsInside, IsShut, BeginsWith, is_quote, doubled}
-use Rattle.crs_text.specs.Utf8.{IsLongestUtf8}
-use Rattle.crs_text.specs.Tokens.{Kind, number, text, word, Token, single, comma, opening, closing, is_letter, is_word_byte, Forms}
+use Rattle.crs_text.specs.Tokens.{IsInside, IsShut, BeginsWith, is_quote, doubled, IsLongestUtf8, Kind, number, text, word, Token, single, comma, opening, closing, is_letter, is_word_byte, Forms}
 use Rattle.crs_text.specs.inner.Lexing.{StandsBefore}
 use Rattle.crs_text.specs.declared.refusal.Reason.{Reason}
 use Rattle.crs_text.specs.declared.refusal.Reason.TheVariants.{BadCharacter, BadNumber, NumberRange, NotUtf8, OpenText}

@@ -7,10 +7,8 @@ use Rattle.std.proofs.lemmas.Bool.Decides.{nat_tests}
 use Rattle.std.proofs.lemmas.List.Sums.{prefix_len-le-length}
 use Rattle.std.proofs.lemmas.Bool.{and_from, cases_Bool}
 use Rattle.std.specs.List.{list_all, prefix_len}
-use Rattle.crs_text.specs.Quoted.{IsInside, StopsAt, BeginsWith, is_quote}
+use Rattle.crs_text.specs.Tokens.{IsInside, StopsAt, BeginsWith, is_quote, IsUtf8Front, IsLongestUtf8, is_letter, is_word_byte, IsWord}
 use Rattle.crs_text.specs.inner.Lexing.{IsShutAt, IsLexed}
-use Rattle.crs_text.specs.Utf8.{IsUtf8Front, IsLongestUtf8}
-use Rattle.crs_text.specs.Tokens.{is_letter, is_word_byte, IsWord}
 use Rattle.crs_decimal.specs.inner.Prelude.{is_run_byte, is_run_start, HasForm, IsInBounds}
 use Rattle.crs_text.specs.TextFault.{IsFirstRun, IsFlaw}
 use Rattle.crs_text.proofs.tokens.TokenLemmas.{letter_in_word}

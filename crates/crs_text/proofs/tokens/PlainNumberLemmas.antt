@@ -6,7 +6,7 @@ use Rattle.std.proofs.lemmas.List.{length-append, length-take, append-nil, take-
 use Rattle.std.proofs.lemmas.List.Folds.{list_all-append}
 use Rattle.std.proofs.lemmas.List.Sums.{prefix_len-le-length}
 use Rattle.crs_decimal.specs.inner.Prelude.{unsigned, sign_text, fraction_text, fraction_digits, Parts, IsForm, HasForm, AreDigits, mantissa, parts_text, is_digit, is_run_byte, is_run_start, IsRun, SpellsNumber, IsInBounds}
-use Rattle.crs_text.specs.Quoted.{StopsAt, BeginsWith}
+use Rattle.crs_text.specs.Tokens.{StopsAt, BeginsWith}
 use Rattle.crs_text.specs.inner.Runs.{IsOneDigit, IsSigned, IsFractional}
 use Rattle.crs_text.specs.inner.Lexing.{IsLexed}
 use Rattle.crs_text.specs.declared.lexing.Lexed.TheVariants.{Number}

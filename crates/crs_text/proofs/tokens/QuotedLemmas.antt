@@ -9,7 +9,7 @@ use Rattle.std.specs.List.{list_all, prefix_len}
 use Rattle.std.proofs.Math.Numerals.{one-add}
 use Rattle.std.proofs.lemmas.List.Sums.{prefix_len_is, prefix_len_stops}
 use Rattle.std.proofs.lemmas.Bool.Decides.{nat_tests}
-use Rattle.crs_text.specs.Quoted.{doubled, IsInside, StopsAt, is_quote, IsShut}
+use Rattle.crs_text.specs.Tokens.{doubled, IsInside, StopsAt, is_quote, IsShut}
 use Rattle.crs_text.specs.inner.Runs.{is_plain}
 
 -- what two lists begin with, and what they go on with

@@ -13,7 +13,7 @@ use Rattle.std.proofs.Math.Seq.{drop-cons}
 use Rattle.std.specs.Str.{IsAscii}
 use Rattle.std.specs.List.{prefix_len}
 use lib.Lanes.{chunk, mask_l, top, Each1}
-use Rattle.crs_text.specs.Quoted.{StopsAt, is_quote}
+use Rattle.crs_text.specs.Tokens.{StopsAt, is_quote}
 use Rattle.crs_text.specs.inner.Lexing.{IsShutAt}
 use Rattle.crs_text.specs.inner.Runs.{is_plain, first_set, is_plain_ascii}
 use Rattle.crs_text.proofs.tokens.QuotedLemmas.{shut_at, within_at}

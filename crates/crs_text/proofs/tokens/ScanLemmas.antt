@@ -7,8 +7,7 @@ use Rattle.crs_text.specs.Tokens as tokens
 use Rattle.crs_text.specs.Tokens.{Kind, Token, single, comma, opening, closing, opening_byte, closing_byte, is_white, Forms, Fronts, IsAfterWhite}
 use Rattle.crs_text.specs.Items.{Item}
 use Rattle.crs_text.specs.TextFault.{reason_number, IsFlaw, IsTooDeep, IsStop, IsTextFault, RefusesText, SpellsNode}
-use Rattle.crs_text.specs.inner.Table.{Flat, item_kind, flat_single, flat_step, with_leaf, IsStep, IsOpened, IsNodeBegun, is_whole}
-use Rattle.crs_text.specs.inner.Rows.{Shows, flat}
+use Rattle.crs_text.specs.inner.Table.{Flat, item_kind, flat_single, flat_step, with_leaf, IsStep, IsOpened, IsNodeBegun, is_whole, Shows, flat}
 use Rattle.crs_text.specs.inner.State.{start, after}
 use Rattle.crs_text.specs.inner.Lexing.{IsLexed, StandsBefore}
 use Rattle.crs_text.specs.Refusal.{RefusedAt}

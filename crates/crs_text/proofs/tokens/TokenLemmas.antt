@@ -4,8 +4,7 @@ use Rattle.std.specs.List.{list_all}
 use Rattle.std.proofs.lemmas.Bool.Decides.{nat_tests}
 use Rattle.std.proofs.lemmas.Bool.{and_from}
 use Rattle.crs_decimal.specs.inner.Prelude.{is_run_byte, is_run_start}
-use Rattle.crs_text.specs.Quoted.{BeginsWith, IsShut}
-use Rattle.crs_text.specs.Tokens.{Kind, number, text, word, Token, single, comma, opening, closing, is_letter, is_word_byte, IsWord, opening_byte, closing_byte, Forms}
+use Rattle.crs_text.specs.Tokens.{BeginsWith, IsShut, Kind, number, text, word, Token, single, comma, opening, closing, is_letter, is_word_byte, IsWord, opening_byte, closing_byte, Forms}
 use Rattle.crs_text.proofs.tokens.QuotedLemmas.{same_tail, run_split, shut_one}
 
 -- a token without its place and raw bytes

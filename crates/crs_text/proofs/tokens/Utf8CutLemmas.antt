@@ -3,7 +3,7 @@ use Rattle.std.proofs.Common.{le-ltb, ne_eqb, length-append, ◌*◌, Bool, true
 use Rattle.std.proofs.lemmas.Bool.{cases_lt}
 use Rattle.std.proofs.lemmas.Bool.Decides.{nat_tests}
 use Rattle.std.proofs.lemmas.Str.{IsUtf8-nil}
-use Rattle.crs_text.specs.Utf8.{IsUtf8Front}
+use Rattle.crs_text.specs.Tokens.{IsUtf8Front}
 use Rattle.std.specs.Str.Lossy.{utf8_error_len, second_byte_min, second_byte_max}
 use Rattle.std.specs.Int.{is_in_range}
 use Rattle.std.proofs.str.Valid.{of_one, of_two, of_three, of_four}

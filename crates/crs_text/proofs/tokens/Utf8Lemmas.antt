@@ -7,7 +7,7 @@ use Rattle.std.specs.Str.{IsValidUpTo}
 use Rattle.std.specs.Str.Lossy.{utf8_error_len}
 use Rattle.std.proofs.str.Valid.{longer}
 use Rattle.crs_text.proofs.tokens.Utf8CutLemmas.{HasNoFront, completion, not_completed, IsCut-from_error_len, error_len_from_IsCut}
-use Rattle.crs_text.specs.Utf8.{IsUtf8Front, IsLongestUtf8}
+use Rattle.crs_text.specs.Tokens.{IsUtf8Front, IsLongestUtf8}
 
 -- an ASCII byte is in no sequence but its own
 pub IsUtf8-before_ascii : (raw rest : List ℕ) (b : ℕ) → b < 128 → IsUtf8 (raw ++ b ∷ rest) → IsUtf8 raw

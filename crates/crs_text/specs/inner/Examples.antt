@@ -4,7 +4,7 @@ use Rattle.std.specs.Prelude.{◌≡◌, ℕ, zero, suc, codes, true, List, [], 
 use Rattle.crs_text.specs.Tokens.{number, text, word, Token, single, opening}
 use Rattle.crs_text.specs.Items.{Item, leaf, node, End, More, arguments, rest_of, skip, size_of, here}
 use Rattle.crs_text.specs.Viable.{IsFull}
-use Rattle.crs_text.specs.Settled.{IsSettledRefusal, IsTakenSoFar}
+use Rattle.crs_text.specs.TextFault.{IsSettledRefusal, IsTakenSoFar}
 
 -- the bytes `VERTCRS["H"`
 abbrev pub begun : List ℕ

@@ -2,12 +2,10 @@
 use Rattle.std.specs.Prelude.{◌≡◌, ℕ, ◌+◌, ◌≤◌, ◌<◌, IsTrue, ◌⊎◌, Option, Some, None, List, ◌∷◌, ◌++◌, [], length, take, drop}
 use Rattle.std.specs.List.{list_all}
 use Rattle.crs_decimal.specs.Spelling.{is_run_byte, is_run_start}
-use Rattle.crs_text.specs.Quoted.{BeginsWith, StopsAt, IsInside}
-use Rattle.crs_text.specs.Tokens.{Token, is_white, is_letter, is_word_byte}
-use Rattle.crs_text.specs.Settled.{FormsSettled, SettledFronts, IsRunSettled, IsSettledStop, IsSettledRefusal, IsTakenSoFar}
-use Rattle.crs_text.specs.inner.Table.{Flat}
+use Rattle.crs_text.specs.Tokens.{BeginsWith, StopsAt, IsInside, Token, is_white, is_letter, is_word_byte}
+use Rattle.crs_text.specs.TextFault.{FormsSettled, SettledFronts, IsRunSettled, IsSettledStop, IsSettledRefusal, IsTakenSoFar}
+use Rattle.crs_text.specs.inner.Table.{Flat, Shows}
 use Rattle.crs_text.specs.inner.Lexing.{IsValidTo}
-use Rattle.crs_text.specs.inner.Rows.{Shows}
 use Rattle.crs_text.specs.Refusal.{RefusedAt}
 use Rattle.crs_text.specs.declared.refusal.Reason.{Reason}
 use Rattle.crs_text.specs.declared.refusal.Reason.TheVariants.{BadCharacter, BadNumber, NumberRange, NotUtf8, OpenText, Unexpected, UnexpectedEnd, TooDeep}

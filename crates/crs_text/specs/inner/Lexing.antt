@@ -1,7 +1,6 @@
 -- A bridge: what begins what is left of a text: a token, or a flaw.
 use Rattle.std.specs.Prelude.{◌≡◌, ℕ, ◌+◌, ◌≤◌, List, ◌∷◌, ◌++◌, length, take, drop, ◌<◌, IsUtf8}
-use Rattle.crs_text.specs.Quoted.{StopsAt, IsShut}
-use Rattle.crs_text.specs.Tokens.{Kind, number, text, word, IsSingle, single_spelling, opening_byte, closing_byte, takes_byte}
+use Rattle.crs_text.specs.Tokens.{StopsAt, IsShut, Kind, number, text, word, IsSingle, single_spelling, opening_byte, closing_byte, takes_byte}
 use Rattle.crs_text.specs.TextFault.{IsFlaw}
 use Rattle.crs_text.specs.declared.lexing.Lexed.{Lexed}
 use Rattle.crs_text.specs.declared.lexing.Lexed.TheVariants.{Number, Text, Word, Comma, Opening, Closing, Flaw}

@@ -5,9 +5,7 @@ unfoldable pub use Rattle.crs_text.specs.Items.{here}
 pub use Rattle.crs_text.specs.Keywords.{AreSpelled, every_keyword, spelling_of}
 unfoldable pub use Rattle.crs_text.specs.Keywords.{keyword_of}
 pub use Rattle.crs_text.specs.Position.{IsPosition, feeds}
-pub use Rattle.crs_text.specs.Quoted.{IsInside, doubled}
+pub use Rattle.crs_text.specs.Tokens.{IsInside, doubled, Forms, Fronts, IsSingle, IsWhite, IsWord, Kind, Token, closing, comma, is_letter, is_white, is_word_byte, number, opening, single, single_spelling, text, word}
 pub use Rattle.crs_text.specs.Refusal.{RefusedAt, is_before, refused_text}
-pub use Rattle.crs_text.specs.Settled.{IsSettledRefusal}
-pub use Rattle.crs_text.specs.TextFault.{IsTextFault, RefusesText, SpellsNode}
-pub use Rattle.crs_text.specs.Tokens.{Forms, Fronts, IsSingle, IsWhite, IsWord, Kind, Token, closing, comma, is_letter, is_white, is_word_byte, number, opening, single, single_spelling, text, word}
+pub use Rattle.crs_text.specs.TextFault.{IsSettledRefusal, IsTextFault, RefusesText, SpellsNode}
 pub use Rattle.crs_text.specs.Written.{AreAllFormed, AreFormed, WrittenSpells, at_place, at_places, item_text, others_text}

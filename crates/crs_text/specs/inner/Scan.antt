@@ -3,8 +3,7 @@ use Rattle.std.specs.Prelude.{◌≡◌, ℕ, ◌+◌, ◌<◌, ◌≤◌, List,
 use Rattle.std.specs.List.{prefix_len}
 use Rattle.crs_text.specs.Tokens.{Token, Forms, Fronts, is_white}
 use Rattle.crs_text.specs.TextFault.{reason_number, IsStop, SpellsNode}
-use Rattle.crs_text.specs.inner.Table.{Flat, flat_step}
-use Rattle.crs_text.specs.inner.Rows.{Shows, flat}
+use Rattle.crs_text.specs.inner.Table.{Flat, flat_step, Shows, flat}
 use Rattle.crs_text.specs.inner.State.{after}
 use Rattle.crs_text.specs.Items.{Item}
 use Rattle.crs_text.specs.Refusal.{RefusedAt}

@@ -1,14 +1,51 @@
--- A bridge: the tree that rows give: how a table of rows over its source is seen as an item.
-use Rattle.std.specs.Prelude.{◌≡◌, ℕ, zero, suc, ◌+◌, ◌≤◌, Bool, List, [], ◌∷◌, ◌++◌, length, take, drop, map, refl}
-use Rattle.std.specs.Coded.{Coded, coded_ℕ, coded_bool, coded_list, coded×, code_by}
-use Rattle.std.proofs.Common.{◌∙◌, ap, sym, append_assoc}
-use Rattle.crs_text.specs.Tokens.{number, text, word, Token, single, comma, opening, closing, IsFormed}
-use Rattle.crs_text.specs.Items.{Item, leaf, node, Siblings, End, More, tokens, arguments, count, first_of, skip, kind_of_item, raw_of, place_of, IsNode}
-use Rattle.crs_text.specs.inner.Laid.{AreLaid}
-use Rattle.crs_text.specs.inner.Rows.{rows, square_of, close_place}
+-- A bridge: items that lie in a source, and how many bytes their written form has, as their rows tell.
+use Rattle.std.specs.Prelude.{◌≡◌, ℕ, ◌+◌, Bool, true, List, [], ◌∷◌, ◌++◌, length, zero, suc, ◌≤◌, take, drop, map, refl}
+use Rattle.crs_text.specs.Tokens.{Token, Fronts, number, text, word, single, comma, opening, closing, IsFormed}
 use Rattle.crs_text.specs.declared.items.ItemKind.{ItemKind}
 use Rattle.crs_text.specs.declared.items.ItemKind.TheVariants.{Number, Text, Word, Node}
 use Rattle.crs_text.specs.declared.table.Row.{Row}
+use Rattle.std.specs.Coded.{Coded, coded_ℕ, coded_bool, coded_list, coded×, code_by}
+use Rattle.std.proofs.Common.{◌∙◌, ap, sym, append_assoc}
+use Rattle.crs_text.specs.Items.{Item, leaf, node, Siblings, End, More, tokens, arguments, count, first_of, skip, kind_of_item, raw_of, place_of, IsNode}
+use Rattle.crs_text.specs.inner.Table.{rows, square_of, close_place}
+
+-- the bytes end the source
+abbrev pub EndsIn : List ℕ → List ℕ → Type 0
+EndsIn source bytes = (front : List ℕ) × (source ≡ front ++ bytes)
+
+-- the tokens come one after another in the source
+pub record AreLaid (source : List ℕ) (ts : List Token) : Type 0 where
+  pub bytes : List ℕ
+  pub left : List ℕ
+  pub ends : EndsIn source bytes
+  pub fronts : Fronts (length source) bytes ts left
+
+-- how many bytes a written item has beside its raw ones and those of its arguments: two quotes, or two delimiters and
+-- a comma between each two of so many arguments
+abbrev pub bytes_beside : ItemKind → ℕ → ℕ
+bytes_beside Number count = 0
+bytes_beside Text count = 2
+bytes_beside Word count = 0
+bytes_beside Node count = count + 1
+
+-- how many bytes the written items of these rows have
+abbrev pub bytes_of_rows : List Row → ℕ
+bytes_of_rows [] = 0
+bytes_of_rows (r ∷ rs) = r.length + bytes_beside r.kind r.count + bytes_of_rows rs
+
+-- the delimiters of a node are square
+abbrev pub IsSquare : ItemKind → Bool → Type 0
+IsSquare Number square = Unit {0}
+IsSquare Text square = Unit {0}
+IsSquare Word square = Unit {0}
+IsSquare Node square = square ≡ true
+
+-- all delimiters of these rows are square
+abbrev pub AreSquare : List Row → Type 0
+AreSquare [] = Unit {0}
+AreSquare (r ∷ rs) = IsSquare r.kind r.square × AreSquare rs
+
+-- ---- a bridge: the tree that rows give: how a table of rows over its source is seen as an item
 
 -- the first items, as many as `n` says
 abbrev pub only : ℕ → Siblings → Siblings

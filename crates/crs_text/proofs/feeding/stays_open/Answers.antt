@@ -1,7 +1,7 @@
 use Rattle.std.proofs.Common.{◌≡◌, ◌+◌, ℕ, Ok, Err, Some, Result, MatchResult, subst, sym}
 use Rattle.std.proofs.lemmas.Option.{none-some, same_Some}
 use Rattle.std.specs.Result.{result_ok}
-use Rattle.crs_text.specs.Utf8.{IsUtf8Front}
+use Rattle.crs_text.specs.Tokens.{IsUtf8Front}
 use Rattle.crs_text.specs.inner.Lexing.{IsValidTo}
 use Rattle.crs_text.proofs.settled.FeedingLemmas.{text_stays, valid_from}
 use Rattle.crs_text.proofs.feeding.stays_open.Goals as goal

@@ -1,5 +1,5 @@
 use Rattle.std.proofs.Common.{◌≡◌, ◌+◌, drop}
-use Rattle.crs_text.specs.inner.Laid.{AreSquare, bytes_of_rows}
+use Rattle.crs_text.specs.inner.Tree.{AreSquare, bytes_of_rows}
 use Rattle.crs_text.proofs.items.written_length.Given as goal
 
 abbrev pub invariant-loop-row : goal.invariant-loop-row

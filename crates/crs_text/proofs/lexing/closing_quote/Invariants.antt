@@ -1,5 +1,5 @@
 use Rattle.std.proofs.Common.{length, ◌-◌, ◌≤◌, take}
-use Rattle.crs_text.specs.Quoted.{IsInside}
+use Rattle.crs_text.specs.Tokens.{IsInside}
 use Rattle.crs_text.proofs.lexing.closing_quote.Given as goal
 
 abbrev pub invariant-loop-at : goal.invariant-loop-at

@@ -1,6 +1,6 @@
 use Rattle.std.proofs.Common.{drop, ap, sym, subst, ◌∙◌, IsUtf8}
 use Rattle.std.specs.List.{prefix_len}
-use Rattle.crs_text.specs.Quoted.{StopsAt, is_quote}
+use Rattle.crs_text.specs.Tokens.{StopsAt, is_quote}
 use Rattle.crs_text.specs.inner.Runs.{is_plain_ascii}
 use Rattle.crs_text.proofs.tokens.LexedLemmas.{lexed_text, with_quote}
 use Rattle.crs_text.proofs.tokens.RunLemmas.{ascii_shut, ascii_utf8, IsClosing}

@@ -1,7 +1,6 @@
 use Rattle.std.proofs.Common.{drop, sym, ◌∙◌, arith}
 use Rattle.std.proofs.Math.Seq.{drop-cons}
-use Rattle.crs_text.specs.Quoted.{StopsAt}
-use Rattle.crs_text.specs.Tokens.{is_letter, is_word_byte}
+use Rattle.crs_text.specs.Tokens.{StopsAt, is_letter, is_word_byte}
 use Rattle.crs_text.proofs.tokens.RunLemmas.{run_stops, wider}
 use Rattle.crs_text.proofs.tokens.TokenLemmas.{letter_in_word}
 use Rattle.crs_text.proofs.runs.letters_length.Goals as goal

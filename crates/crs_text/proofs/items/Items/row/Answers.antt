@@ -1,5 +1,5 @@
 use Rattle.std.proofs.Common.{ap, ◌∙◌, arith}
-use Rattle.crs_text.specs.inner.Rows.{rows}
+use Rattle.crs_text.specs.inner.Table.{rows}
 use Rattle.crs_text.proofs.rows.IdLemmas.{within_table}
 use Rattle.crs_text.proofs.items.Items.row.Goals as goal
 

@@ -1,6 +1,6 @@
 use Rattle.std.proofs.Common.{◌≡◌, ◌∙◌, drop, length, rules, sym, ap, take, arith}
 use Rattle.crs_text.specs.Items.{first_of, here, tokens}
-use Rattle.crs_text.specs.inner.Rows.{rows}
+use Rattle.crs_text.specs.inner.Table.{rows}
 use Rattle.crs_text.proofs.rows.IdLemmas.{row-within}
 use Rattle.crs_text.proofs.tokens.LaidLemmas.{own, bytes_of}
 use Rattle.crs_text.proofs.items.Items.written.Goals as goal
