@@ -3,7 +3,7 @@ use Rattle.std.specs.Prelude.{◌≡◌, ℕ, List, [], ◌++◌, codes}
 use Rattle.crs_decimal.specs.Spelling.{Denotes}
 use Rattle.crs_decimal.specs.Plain.{IsPlain}
 use Rattle.crs_decimal.specs.Value.{exact}
-use Rattle.crs_shape.specs.UnitKinds.{kind_as}
+use Rattle.crs_shape.specs.Words.{kind_as}
 use Rattle.crs_value.specs.Reads.{ReadsUnit}
 use Rattle.crs_value.specs.declared.values.level.Level.{Level}
 use Rattle.crs_same.specs.declared.content.Content.{Content}

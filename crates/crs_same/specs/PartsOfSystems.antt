@@ -1,7 +1,6 @@
 -- The parts of coordinate systems, in order.
 use Rattle.std.specs.Prelude.{ℕ, zero, suc, max, length, List}
-use Rattle.crs_shape.specs.UnitKinds.{asked_kind}
-use Rattle.crs_shape.specs.Words.{direction_word, system_word}
+use Rattle.crs_shape.specs.Words.{asked_kind, direction_word, system_word}
 use Rattle.crs_value.specs.declared.values.level.Level.{Level}
 use Rattle.crs_value.specs.Values.{AxisParts, SystemParts}
 use Rattle.crs_same.specs.declared.content.Content.TheVariants as content

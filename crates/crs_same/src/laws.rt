@@ -1,6 +1,6 @@
 //! Laws of the definitions, as contracts of functions that do nothing.
 ghost use Rattle.std.specs.Prelude.{◌≡◌, ◌≤◌, ◌↔◌, ◌⊎◌, ◌∷◌, ℕ, ⊤, List, [], None, Option, Some, length, map};
-ghost use Rattle.crs_shape.specs.UnitKinds.{asked_kind};
+ghost use Rattle.crs_shape.specs.Words.{asked_kind};
 ghost use Rattle.crs_value.specs.declared.values.crs.Crs.{Crs};
 ghost use Rattle.crs_value.specs.declared.values.level.Level.{Level};
 ghost use Rattle.crs_value.specs.declared.values.level.Level.TheVariants as levels;

@@ -1,11 +1,22 @@
--- The dimensions of coordinate systems.
-use Rattle.std.specs.Prelude.{ℕ, List, [], ◌∷◌}
+-- Choices: one of some values is so; and the value that is so, or none.
+use Rattle.std.specs.Prelude.{List, [], ◌∷◌, Option, Some, None, ◌⊎◌, ℕ}
 use Rattle.crs_decimal.specs.Value.{SameNumber, whole_number, Value, exact}
 use Rattle.crs_shape.specs.declared.class.Class.{Class}
-use Rattle.crs_shape.specs.declared.class.Class.TheVariants as class
 use Rattle.crs_shape.specs.declared.system_type.SystemType.{SystemType}
+use Rattle.crs_shape.specs.declared.class.Class.TheVariants as class
 use Rattle.crs_shape.specs.declared.system_type.SystemType.TheVariants as types
-use Rattle.crs_shape.specs.Choice.{OneIs}
+
+-- one of these values is so
+abbrev pub OneIs : {V : Type 0} → (V → Type 0) → List V → Type 0
+OneIs P [] = ⊥
+OneIs P (value ∷ values) = P value ⊎ OneIs P values
+
+-- the value that reads so, or none where no value does
+abbrev pub IsReading : {V : Type 0} → (V → Type 0) → Option V → Type 0
+IsReading {V = V} reads None = (value : V) → ¬ (reads value)
+IsReading reads (Some value) = reads value
+
+-- ---- the dimensions of coordinate systems
 
 -- the dimensions that a CRS of this class may have with each type of coordinate system; the class
 -- of a geographic CRS is the one of its keyword

@@ -1,15 +1,9 @@
-pub mod Choice
 pub mod Dimensions
 pub mod Expected
 pub mod FaultPlace
 pub mod Keywords
-pub mod Near
-pub mod RefusedItem
 pub mod Shape
 pub mod ShapeFault
-pub mod Shaped
-pub mod Slots
 pub mod Sought
-pub mod UnitKinds
 pub mod Words
 pub mod inner

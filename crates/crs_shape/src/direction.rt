@@ -1,5 +1,5 @@
 ghost use Rattle.std.specs.Prelude.{◌≡◌, IfSome};
-ghost use Rattle.crs_shape.specs.Choice.{IsReading};
+ghost use Rattle.crs_shape.specs.Dimensions.{IsReading};
 ghost use Rattle.crs_shape.specs.Words.{direction_word, every_direction, SpellsWord};
 
 use crate::spelled::is_spelled;

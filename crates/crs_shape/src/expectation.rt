@@ -2,7 +2,7 @@
 ghost use Rattle.std.specs.Prelude.{◌≡◌, Some, None};
 ghost use Rattle.crs_shape.specs.Keywords.{every_class};
 ghost use Rattle.crs_shape.specs.Expected.{may_come, ExpectedParts};
-ghost use Rattle.crs_shape.specs.inner.Left.{classes_left, end_left};
+ghost use Rattle.crs_shape.specs.inner.Walk.{classes_left, end_left};
 
 use crate::class::Class;
 use crate::fitting::Walk;

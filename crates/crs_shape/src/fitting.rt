@@ -5,9 +5,8 @@ ghost use Rattle.crs_shape.specs.Keywords.{is_known};
 ghost use Rattle.crs_text.specs.Refusal.{is_refusal};
 ghost use Rattle.crs_shape.specs.inner.ClassSet.{HasSet};
 ghost use Rattle.crs_shape.specs.Expected.{ExpectedAtRoot, ExpectedIn};
-ghost use Rattle.crs_shape.specs.inner.FirstFault.{step_of, first_inside};
+ghost use Rattle.crs_shape.specs.inner.Walk.{step_of, first_inside, after, may_end, left_of};
 ghost use Rattle.crs_shape.specs.ShapeFault.{class_in, is_of, misplaced, IsFree, IsOnly, Inside, AtRoot, class_of_root};
-ghost use Rattle.crs_shape.specs.inner.Walk.{after, may_end, left_of};
 
 use crate::class::Class;
 use crate::expectation::Expected;

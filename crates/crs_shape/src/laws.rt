@@ -6,15 +6,12 @@ ghost use Rattle.crs_text.specs.Refusal.{RefusedAt};
 ghost use Rattle.crs_text.specs.TextFault.{SpellsNode};
 ghost use Rattle.crs_shape.specs.declared.class.Class.{Class};
 ghost use Rattle.crs_shape.specs.inner.Counts.{how_many, least, most, is_bounded};
-ghost use Rattle.crs_shape.specs.Expected.{ExpectedParts, ExpectedAtRoot};
+ghost use Rattle.crs_shape.specs.Expected.{ExpectedParts, ExpectedAtRoot, AreAlike, IsRefusedThere};
 ghost use Rattle.crs_shape.specs.FaultPlace.{IsPlaceIn, IsShapeNumber};
-ghost use Rattle.crs_shape.specs.inner.FirstFault.{first_inside};
+ghost use Rattle.crs_shape.specs.inner.Walk.{first_inside};
 ghost use Rattle.crs_shape.specs.inner.KeywordTable.{classes_by, is_among, is_part};
-ghost use Rattle.crs_shape.specs.RefusedItem.{AreAlike, IsRefusedThere};
-ghost use Rattle.crs_shape.specs.Shape.{Allowed, AllFilled, joined, is_apart};
-ghost use Rattle.crs_shape.specs.ShapeFault.{IsFree, IsOnly, Inside, AtRoot, class_in, class_of_root, is_of};
-ghost use Rattle.crs_shape.specs.Shaped.{Shaped};
-ghost use Rattle.crs_shape.specs.Slots.{SlotParts, slots_of};
+ghost use Rattle.crs_shape.specs.Shape.{Allowed, AllFilled, joined, is_apart, SlotParts, slots_of};
+ghost use Rattle.crs_shape.specs.ShapeFault.{IsFree, IsOnly, Inside, AtRoot, class_in, class_of_root, is_of, Shaped};
 
 use crs_text::{ItemKind, laws};
 

@@ -3,7 +3,7 @@ ghost use Rattle.std.specs.Prelude.{◌≡◌};
 ghost use Rattle.crs_text.specs.Items.{first_of, here, HasId};
 ghost use Rattle.crs_shape.specs.inner.ClassSet.{keyword_set};
 ghost use Rattle.crs_shape.specs.ShapeFault.{class_in};
-ghost use Rattle.crs_shape.specs.Slots.{is_class};
+ghost use Rattle.crs_shape.specs.Shape.{is_class};
 ghost use Rattle.crs_shape.specs.Sought.{SoughtParts};
 ghost use Rattle.crs_shape.specs.inner.SoughtKind.{kind_for};
 

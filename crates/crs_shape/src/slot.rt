@@ -1,7 +1,7 @@
 //! Slots.
 ghost use Rattle.std.specs.Prelude.{◌≡◌};
 ghost use Rattle.crs_shape.specs.inner.ClassSet.{HasSet};
-ghost use Rattle.crs_shape.specs.Slots.{shown, takes};
+ghost use Rattle.crs_shape.specs.Shape.{shown, takes};
 
 use crate::bit_set::BitSet;
 use crate::class::Class;

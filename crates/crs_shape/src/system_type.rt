@@ -1,8 +1,6 @@
 ghost use Rattle.std.specs.Prelude.{◌≡◌, ◌↔◌, IfSome, IsTrue, [], ◌∷◌};
-ghost use Rattle.crs_shape.specs.Choice.{IsReading, OneIs};
-ghost use Rattle.crs_shape.specs.Dimensions.{IsOneOf, dimensions_of};
-ghost use Rattle.crs_shape.specs.UnitKinds.{asked_kind};
-ghost use Rattle.crs_shape.specs.Words.{every_type, system_word, SpellsWord};
+ghost use Rattle.crs_shape.specs.Dimensions.{IsReading, OneIs, IsOneOf, dimensions_of};
+ghost use Rattle.crs_shape.specs.Words.{asked_kind, every_type, system_word, SpellsWord};
 
 use crate::class::Class;
 use crate::direction::Direction;

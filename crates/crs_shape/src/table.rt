@@ -3,7 +3,7 @@ ghost use Rattle.std.specs.Prelude.{◌≡◌, All, IsTrue, map};
 ghost use Rattle.std.specs.List.{find};
 ghost use Rattle.crs_shape.specs.inner.ClassSet.{HasSet, set_of};
 ghost use Rattle.crs_shape.specs.inner.KeywordTable.{argument_classes, classes_by, is_part, IsClear};
-ghost use Rattle.crs_shape.specs.Slots.{shown, slots_of, class_named, is_class};
+ghost use Rattle.crs_shape.specs.Shape.{shown, slots_of, class_named, is_class};
 
 use crate::bit_set::{BitSet, set};
 use crate::class::Class;

@@ -1,9 +1,8 @@
 //! The kinds of unit.
 ghost use Rattle.std.specs.Prelude.{◌≡◌, ℕ, List, Some};
 ghost use Rattle.crs_text.specs.Keywords.{keyword_of};
-ghost use Rattle.crs_shape.specs.Choice.{IsReading};
-ghost use Rattle.crs_shape.specs.UnitKinds.{kind_as};
-ghost use Rattle.crs_shape.specs.Words.{SpellsWord, unit_word};
+ghost use Rattle.crs_shape.specs.Dimensions.{IsReading};
+ghost use Rattle.crs_shape.specs.Words.{kind_as, SpellsWord, unit_word};
 
 use crate::spelled::is_spelled;
 use crs_text::{Keyword, laws};

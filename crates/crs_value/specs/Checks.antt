@@ -9,7 +9,7 @@ use Rattle.crs_value.specs.Reads.{ReadsNumber, HasType, ReadsDirection, ReadsKin
 use Rattle.crs_shape.specs.declared.direction.Direction.{Direction}
 use Rattle.crs_shape.specs.declared.system_type.SystemType.{SystemType}
 use Rattle.crs_shape.specs.declared.unit_kind.UnitKind.{UnitKind}
-use Rattle.crs_shape.specs.UnitKinds.{asked_kind}
+use Rattle.crs_shape.specs.Words.{asked_kind}
 use Rattle.crs_shape.specs.Dimensions.{IsOneOf, dimensions_of}
 use Rattle.crs_shape.specs.ShapeFault.{class_in}
 use Rattle.crs_shape.specs.declared.class.Class.TheVariants as class

@@ -5,12 +5,12 @@ use Rattle.crs_text.specs.Items.{Item, Siblings, End, More, arguments, raw_of, k
 use Rattle.crs_shape.specs.contracts.class.Class.{the_type}
 use Rattle.crs_shape.specs.declared.class.Class.{Class}
 use Rattle.crs_shape.specs.ShapeFault.{class_in}
-use Rattle.crs_shape.specs.Slots.{is_class}
+use Rattle.crs_shape.specs.Shape.{is_class}
 use Rattle.crs_text.specs.declared.items.ItemKind.{ItemKind}
 use Rattle.crs_value.specs.NamedValues.{IdentParts, NamedParts}
 use Rattle.crs_text.specs.declared.items.ItemKind.TheVariants as kinds
 use Rattle.crs_shape.specs.declared.class.Class.TheVariants as class
-pub use Rattle.crs_shape.specs.Choice.{OneIs, IsReading}
+pub use Rattle.crs_shape.specs.Dimensions.{OneIs, IsReading}
 
 -- ---- readings: what is read from an item, or from the arguments of one class; and what holds of each of some values, or of one
 

@@ -9,7 +9,7 @@ use Rattle.crs_value.specs.NamedValues.{IdentParts, NamedParts}
 use Rattle.crs_value.specs.Values.{UnitParts, AxisMeridianParts, AxisParts, BoxParts, ExtentParts, UsageParts, SaysSome, TailParts, SystemParts}
 use Rattle.crs_shape.specs.declared.system_type.SystemType.{SystemType}
 use Rattle.crs_shape.specs.Dimensions.{IsOneOf}
-use Rattle.crs_shape.specs.UnitKinds.{asked_kind}
+use Rattle.crs_shape.specs.Words.{asked_kind}
 use Rattle.crs_shape.specs.declared.unit_kind.UnitKind.TheVariants as kinds
 pub use Rattle.crs_value.specs.Reading.{Each}
 

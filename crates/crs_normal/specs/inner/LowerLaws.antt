@@ -9,8 +9,7 @@ use Rattle.crs_text.specs.Items.{Item}
 use Rattle.crs_text.specs.TextFault.{SpellsNode}
 use Rattle.crs_text.specs.Written.{AreFormed, WrittenSpells}
 use Rattle.crs_shape.specs.declared.class.Class.{Class}
-use Rattle.crs_shape.specs.ShapeFault.{Inside, IsFree}
-use Rattle.crs_shape.specs.Shaped.{Shaped}
+use Rattle.crs_shape.specs.ShapeFault.{Inside, IsFree, Shaped}
 use Rattle.crs_value.specs.Sound.{IsSystem}
 use Rattle.crs_value.specs.Values.{AxisParts, SystemParts}
 use Rattle.crs_same.specs.SameParts.{HasAt, SameValue}

@@ -5,8 +5,7 @@ use Rattle.crs_decimal.specs.Plain.{plain}
 use Rattle.crs_decimal.specs.Value.{Value}
 use Rattle.crs_text.specs.Items.{Item, Siblings, End, More}
 use Rattle.crs_shape.specs.declared.unit_kind.UnitKind.TheVariants as kinds
-use Rattle.crs_shape.specs.UnitKinds.{asked_kind}
-use Rattle.crs_shape.specs.Words.{direction_word, system_word}
+use Rattle.crs_shape.specs.Words.{asked_kind, direction_word, system_word}
 use Rattle.crs_value.specs.Values.{AxisMeridianParts, AxisParts, SystemParts}
 use Rattle.crs_value.specs.declared.values.level.Level.{Level}
 use Rattle.crs_same.specs.SameParts.{own_or}

@@ -11,12 +11,9 @@ use Rattle.crs_shape.specs.declared.class.Class.{Class}
 use Rattle.crs_shape.specs.declared.fitting.Walk.{Walk}
 use Rattle.crs_shape.specs.declared.slot.Slot.{Slot}
 use Rattle.crs_shape.specs.Keywords.{every_class}
-use Rattle.crs_shape.specs.Slots.{SlotParts, shown, slots_of}
-use Rattle.crs_shape.specs.Shape.{Begins}
-use Rattle.crs_shape.specs.inner.Walk.{left, left_of, after, may_end}
+use Rattle.crs_shape.specs.Shape.{SlotParts, shown, slots_of, Begins}
+use Rattle.crs_shape.specs.inner.Walk.{left, left_of, after, may_end, step_of, has_some, may_go, slots_left, classes_left, end_left}
 use Rattle.crs_shape.specs.ShapeFault.{is_of, IsFree, Stands, Inside, Among}
-use Rattle.crs_shape.specs.inner.FirstFault.{step_of}
-use Rattle.crs_shape.specs.inner.Left.{has_some, may_go, slots_left, classes_left, end_left}
 use Rattle.crs_shape.specs.Expected.{ExpectedParts, Follows, ExpectedIn, ExpectedAmong}
 use Rattle.crs_shape.proofs.naming.KeywordTableLemmas.{class-among}
 use Rattle.crs_shape.proofs.walks.TableLemmas.{apart_tables}

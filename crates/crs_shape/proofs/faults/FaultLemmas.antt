@@ -6,11 +6,9 @@ use Rattle.std.proofs.lemmas.Option.{none-some, same_Some}
 use Rattle.crs_text.specs.inner.Prelude.{Item, leaf, node, Siblings, End, More, RefusedAt}
 use Rattle.crs_shape.specs.declared.class.Class.{Class}
 use Rattle.crs_shape.specs.Keywords.{is_keyword}
-use Rattle.crs_shape.specs.Slots.{SlotParts, slots_of}
-use Rattle.crs_shape.specs.Shape.{Allowed, Begins, is_apart}
-use Rattle.crs_shape.specs.inner.Walk.{after, may_end}
+use Rattle.crs_shape.specs.Shape.{SlotParts, slots_of, Allowed, Begins, is_apart}
+use Rattle.crs_shape.specs.inner.Walk.{after, may_end, or_later, step_to, step_as, step_of, fault_by, fault_from, first_inside, first_in_arguments}
 use Rattle.crs_shape.specs.ShapeFault.{AtArgument, class_in, is_of, misplaced, missing, IsFree, IsOnly, Stands, Inside, Among, class_of_root, AtRoot}
-use Rattle.crs_shape.specs.inner.FirstFault.{or_later, step_to, step_as, step_of, fault_by, fault_from, first_inside, first_in_arguments}
 use Rattle.crs_shape.proofs.faults.FitLemmas.{step_class}
 use Rattle.crs_shape.proofs.walks.SlotLemmas.{Goes, after-apart, goes-along, goes-back, allows-some, end-allowed, allowed-end}
 use Rattle.crs_shape.proofs.walks.TableLemmas.{apart_tables}

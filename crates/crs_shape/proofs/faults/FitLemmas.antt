@@ -7,10 +7,9 @@ use Rattle.crs_shape.specs.declared.class.Class.{Class}
 use denote.Enum.Bare.{true_same}
 use Rattle.crs_shape.specs.contracts.class.Class.{the_type}
 use Rattle.crs_shape.specs.Keywords.{is_keyword, first_named, root_classes, root_named}
-use Rattle.crs_shape.specs.Slots.{SlotParts, slots_of, named_in, class_named}
-use Rattle.crs_shape.specs.inner.Walk.{after, may_end}
+use Rattle.crs_shape.specs.Shape.{SlotParts, slots_of, named_in, class_named}
+use Rattle.crs_shape.specs.inner.Walk.{after, may_end, step_to, step_as, step_of, fault_by, fault_from, first_inside, first_in_arguments}
 use Rattle.crs_shape.specs.ShapeFault.{class_of_kind, class_in, class_of_root, is_of, misplaced, missing}
-use Rattle.crs_shape.specs.inner.FirstFault.{step_to, step_as, step_of, fault_by, fault_from, first_inside, first_in_arguments}
 
 -- the items from one on, where there is one
 abbrev pub from : Item → Option ℕ → Siblings

@@ -6,8 +6,7 @@ use Rattle.std.proofs.lemmas.Option.{none-some, same_Some}
 use Rattle.crs_text.specs.inner.Prelude.{Item, leaf, node, Siblings, End, More, RefusedAt}
 use Rattle.crs_shape.specs.declared.class.Class.{Class}
 use Rattle.crs_shape.specs.ShapeFault.{class_in, is_of, misplaced, missing, IsFree, Stands, Inside, Among, class_of_root, AtRoot}
-use Rattle.crs_shape.specs.Expected.{ExpectedParts, may_come, Follows, ExpectedIn, ExpectedAmong, ExpectedAtRoot}
-use Rattle.crs_shape.specs.RefusedItem.{IsWithin, IsWithinAny, class_at, IsRefusedThere, AreAlike}
+use Rattle.crs_shape.specs.Expected.{ExpectedParts, may_come, Follows, ExpectedIn, ExpectedAmong, ExpectedAtRoot, IsWithin, IsWithinAny, class_at, IsRefusedThere, AreAlike}
 use Rattle.crs_shape.proofs.faults.FaultLemmas.{same_class}
 use Rattle.crs_shape.proofs.faults.FitLemmas.{class-is_of, root-is_of}
 

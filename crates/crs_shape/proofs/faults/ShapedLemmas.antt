@@ -5,12 +5,9 @@ use Rattle.std.proofs.lemmas.List.{append-nil}
 use Rattle.crs_text.specs.inner.Prelude.{Item, leaf, node, Siblings, End, More, RefusedAt}
 use Rattle.crs_shape.specs.declared.class.Class.{Class}
 use Rattle.crs_shape.specs.Keywords.{is_keyword}
-use Rattle.crs_shape.specs.Slots.{SlotParts, slots_of}
-use Rattle.crs_shape.specs.Shape.{Allowed}
-use Rattle.crs_shape.specs.Shaped.{Shaped, AreShaped}
-use Rattle.crs_shape.specs.inner.Walk.{after, may_end}
-use Rattle.crs_shape.specs.ShapeFault.{class_in, missing, IsFree, Stands, Inside, Among}
-use Rattle.crs_shape.specs.inner.FirstFault.{or_later, step_to, step_as, fault_by, fault_from, first_inside, first_in_arguments}
+use Rattle.crs_shape.specs.Shape.{SlotParts, slots_of, Allowed}
+use Rattle.crs_shape.specs.ShapeFault.{Shaped, AreShaped, class_in, missing, IsFree, Stands, Inside, Among}
+use Rattle.crs_shape.specs.inner.Walk.{after, may_end, or_later, step_to, step_as, fault_by, fault_from, first_inside, first_in_arguments}
 use Rattle.crs_shape.proofs.walks.TableLemmas.{apart_tables}
 use Rattle.crs_shape.proofs.walks.SlotLemmas.{end-allowed}
 use Rattle.crs_shape.proofs.faults.FaultLemmas.{IsExact, Reached, reached-start, reached-more, one-more, one-less, exact-free, exact_inside}

@@ -11,7 +11,7 @@ use Rattle.crs_shape.specs.contracts.class.Class.{the_type}
 use Rattle.crs_shape.specs.declared.class.Class.{Class}
 use Rattle.crs_shape.specs.inner.ClassSet.{word_of, has_bit, bit_of, set_of}
 use Rattle.crs_shape.specs.inner.KeywordTable.{is_among, is_part, argument_classes}
-use Rattle.crs_shape.specs.Slots.{SlotParts, slots_of, takes}
+use Rattle.crs_shape.specs.Shape.{SlotParts, slots_of, takes}
 use Rattle.crs_shape.proofs.naming.ListLemmas.{list_any-map}
 
 abbrev is_one : ℕ → Bool

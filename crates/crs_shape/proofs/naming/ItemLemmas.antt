@@ -9,9 +9,8 @@ use Rattle.crs_shape.specs.contracts.class.Class.{the_type}
 use Rattle.crs_shape.specs.declared.class.Class.{Class}
 use Rattle.crs_shape.specs.Keywords.{is_known}
 use Rattle.crs_shape.specs.inner.KeywordTable.{classes_by, is_among, is_part, is_root}
-use Rattle.crs_shape.specs.Shape.{has_class}
+use Rattle.crs_shape.specs.Shape.{has_class, is_class}
 use Rattle.crs_shape.specs.ShapeFault.{class_in, class_of_root, is_of}
-use Rattle.crs_shape.specs.Slots.{is_class}
 use Rattle.crs_shape.proofs.naming.KeywordLemmas.{class_named-table, root_named-table, is_known-table, is_keyword-table}
 
 -- what holds of nodes holds of an item that is one

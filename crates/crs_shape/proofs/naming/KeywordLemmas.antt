@@ -14,8 +14,7 @@ use Rattle.crs_shape.specs.contracts.class.Class as classes
 use Rattle.crs_shape.specs.declared.class.Class.{Class}
 use Rattle.crs_shape.specs.Keywords.{keywords_of, has_keyword, is_one_of, is_keyword, first_named, is_known, every_class, root_classes, root_named}
 use Rattle.crs_shape.specs.inner.KeywordTable.{classes_of, classes_by, is_among, is_part, is_root}
-use Rattle.crs_shape.specs.Shape.{has_class}
-use Rattle.crs_shape.specs.Slots.{SlotParts, slots_of, named_in, class_named}
+use Rattle.crs_shape.specs.Shape.{has_class, SlotParts, slots_of, named_in, class_named}
 use Rattle.crs_shape.proofs.naming.KeywordTableLemmas.{class-among, spelling_by, named, named_root, known, among-keyword}
 
 -- Two words that are the same keyword, or both none

@@ -14,8 +14,7 @@ use Rattle.crs_shape.specs.contracts.class.Class as classes
 use Rattle.crs_shape.specs.declared.class.Class.{Class}
 use Rattle.crs_shape.specs.Keywords.{every_class, has_keyword, is_keyword, is_known, root_named}
 use Rattle.crs_shape.specs.inner.KeywordTable.{classes_of, classes_by, is_among, is_part, is_root, rivals_of, IsClear}
-use Rattle.crs_shape.specs.Shape.{has_class}
-use Rattle.crs_shape.specs.Slots.{class_named}
+use Rattle.crs_shape.specs.Shape.{has_class, class_named}
 use Rattle.crs_shape.proofs.naming.ListLemmas.{passes-all, passes-none}
 
 -- each class is among all, and each keyword: by its number

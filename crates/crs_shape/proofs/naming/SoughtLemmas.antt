@@ -15,7 +15,7 @@ use Rattle.crs_shape.specs.inner.ClassSet.{has_bit, keyword_bit, keyword_set}
 use Rattle.crs_shape.specs.Keywords.{is_keyword, keywords_of}
 use Rattle.crs_shape.specs.inner.KeywordTable.{classes_of, classes_by, is_among, is_part, IsClear}
 use Rattle.crs_shape.specs.ShapeFault.{class_in}
-use Rattle.crs_shape.specs.Slots.{is_class}
+use Rattle.crs_shape.specs.Shape.{is_class}
 use Rattle.crs_shape.specs.inner.SoughtKind.{kind_for}
 use Rattle.crs_shape.proofs.naming.ClassSetLemmas.{has_bit-word_of}
 use Rattle.crs_shape.proofs.naming.ItemLemmas.{class_in-node, not-among}

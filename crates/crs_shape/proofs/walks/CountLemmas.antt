@@ -7,8 +7,7 @@ use Rattle.std.proofs.lemmas.Bool.{and_parts, cases_Bool, not-true}
 use denote.Enum.Bare.{sameb, same_true}
 use Rattle.crs_shape.specs.contracts.class.Class.{the_type}
 use Rattle.crs_shape.specs.declared.class.Class.{Class}
-use Rattle.crs_shape.specs.Slots.{SlotParts}
-use Rattle.crs_shape.specs.Shape.{AllTaken, Fills, AllFilled, joined, Allowed}
+use Rattle.crs_shape.specs.Shape.{SlotParts, AllTaken, Fills, AllFilled, joined, Allowed}
 use Rattle.crs_shape.specs.inner.Counts.{one_if, how_many, least, most, is_bounded}
 use Rattle.crs_shape.proofs.naming.ListLemmas.{passes-all, passes-none}
 

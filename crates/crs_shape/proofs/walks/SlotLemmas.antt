@@ -7,8 +7,7 @@ use Rattle.std.proofs.lemmas.Bool.{both_ways, and_parts, and_from, or_left, or_r
 use denote.Enum.Bare.{sameb, same_true, true_same}
 use Rattle.crs_shape.specs.contracts.class.Class.{the_type}
 use Rattle.crs_shape.specs.declared.class.Class.{Class}
-use Rattle.crs_shape.specs.Slots.{SlotParts, takes}
-use Rattle.crs_shape.specs.Shape.{AllTaken, Fills, AllFilled, joined, Allowed, reaches, has_class, is_apart}
+use Rattle.crs_shape.specs.Shape.{SlotParts, takes, AllTaken, Fills, AllFilled, joined, Allowed, reaches, has_class, is_apart}
 use Rattle.crs_shape.specs.inner.Walk.{again, after, may_end}
 use Rattle.crs_shape.proofs.naming.ListLemmas.{passes-none}
 

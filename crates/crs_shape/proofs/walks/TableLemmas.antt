@@ -1,8 +1,7 @@
 -- In every row of the tables the slots are apart: by computation.
 use Rattle.std.proofs.Common.{◌≡◌, true, refl}
 use Rattle.crs_shape.specs.declared.class.Class.{Class}
-use Rattle.crs_shape.specs.Slots.{slots_of}
-use Rattle.crs_shape.specs.Shape.{is_apart}
+use Rattle.crs_shape.specs.Shape.{slots_of, is_apart}
 use Rattle.crs_shape.proofs.naming.KeywordTableLemmas.{every-class}
 
 pub apart_tables : (c : Class) → is_apart (slots_of c) ≡ true

@@ -7,7 +7,7 @@ use Rattle.std.proofs.lemmas.List.{drop-map, drop_all}
 use Rattle.crs_shape.specs.declared.class.Class.{Class}
 use Rattle.crs_shape.specs.declared.slot.Slot.{Slot}
 use Rattle.crs_shape.specs.declared.fitting.Walk.{Walk}
-use Rattle.crs_shape.specs.Slots.{SlotParts, shown, takes}
+use Rattle.crs_shape.specs.Shape.{SlotParts, shown, takes}
 use Rattle.crs_shape.specs.inner.Walk.{again, left, after, may_end, left_of}
 
 pub row_at : (row : List Slot) (i : ℕ) (d : Slot) → i < length row → drop i (map shown row) ≡ shown (get_or row i d) ∷ drop (i + 1) (map shown row)

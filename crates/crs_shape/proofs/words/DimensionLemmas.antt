@@ -3,11 +3,10 @@ use Rattle.std.proofs.Common.{◌≡◌, ℕ, ◌*◌, ◌^◌, ◌<◌, inl, in
 use Rattle.std.specs.List.{list_all}
 use Rattle.std.proofs.lemmas.Bool.{and_parts}
 use Rattle.crs_decimal.specs.inner.Prelude.{Number, SameNumber, whole_number, Value, exact}
-use Rattle.crs_shape.specs.Choice.{OneIs}
+use Rattle.crs_shape.specs.Dimensions.{OneIs, IsOneOf, dimensions_of}
 use Rattle.crs_shape.specs.declared.class.Class.{Class}
 use Rattle.crs_shape.specs.declared.system_type.SystemType.{SystemType}
 use Rattle.crs_shape.specs.declared.system_type.SystemType.TheVariants as types
-use Rattle.crs_shape.specs.Dimensions.{IsOneOf, dimensions_of}
 use Rattle.crs_shape.proofs.naming.KeywordTableLemmas.{every-class}
 
 -- no dimension of the table is above 3

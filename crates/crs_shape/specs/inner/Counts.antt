@@ -2,7 +2,7 @@
 use Rattle.std.specs.Prelude.{ℕ, ◌+◌, ◌&&◌, ◌||◌, not, Bool, true, false, List, [], ◌∷◌}
 use Rattle.std.specs.List.{list_any, list_all}
 use Rattle.crs_shape.specs.declared.class.Class.{Class}
-use Rattle.crs_shape.specs.Slots.{SlotParts}
+use Rattle.crs_shape.specs.Shape.{SlotParts}
 
 -- 1 where the test holds, else 0
 abbrev pub one_if : Bool → ℕ

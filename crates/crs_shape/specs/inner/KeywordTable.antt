@@ -7,7 +7,7 @@ use Rattle.crs_shape.specs.contracts.class.Class.{the_type}
 use Rattle.crs_shape.specs.declared.class.Class.{Class}
 use Rattle.crs_shape.specs.declared.class.Class.TheVariants as class
 use Rattle.crs_shape.specs.Keywords.{every_class, has_keyword, root_classes}
-use Rattle.crs_shape.specs.Slots.{slots_of, takes}
+use Rattle.crs_shape.specs.Shape.{slots_of, takes}
 
 -- the classes that have a keyword, in the order of all classes
 abbrev pub classes_of : Keyword → List Class

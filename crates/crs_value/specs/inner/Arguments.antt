@@ -4,10 +4,10 @@ use Rattle.std.specs.List.{list_any}
 use Rattle.crs_text.specs.Items.{Item, Siblings, End, first_of, rest_of, here, HasId}
 use Rattle.crs_shape.specs.declared.class.Class.{Class}
 use Rattle.crs_shape.specs.inner.Counts.{is_bounded, least, most}
-use Rattle.crs_shape.specs.Slots.{slots_of}
+use Rattle.crs_shape.specs.Shape.{slots_of}
 use Rattle.crs_value.specs.Reading.{is_same, those, Each, OneIs}
 use Rattle.crs_decimal.specs.Value.{SameNumber, whole_number, Value, exact}
-use Rattle.crs_shape.specs.Shaped.{Shaped}
+use Rattle.crs_shape.specs.ShapeFault.{Shaped}
 use Rattle.crs_value.specs.Checks.{orders_in, ReadsOrder}
 use Rattle.crs_text.specs.Refusal.{RefusedAt, is_before}
 

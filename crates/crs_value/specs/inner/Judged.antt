@@ -8,10 +8,10 @@ use Rattle.crs_text.specs.Refusal.{RefusedAt}
 use Rattle.crs_shape.specs.contracts.class.Class.{the_type}
 use Rattle.crs_shape.specs.declared.class.Class.{Class}
 use Rattle.crs_shape.specs.declared.class.Class.TheVariants as class
-use Rattle.crs_shape.specs.inner.FirstFault.{first_inside, first_in_arguments}
+use Rattle.crs_shape.specs.inner.Walk.{first_inside, first_in_arguments}
 use Rattle.crs_shape.specs.Keywords.{every_class}
 use Rattle.crs_shape.specs.ShapeFault.{class_in}
-use Rattle.crs_shape.specs.Slots.{SlotParts, takes}
+use Rattle.crs_shape.specs.Shape.{SlotParts, takes}
 use Rattle.crs_value.specs.Checks.{IsLeast, Breaks, BreaksAmong}
 use Rattle.crs_value.specs.Reading.{those}
 use Rattle.crs_value.specs.inner.Arguments.{ahead}

@@ -7,10 +7,10 @@ use Rattle.crs_shape.specs.declared.class.Class.{Class}
 use Rattle.crs_shape.specs.declared.class.Class.TheVariants as class
 use Rattle.crs_shape.specs.declared.system_type.SystemType.{SystemType}
 use Rattle.crs_shape.specs.declared.unit_kind.UnitKind.TheVariants as kinds
-use Rattle.crs_shape.specs.Shaped.{Shaped}
-use Rattle.crs_shape.specs.Slots.{SlotParts, one, optional, some, takes}
+use Rattle.crs_shape.specs.ShapeFault.{Shaped}
+use Rattle.crs_shape.specs.Shape.{SlotParts, one, optional, some, takes}
 use Rattle.crs_shape.specs.Dimensions.{dimensions_of}
-use Rattle.crs_shape.specs.UnitKinds.{asked_kind}
+use Rattle.crs_shape.specs.Words.{asked_kind}
 use Rattle.crs_value.specs.declared.judging.quick_checks.AxesFacts.{AxesFacts}
 use Rattle.crs_value.specs.declared.judging.quick_checks.AxisFacts.{AxisFacts}
 use Rattle.crs_value.specs.declared.judging.quick_checks.Layout.{Layout}

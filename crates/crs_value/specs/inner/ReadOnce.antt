@@ -4,7 +4,7 @@ use Rattle.std.specs.Prelude.{◌≡◌}
 use Rattle.crs_text.specs.Items.{Item}
 use Rattle.crs_text.specs.Refusal.{RefusedAt}
 use Rattle.crs_text.specs.Written.{AreFormed}
-use Rattle.crs_shape.specs.Shaped.{Shaped}
+use Rattle.crs_shape.specs.ShapeFault.{Shaped}
 use Rattle.crs_value.specs.Checks.{Breaks}
 use Rattle.crs_shape.specs.declared.class.Class.TheVariants as class
 

@@ -1,7 +1,7 @@
 //! The checks of the axes of a CRS: their orders and their units.
 ghost use Rattle.std.specs.Prelude.{◌≡◌, ◌↔◌, ◌≤◌, [], IsTrue, Some, length, take};
 ghost use Rattle.crs_text.specs.Items.{HasId, arguments};
-ghost use Rattle.crs_shape.specs.Shaped.{Shaped};
+ghost use Rattle.crs_shape.specs.ShapeFault.{Shaped};
 ghost use Rattle.crs_shape.specs.declared.class.Class.TheVariants as classes;
 ghost use Rattle.crs_value.specs.inner.Cursor.{args, item};
 ghost use Rattle.crs_value.specs.Checks.{IsPosition, HasThis, OneHas, LacksOrder, SomeHasOrder, BadOrders, orders_in, BadOrder, IsBadOrder, Asks, Fits, AllAsk, SharedFits, BadUnit, BadOwnUnit, HasOwnUnit, AnyOf, IsLeast};

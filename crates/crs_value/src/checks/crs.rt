@@ -2,7 +2,7 @@
 ghost use Rattle.std.specs.Prelude.{◌≡◌, ◌↔◌, ◌≢◌, ◌<◌, ◌⊎◌, IfSome, IsTrue, Some, []};
 ghost use Rattle.crs_text.specs.Items.{HasId, arguments, rest_of, here};
 ghost use Rattle.crs_shape.specs.Dimensions.{dimensions_of};
-ghost use Rattle.crs_shape.specs.Shaped.{Shaped};
+ghost use Rattle.crs_shape.specs.ShapeFault.{Shaped};
 ghost use Rattle.crs_value.specs.Checks.{AxisCount, BadDynamic, BadSystem, HasEnsemble, AnyOf, IsLeast, BreaksAmong, anchors, once, IsRepeated, OfHead, OfAxes, OfCrs, Repeats, RepeatsAny};
 ghost use Rattle.crs_value.specs.inner.Cursor.{args, item};
 ghost use Rattle.crs_value.specs.inner.FirstArguments.{AreFirsts};

@@ -3,7 +3,7 @@ ghost use Rattle.std.specs.Prelude.{◌≡◌, ◌≤◌, IsTrue, ◌↔◌, Non
 ghost use Rattle.std.specs.List.{find};
 ghost use Rattle.crs_text.specs.Items.{HasId, arguments};
 ghost use Rattle.crs_shape.specs.declared.class.Class.TheVariants as classes;
-ghost use Rattle.crs_shape.specs.Shaped.{Shaped};
+ghost use Rattle.crs_shape.specs.ShapeFault.{Shaped};
 ghost use Rattle.crs_value.specs.Checks.{IsAboveZero, NotAbove, IsNegative, IsNotEllipsoidal, IsNotPlane, IsNotHorizontal, BadComponent, AnyOf, IsLeast, OfCompound, OfEllipsoid, once, Own, RepeatsAny};
 ghost use Rattle.crs_value.specs.inner.ReadOnce.{HasSystem};
 ghost use Rattle.crs_value.specs.inner.Cursor.{args, item};

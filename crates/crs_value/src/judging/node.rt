@@ -4,7 +4,7 @@ ghost use Rattle.crs_text.specs.Items.{HasId, close_of};
 ghost use Rattle.crs_shape.specs.declared.class.Class.TheVariants as kinds;
 ghost use Rattle.crs_shape.specs.Keywords.{every_class, root_classes};
 ghost use Rattle.crs_shape.specs.ShapeFault.{is_of};
-ghost use Rattle.crs_shape.specs.Slots.{any_of, slots_of};
+ghost use Rattle.crs_shape.specs.Shape.{any_of, slots_of};
 ghost use Rattle.crs_value.specs.inner.ReadOnce.{HasSystem};
 ghost use Rattle.crs_value.specs.inner.Arguments.{IsAmong, lesser, item_at, Holds};
 ghost use Rattle.crs_value.specs.inner.Judged.{class_at, Answers, Judged};

@@ -4,7 +4,7 @@ ghost use Rattle.std.specs.Prelude.{◌≡◌, ◌≤◌, ◌+◌, ◌^◌, ◌<
 ghost use Rattle.crs_text.specs.Items.{Item, HasId, arguments, here};
 ghost use Rattle.crs_shape.specs.declared.class.Class.{Class};
 ghost use Rattle.crs_shape.specs.Dimensions.{dimensions_of};
-ghost use Rattle.crs_shape.specs.Shaped.{Shaped};
+ghost use Rattle.crs_shape.specs.ShapeFault.{Shaped};
 ghost use Rattle.crs_value.specs.Checks.{orders_in, units_in, once, Asks, BadOwnUnit, Fits, IsLeast, OfHead, RepeatsAny};
 ghost use Rattle.crs_value.specs.inner.Arguments.{AllShaped, HasPlace, item_at, ahead, Holds};
 ghost use Rattle.crs_value.specs.Reading.{is_a, those};

@@ -3,7 +3,7 @@ ghost use Rattle.std.specs.Prelude.{◌≡◌, IfSome, List, Some, ◌∷◌, []
 ghost use Rattle.crs_text.specs.Items.{HasId};
 ghost use Rattle.crs_shape.specs.declared.class.Class.{Class};
 ghost use Rattle.crs_shape.specs.ShapeFault.{misplaced, missing};
-ghost use Rattle.crs_shape.specs.Slots.{SlotParts, one_of, optional_of, any_of, some_of};
+ghost use Rattle.crs_shape.specs.Shape.{SlotParts, one_of, optional_of, any_of, some_of};
 ghost use Rattle.crs_value.specs.inner.Judged.{AllLeave, AllPassed, Answers, Leaves, Passed, Walked};
 ghost use Rattle.crs_value.specs.inner.Arguments.{item_at, Holds};
 

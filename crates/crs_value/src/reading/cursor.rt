@@ -23,7 +23,7 @@ impl<'i, 'a> Cursor<'i, 'a> {
     ghost use Rattle.std.specs.Prelude.{IfOk, Some};
     ghost use Rattle.std.specs.Option.{option_copied};
     ghost use Rattle.crs_shape.specs.declared.class.Class.TheVariants as classes;
-    ghost use Rattle.crs_shape.specs.Shaped.{Shaped};
+    ghost use Rattle.crs_shape.specs.ShapeFault.{Shaped};
     ghost use Rattle.crs_value.specs.inner.ReadOnce.{IsSound};
     ghost use Rattle.crs_value.specs.inner.Cursor.{args, item};
     ghost use Rattle.crs_value.specs.Reading.{ReadsAll, ReadsIfAny, ReadsOne};

@@ -3,7 +3,7 @@ ghost use Rattle.std.specs.Prelude.{◌≡◌, ◌⊎◌, IfOk, IfSome, IsTrue, 
 ghost use Rattle.crs_text.specs.Items.{Item, arguments, HasId};
 ghost use Rattle.crs_shape.specs.declared.class.Class.{Class};
 ghost use Rattle.crs_shape.specs.declared.class.Class.TheVariants as classes;
-ghost use Rattle.crs_shape.specs.Shaped.{Shaped};
+ghost use Rattle.crs_shape.specs.ShapeFault.{Shaped};
 ghost use Rattle.crs_value.specs.inner.ReadOnce.{IsSound};
 ghost use Rattle.crs_value.specs.inner.Cursor.{item};
 ghost use Rattle.crs_value.specs.Reading.{those};

@@ -1,7 +1,7 @@
 use Rattle.std.proofs.Common.{◌<◌, sym, ◌∙◌, ap, Some, None, subst, List, rules}
 use Rattle.std.specs.Option.{option_map}
 use Rattle.crs_text.specs.inner.Prelude.{first_of, here, size_of}
-use Rattle.crs_shape.specs.Slots.{SlotParts}
+use Rattle.crs_shape.specs.Shape.{SlotParts}
 use Rattle.crs_shape.proofs.faults.FitLemmas as fit
 use Rattle.crs_shape.proofs.faults.FitLemmas.{going_by, no_arguments, argument-less}
 use Rattle.crs_shape.proofs.faults.ExpectedLemmas as expected

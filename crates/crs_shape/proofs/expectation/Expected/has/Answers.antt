@@ -1,5 +1,5 @@
 use Rattle.std.proofs.Common.{◌≡◌, ap, ◌∙◌, rules}
-use Rattle.crs_shape.specs.inner.Left.{may_go, slots_left}
+use Rattle.crs_shape.specs.inner.Walk.{may_go, slots_left}
 use Rattle.crs_shape.proofs.faults.ExpectedLemmas.{comes}
 use Rattle.crs_shape.proofs.expectation.Expected.has.Goals as goal
 

@@ -1,5 +1,5 @@
 use Rattle.std.proofs.Common.{◌≡◌, map, drop}
-use Rattle.crs_shape.specs.Slots.{shown}
+use Rattle.crs_shape.specs.Shape.{shown}
 use Rattle.crs_shape.specs.inner.Walk.{after, left, left_of}
 use Rattle.crs_shape.proofs.fitting.Walk.after.Given as goal
 

@@ -3,7 +3,7 @@ use Rattle.std.proofs.lemmas.Bool.{not-true, not-false}
 use denote.Enum.Bare.{sameb}
 use Rattle.crs_text.specs.contracts.items.ItemKind as kinds
 use Rattle.crs_text.specs.inner.Prelude.{first_of, here}
-use Rattle.crs_shape.specs.Slots.{is_class}
+use Rattle.crs_shape.specs.Shape.{is_class}
 use Rattle.crs_shape.proofs.naming.SoughtLemmas.{other_kind, is_node, node_named, other_keyword, own_keyword}
 use Rattle.crs_shape.proofs.seeking.Sought.is.Goals as goal
 
