@@ -3,7 +3,7 @@ use Rattle.std.specs.Prelude.{◌≡◌, ◌↔◌, ℕ, List, [], Option, Some,
 use Rattle.crs_value.specs.declared.values.crs.Crs.{Crs}
 use Rattle.crs_value.specs.declared.values.level.Level.{Level}
 use Rattle.crs_same.specs.declared.step.Step.{Step}
-use Rattle.crs_same.specs.PartsOfCrs.{FirstInCrs}
+use Rattle.crs_same.specs.Parts.{FirstInCrs}
 use Rattle.crs_same.specs.Paths.{path_text}
 use Rattle.crs_same.specs.SameCrs.{SameCrs}
 use Rattle.crs_c.specs.Answers.{Answer, IsAtLevel}

@@ -5,7 +5,7 @@ use Rattle.crs_value.specs.declared.values.crs.Crs.{Crs}
 use Rattle.crs_value.specs.declared.values.level.Level.{Level}
 use Rattle.crs_value.specs.Spells.{Refuses}
 use Rattle.crs_same.specs.declared.step.Step.{Step}
-use Rattle.crs_same.specs.PartsOfCrs.{FirstInCrs}
+use Rattle.crs_same.specs.Parts.{FirstInCrs}
 use Rattle.crs_same.specs.Paths.{path_text}
 use Rattle.crs_same.specs.SameCrs.{SameCrs}
 use Rattle.crs_desk.specs.Output.{IsLine}

@@ -4,13 +4,11 @@ use Rattle.crs_value.specs.declared.values.level.Level.{Level}
 use Rattle.crs_same.specs.declared.content.Content.{Content}
 use Rattle.crs_canon.specs.ContentText.{IsContentText}
 use Rattle.crs_value.specs.Values.{ParameterParts}
-use Rattle.crs_same.specs.Parts.{◌⨾◌, DifferenceParts, Differences, Parts}
+use Rattle.crs_same.specs.Parts.{◌⨾◌, DifferenceParts, Differences, Parts, identifiers, numbers, units, DifferencesInCrs}
 use Rattle.crs_same.specs.Paths.{further_text, path_text}
-use Rattle.crs_same.specs.SingleParts.{identifiers, numbers, units}
 use Rattle.crs_canon.specs.Named.{ArePairedNames, named_once, unpaired}
 use Rattle.std.specs.List.{flat_map}
 use Rattle.crs_value.specs.declared.values.crs.Crs.{Crs}
-use Rattle.crs_same.specs.PartsOfCrs.{DifferencesInCrs}
 use Rattle.crs_streams.specs.Escaped.{escaped}
 use Rattle.crs_shape.specs.declared.unit_kind.UnitKind.TheVariants as kinds
 use Rattle.crs_same.specs.declared.content.Content.TheVariants as content

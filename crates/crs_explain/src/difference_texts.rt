@@ -3,9 +3,8 @@ ghost use Rattle.std.specs.Prelude.{◌≡◌, ◌++◌, ◌∷◌, [], IfOk, On
 ghost use Rattle.std.specs.Option.{option_copied};
 ghost use Rattle.crs_shape.specs.declared.unit_kind.UnitKind.TheVariants as kinds;
 ghost use Rattle.crs_value.specs.Kept.{kept};
-ghost use Rattle.crs_same.specs.Contents.{given};
+ghost use Rattle.crs_same.specs.Parts.{given, identifiers, numbers, units};
 ghost use Rattle.crs_same.specs.Paths.{path_text};
-ghost use Rattle.crs_same.specs.SingleParts.{identifiers, numbers, units};
 ghost use Rattle.crs_same.specs.declared.content.Content.TheVariants as content;
 ghost use Rattle.crs_same.specs.declared.step.Step.TheVariants as step;
 ghost use Rattle.crs_canon.specs.ContentText.{IsContentText};

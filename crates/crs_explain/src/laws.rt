@@ -5,7 +5,7 @@ ghost use Rattle.crs_value.specs.Sound.{Each};
 ghost use Rattle.crs_value.specs.SoundParts.{IsParameter};
 ghost use Rattle.crs_value.specs.declared.values.level.Level.{Level};
 ghost use Rattle.crs_same.specs.SameParts.{SameParameter};
-ghost use Rattle.crs_same.specs.Sets.{SameSet};
+ghost use Rattle.crs_same.specs.SameIdents.{SameSet};
 ghost use Rattle.crs_explain.specs.Differing.{AreTextsOfSet, PartTexts, texts_exchanged};
 ghost use Rattle.crs_explain.specs.InOrder.{AreInOrder};
 

@@ -18,9 +18,8 @@ use Rattle.crs_value.specs.declared.values.frame.Frame.{Frame}
 use Rattle.crs_value.specs.declared.values.frame.Frame.TheVariants as frame
 use Rattle.crs_value.specs.declared.values.level.Level.{Level}
 use Rattle.crs_value.specs.declared.values.level.Level.TheVariants as levels
-use Rattle.crs_same.specs.Parts.{AreSame}
-use Rattle.crs_same.specs.PartsOfCrs.{parts_of_method, parts_of_conversion, parts_of_base, parts_of_geodetic, parts_of_projected, parts_of_vertical, parts_of_compound}
-use Rattle.crs_same.specs.PartsOfFrames.{parts_of_ellipsoid, parts_of_given, parts_of_datum, parts_of_ensemble}
+use Rattle.crs_same.specs.Parts.{AreSame, parts_of_method, parts_of_conversion, parts_of_base, parts_of_geodetic, parts_of_projected, parts_of_vertical, parts_of_compound}
+use Rattle.crs_same.specs.Parts.{parts_of_ellipsoid, parts_of_given, parts_of_datum, parts_of_ensemble}
 use Rattle.crs_same.specs.SameParts.{SameGeoidModel, SameParameter, SameDeformationModel, SameMember, SameAxisMeridian, SameUnit, SameBox, SameExtent, SameUsage}
 use Rattle.crs_same.specs.SameCrs.{SameDynamic}
 pub use Rattle.crs_same.specs.SameCrs.{IsHorizontalPart}

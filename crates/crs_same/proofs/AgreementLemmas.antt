@@ -16,9 +16,8 @@ use Rattle.crs_value.specs.inner.Prelude.{CompoundParts, MethodParts, Conversion
 use Rattle.crs_same.specs.declared.step.Step.{Step}
 use Rattle.crs_same.specs.declared.step.Step.TheVariants as step
 use Rattle.crs_same.specs.Parts.{◌▸◌, AllSame, AreSame}
-use Rattle.crs_same.specs.PartsOfCrs.{parts_of_method, parts_of_conversion, parts_of_dynamic, parts_of_tail, parts_of_geodetic, parts_of_base, parts_of_projected, parts_of_vertical, parts_of_horizontal, parts_of_compound, parts_of_crs}
-use Rattle.crs_same.specs.PartsOfFrames.{parts_of_ellipsoid, parts_of_ellipsoids, parts_of_given, unit_of, or_greenwich, parts_of_meridian, parts_of_datum, parts_of_ensemble, parts_of_frame}
-use Rattle.crs_same.specs.PartsOfSystems.{parts_of_axis, parts_at, parts_of_axes, parts_of_system}
+use Rattle.crs_same.specs.Parts.{parts_of_method, parts_of_conversion, parts_of_dynamic, parts_of_tail, parts_of_geodetic, parts_of_base, parts_of_projected, parts_of_vertical, parts_of_horizontal, parts_of_compound, parts_of_crs}
+use Rattle.crs_same.specs.Parts.{parts_of_ellipsoid, parts_of_ellipsoids, parts_of_given, unit_of, or_greenwich, parts_of_meridian, parts_of_datum, parts_of_ensemble, parts_of_frame, parts_of_axis, parts_at, parts_of_axes, parts_of_system}
 use Rattle.crs_same.specs.inner.Agreement.{AgreeWhereSame, AgreeMethod, AgreeConversion, AgreeGeodetic, AgreeBase, AgreeProjected, AgreeVertical, AgreeHorizontal, AgreeCompound, AgreeCrs, AgreeDynamic, AgreeEllipsoid, AgreeGiven, AgreeMeridian, AgreeDatum, AgreeEnsemble, AgreeFrame, AgreeAxis, AgreeAt, AgreeAxes, AgreeSystem, AgreeTail}
 use Rattle.crs_same.specs.inner.Prelude.{IsZero, BothOrNeither, HasAt, own_or, SameUnitAsked, SameUnit, SameValue}
 use Rattle.crs_same.specs.SameCrs.{SameCrs, SameDynamic, IsHorizontalPart}

@@ -11,12 +11,10 @@ use Rattle.crs_value.specs.inner.Prelude.{ParameterParts, GeoidModelParts, Defor
 use Rattle.crs_same.specs.declared.step.Step.{Step}
 use Rattle.crs_same.specs.declared.step.Step.TheVariants as step
 use Rattle.crs_same.specs.Parts.{◌▸◌, Parts, PartsOf, AllSame}
-use Rattle.crs_same.specs.PartsOfCrs.{parts_of_method, parts_of_conversion, parts_of_dynamic, parts_of_tail, parts_of_geodetic, parts_of_base, parts_of_projected, parts_of_vertical, parts_of_horizontal, parts_of_compound}
-use Rattle.crs_same.specs.PartsOfFrames.{parts_of_ellipsoid, parts_of_ellipsoids, parts_of_given, or_greenwich, parts_of_meridian, parts_of_datum, parts_of_ensemble, parts_of_frame}
-use Rattle.crs_same.specs.PartsOfSystems.{parts_of_axis, parts_at, parts_of_axes, parts_of_system}
+use Rattle.crs_same.specs.Parts.{parts_of_method, parts_of_conversion, parts_of_dynamic, parts_of_tail, parts_of_geodetic, parts_of_base, parts_of_projected, parts_of_vertical, parts_of_horizontal, parts_of_compound}
+use Rattle.crs_same.specs.Parts.{parts_of_ellipsoid, parts_of_ellipsoids, parts_of_given, or_greenwich, parts_of_meridian, parts_of_datum, parts_of_ensemble, parts_of_frame, parts_of_axis, parts_at, parts_of_axes, parts_of_system, nodes}
 use Rattle.crs_same.specs.inner.Prelude.{SameParameter, SameGeoidModel, SameDeformationModel, SameMember, SameAxisMeridian, SameUnitAsked, SameLength, or_metre, BothOrNeither, HasSame, AllHaveSame, SameSet}
 use Rattle.crs_same.specs.SameCrs.{SameCrs}
-use Rattle.crs_same.specs.SingleParts.{nodes}
 
 -- ---- what may be missing, and sets
 

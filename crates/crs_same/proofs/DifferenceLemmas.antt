@@ -5,8 +5,7 @@ use Rattle.crs_value.specs.declared.values.level.Level.{Level}
 use Rattle.crs_value.specs.inner.Prelude.{AxisParts, SystemParts}
 use Rattle.crs_same.specs.declared.step.Step.{Step}
 use Rattle.crs_same.specs.declared.step.Step.TheVariants as step
-use Rattle.crs_same.specs.Parts.{◌▸◌, Parts, DifferenceParts, none, part, ◌⨾◌, within, First, Differences}
-use Rattle.crs_same.specs.PartsOfSystems.{parts_of_axis}
+use Rattle.crs_same.specs.Parts.{◌▸◌, Parts, DifferenceParts, none, part, ◌⨾◌, within, First, Differences, parts_of_axis}
 use Rattle.crs_same.proofs.AgreementLemmas.{one-asked}
 use Rattle.crs_same.proofs.AllSameLemmas.{IsSettled}
 

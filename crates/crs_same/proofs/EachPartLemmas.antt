@@ -14,14 +14,11 @@ use Rattle.crs_same.specs.declared.content.Content.{Content}
 use Rattle.crs_same.specs.declared.content.Content.TheVariants as content
 use Rattle.crs_same.specs.declared.step.Step.{Step}
 use Rattle.crs_same.specs.declared.step.Step.TheVariants as step
-use Rattle.crs_same.specs.Contents.{given as what-stands}
+use Rattle.crs_same.specs.Parts.{given as what-stands, ◌▸◌, Parts, none, part, ◌⨾◌, within}
 use Rattle.crs_same.specs.Definition.{IsOfDefinition}
-use Rattle.crs_same.specs.Parts.{◌▸◌, Parts, none, part, ◌⨾◌, within}
-use Rattle.crs_same.specs.PartsOfCrs.{parts_of_method, parts_of_conversion, parts_of_dynamic, parts_of_tail, parts_of_geodetic, parts_of_base, parts_of_projected, parts_of_vertical, parts_of_horizontal, parts_of_compound, parts_of_crs}
-use Rattle.crs_same.specs.PartsOfFrames.{parts_of_ellipsoid, parts_of_ellipsoids, parts_of_given, or_greenwich, parts_of_meridian, parts_of_datum, parts_of_ensemble, parts_of_frame}
-use Rattle.crs_same.specs.PartsOfSystems.{parts_of_axis, parts_at, parts_of_axes, parts_of_system}
+use Rattle.crs_same.specs.Parts.{parts_of_method, parts_of_conversion, parts_of_dynamic, parts_of_tail, parts_of_geodetic, parts_of_base, parts_of_projected, parts_of_vertical, parts_of_horizontal, parts_of_compound, parts_of_crs}
+use Rattle.crs_same.specs.Parts.{parts_of_ellipsoid, parts_of_ellipsoids, parts_of_given, or_greenwich, parts_of_meridian, parts_of_datum, parts_of_ensemble, parts_of_frame, parts_of_axis, parts_at, parts_of_axes, parts_of_system, nodes}
 use Rattle.crs_same.specs.inner.Prelude.{StandsAt, SameIdents, usages_of, SameUsages, SameRemark}
-use Rattle.crs_same.specs.SingleParts.{nodes}
 
 -- such a part is the same by definition
 abbrev pub IsLeftOut : Level → Type 0 → Type 0

@@ -8,8 +8,7 @@ use Rattle.crs_value.specs.Sound.{Each}
 use Rattle.crs_same.specs.declared.content.Content.{Content}
 use Rattle.crs_same.specs.declared.step.Step.{Step}
 use Rattle.crs_same.specs.Definition.{IsOfDefinition}
-use Rattle.crs_same.specs.Parts.{◌▸◌, Parts, none, part, ◌⨾◌, First}
-use Rattle.crs_same.specs.PartsOfCrs.{FirstInCrs}
+use Rattle.crs_same.specs.Parts.{◌▸◌, Parts, none, part, ◌⨾◌, First, FirstInCrs}
 use Rattle.crs_same.proofs.EachPartLemmas.{IsLeftOut, Spreads, SoundIn, crs-of}
 
 -- what is found has the property

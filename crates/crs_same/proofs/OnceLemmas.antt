@@ -4,8 +4,7 @@ use Rattle.crs_value.specs.declared.values.level.Level.{Level}
 use Rattle.crs_value.specs.declared.values.level.Level.TheVariants as levels
 use Rattle.crs_value.specs.inner.Prelude.{IsIn, AreIn, HaveSameMembers}
 use Rattle.crs_value.specs.NamedValues.{IdentParts}
-use Rattle.crs_same.specs.SameIdents.{SameIdent, SameIdents}
-use Rattle.crs_same.specs.Sets.{HasSame, AllHaveSame, SameSet}
+use Rattle.crs_same.specs.SameIdents.{SameIdent, SameIdents, HasSame, AllHaveSame, SameSet}
 
 -- a same one among these is among those that they are of
 same-of : {V : Type 0} (Same : V → V → Type 0) (x y : V) (zs : List V) → Same x y → IsIn y zs → HasSame Same x zs

@@ -1,7 +1,7 @@
 -- Sets: the member at a place is one of the list.
 use Rattle.std.proofs.Common.{◌≡◌, ◌+◌, ◌<◌, ℕ, zero, suc, List, [], ◌∷◌, Some, arith, drop, get_or, le_of_suc-le-suc, length, not-suc-le-zero, slice_get, inl, inr, subst, sym, take}
 use Rattle.crs_same.specs.Sameness.{IsSameness}
-use Rattle.crs_same.specs.Sets.{AllHaveSame, HasSame, SameSet}
+use Rattle.crs_same.specs.SameIdents.{AllHaveSame, HasSame, SameSet}
 
 -- x is the same as the one at this place
 pub has_at : {V : Type 0} (Same : V → V → Type 0) (x : V) (ys : List V) (at : ℕ) → HasSame Same x (take 1 (drop at ys)) → HasSame Same x ys

@@ -6,7 +6,7 @@ use Rattle.crs_value.specs.declared.values.crs.Crs.{Crs}
 use Rattle.crs_value.specs.declared.values.crs.Crs.TheVariants as crs
 use Rattle.crs_value.specs.declared.values.level.Level.{Level}
 use Rattle.crs_value.specs.inner.Prelude.{CompoundParts, IsCompound, IsHorizontal, IsCrs, IsSystem, AxisParts, SystemParts}
-use Rattle.crs_same.specs.PartsOfCrs.{parts_of_crs}
+use Rattle.crs_same.specs.Parts.{parts_of_crs}
 use Rattle.crs_same.specs.inner.Prelude.{StandsAt, HasAt}
 use Rattle.crs_same.proofs.AllSameLemmas.{IsSettled}
 use Rattle.crs_same.proofs.EachPartLemmas as each

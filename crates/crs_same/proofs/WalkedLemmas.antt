@@ -8,9 +8,7 @@ use Rattle.crs_same.specs.declared.found.Found.{Found}
 use Rattle.crs_same.specs.declared.found.Found.TheVariants as found
 use Rattle.crs_same.specs.declared.step.Step.{Step}
 use Rattle.crs_same.specs.declared.step.Step.TheVariants as step
-use Rattle.crs_same.specs.Parts.{◌▸◌, Parts, none, part, ◌⨾◌, within, First, Differences}
-use Rattle.crs_same.specs.PartsOfFrames.{parts_of_given, or_greenwich}
-use Rattle.crs_same.specs.PartsOfSystems.{parts_at, parts_of_axes}
+use Rattle.crs_same.specs.Parts.{◌▸◌, Parts, none, part, ◌⨾◌, within, First, Differences, parts_of_given, or_greenwich, parts_at, parts_of_axes}
 use Rattle.crs_same.specs.inner.Prelude.{SameIdents, SameValue}
 use Rattle.crs_same.specs.inner.Walked.{IsDone, IsRefused, Walks, Walked}
 

@@ -1,14 +1,8 @@
-pub mod Contents
 pub mod Definition
 pub mod Parts
-pub mod PartsOfCrs
-pub mod PartsOfFrames
-pub mod PartsOfSystems
 pub mod Paths
 pub mod SameCrs
 pub mod SameIdents
 pub mod SameParts
 pub mod Sameness
-pub mod Sets
-pub mod SingleParts
 pub mod inner

@@ -6,8 +6,7 @@ use Rattle.crs_value.specs.declared.values.crs.Crs.{Crs}
 use Rattle.crs_value.specs.declared.values.level.Level.{Level}
 use Rattle.crs_value.specs.Values.{DynamicParts}
 use Rattle.crs_value.specs.SoundSingle.{IsGeodetic, IsProjected}
-use Rattle.crs_same.specs.Parts.{AllSame, AreSame}
-use Rattle.crs_same.specs.PartsOfCrs.{parts_of_crs, parts_of_dynamic}
+use Rattle.crs_same.specs.Parts.{AllSame, AreSame, parts_of_crs, parts_of_dynamic}
 
 -- two CRSs are the same at a level: all their parts are
 unfoldable pub SameCrs : Level → Crs → Crs → Type 0

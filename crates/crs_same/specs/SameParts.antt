@@ -4,14 +4,12 @@ use Rattle.crs_decimal.specs.Value.{SameNumber, whole_number, Value, exact}
 use Rattle.crs_shape.specs.declared.unit_kind.UnitKind.{UnitKind}
 use Rattle.crs_value.specs.declared.values.level.Level.{Level}
 use Rattle.crs_value.specs.Values.{UnitParts, AxisMeridianParts, AxisParts, BoxParts, ExtentParts, UsageParts, TailParts, ParameterParts}
-use Rattle.crs_same.specs.SameIdents.{SameIdents}
-use Rattle.crs_same.specs.Sets.{BothOrNeither}
+use Rattle.crs_same.specs.SameIdents.{SameIdents, BothOrNeither}
 use Rattle.crs_shape.specs.declared.unit_kind.UnitKind.TheVariants as kinds
 use Rattle.crs_value.specs.declared.values.level.Level.TheVariants as levels
 pub use Rattle.crs_shape.specs.Words.{kind_as}
 pub use Rattle.crs_value.specs.Sound.{own_or}
-pub use Rattle.crs_same.specs.Sets.{with_bare}
-pub use Rattle.crs_same.specs.SameIdents.{SameNamed as SameMember, SameNamed as SameDeformationModel, SameNamed as SameGeoidModel}
+pub use Rattle.crs_same.specs.SameIdents.{with_bare, SameNamed as SameMember, SameNamed as SameDeformationModel, SameNamed as SameGeoidModel}
 
 -- ---- units
 

@@ -1,7 +1,7 @@
 //! Axes by themselves, and the axis at a position.
 ghost use Rattle.std.specs.Prelude.{◌↔◌, IsTrue};
 ghost use Rattle.std.specs.Option.{option_copied};
-ghost use Rattle.crs_same.specs.Sets.{BothOrNeither};
+ghost use Rattle.crs_same.specs.SameIdents.{BothOrNeither};
 ghost use Rattle.crs_same.specs.SameParts.{SameAxisMeridian, SameAxisAlone, IsPositionOf, StandsAt};
 
 use crate::named::same_idents;

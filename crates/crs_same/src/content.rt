@@ -2,7 +2,7 @@
 ghost use Rattle.std.specs.Prelude.{◌≡◌};
 ghost use Rattle.std.specs.Option.{option_copied};
 ghost use Rattle.crs_same.specs.declared.content.Content.TheVariants as content;
-ghost use Rattle.crs_same.specs.Contents.{given, length_unit};
+ghost use Rattle.crs_same.specs.Parts.{given, length_unit};
 
 use crate::SetMembers;
 use crs_decimal::Decimal;

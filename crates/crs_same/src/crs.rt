@@ -3,11 +3,9 @@ ghost use Rattle.std.specs.Prelude.{◌≡◌, ◌≤◌, ◌↔◌, [], IfOk, I
 ghost use Rattle.crs_value.specs.ReadsCrs.{kind_by, kind_of};
 ghost use Rattle.crs_same.specs.declared.content.Content.TheVariants as content;
 ghost use Rattle.crs_same.specs.declared.step.Step.TheVariants as step;
-ghost use Rattle.crs_same.specs.Parts.{◌▸◌, AreSame};
-ghost use Rattle.crs_same.specs.PartsOfCrs.{kind_word, horizontal_word, parts_of_geodetic, parts_of_base};
-ghost use Rattle.crs_same.specs.PartsOfCrs.{parts_of_projected, parts_of_vertical, parts_of_horizontal};
-ghost use Rattle.crs_same.specs.PartsOfCrs.{parts_of_compound, parts_of_crs, FirstInCrs, DifferencesInCrs};
-ghost use Rattle.crs_same.specs.SingleParts.{words, unlike, sets};
+ghost use Rattle.crs_same.specs.Parts.{◌▸◌, AreSame, kind_word, horizontal_word, parts_of_geodetic, parts_of_base};
+ghost use Rattle.crs_same.specs.Parts.{parts_of_projected, parts_of_vertical, parts_of_horizontal};
+ghost use Rattle.crs_same.specs.Parts.{parts_of_compound, parts_of_crs, FirstInCrs, DifferencesInCrs, words, unlike, sets};
 ghost use Rattle.crs_same.specs.inner.Walked.{Walked};
 ghost use Rattle.crs_same.specs.SameCrs.{SameCrs};
 ghost use Rattle.crs_same.specs.SameParts.{SameGeoidModel};

@@ -7,9 +7,7 @@ ghost use Rattle.crs_shape.specs.declared.unit_kind.UnitKind.TheVariants as kind
 ghost use Rattle.crs_same.specs.declared.step.Step.{Step};
 ghost use Rattle.crs_same.specs.declared.step.Step.TheVariants as step;
 ghost use Rattle.crs_same.specs.declared.found.Found.TheVariants as found;
-ghost use Rattle.crs_same.specs.Contents.{length_unit};
-ghost use Rattle.crs_same.specs.Parts.{◌▸◌, part};
-ghost use Rattle.crs_same.specs.SingleParts.{texts, optional_texts, unlike, numbers, optional_numbers, units, identifiers};
+ghost use Rattle.crs_same.specs.Parts.{length_unit, ◌▸◌, part, texts, optional_texts, unlike, numbers, optional_numbers, units, identifiers};
 ghost use Rattle.crs_same.specs.SameParts.{SameLength};
 ghost use Rattle.crs_same.specs.inner.Walked.{IsDone, IsOfAll, Walked};
 

@@ -3,8 +3,7 @@
 ghost use Rattle.std.specs.Prelude.{◌↔◌, IsTrue, None};
 ghost use Rattle.std.specs.Option.{option_copied};
 ghost use Rattle.crs_same.specs.SameParts.{SameGeoidModel, SameDeformationModel, SameMember, SameParameter};
-ghost use Rattle.crs_same.specs.SameIdents.{SameIdent, SameIdents};
-ghost use Rattle.crs_same.specs.Sets.{BothOrNeither};
+ghost use Rattle.crs_same.specs.SameIdents.{SameIdent, SameIdents, BothOrNeither};
 
 use crate::laws;
 use crate::sets::{SetMember, SetMembers, same_set};

@@ -6,10 +6,8 @@ ghost use Rattle.crs_same.specs.SameParts.{SameParameter, SameDeformationModel, 
 ghost use Rattle.crs_same.specs.inner.Agreement.{SameUsages};
 ghost use Rattle.crs_same.specs.declared.content.Content.TheVariants as content;
 ghost use Rattle.crs_same.specs.declared.step.Step.TheVariants as step;
-ghost use Rattle.crs_same.specs.Parts.{◌▸◌, AreSame};
-ghost use Rattle.crs_same.specs.PartsOfCrs.{parts_of_conversion, parts_of_dynamic, parts_of_method, parts_of_tail};
+ghost use Rattle.crs_same.specs.Parts.{◌▸◌, AreSame, parts_of_conversion, parts_of_dynamic, parts_of_method, parts_of_tail, optional, sets};
 ghost use Rattle.crs_same.specs.SameCrs.{SameDynamic};
-ghost use Rattle.crs_same.specs.SingleParts.{optional, sets};
 ghost use Rattle.crs_same.specs.inner.Walked.{Walked};
 
 use crate::content::{Content, Members, Usages};

@@ -3,7 +3,7 @@ ghost use Rattle.std.specs.Prelude.{◌≡◌, ◌≤◌, ◌↔◌, IsTrue, dro
 ghost use Rattle.std.specs.Option.{option_copied};
 ghost use Rattle.crs_value.specs.declared.values.level.Level.{Level};
 ghost use Rattle.crs_same.specs.Sameness.{IsSameness};
-ghost use Rattle.crs_same.specs.Sets.{HasSame, AllHaveSame, SameSet, with_bare};
+ghost use Rattle.crs_same.specs.SameIdents.{HasSame, AllHaveSame, SameSet, with_bare};
 
 use crs_value::{CounterpartHints, Level};
 use std::marker::Model;
@@ -33,7 +33,7 @@ pub struct SetMembers<'b, T> {
 impl<'b, T> Model for SetMembers<'b, T> {
     ghost use Rattle.std.specs.Prelude as std;
     ghost use Rattle.std.specs.Option.{option_copied};
-    ghost use Rattle.crs_same.specs.Sets.{with_bare};
+    ghost use Rattle.crs_same.specs.SameIdents.{with_bare};
 
     ghost Value = { std.List T };
 

@@ -3,7 +3,7 @@ ghost use Rattle.std.specs.Prelude.{◌≡◌, ◌↔◌, IsTrue, None};
 ghost use Rattle.std.specs.Option.{option_copied};
 ghost use Rattle.crs_shape.specs.declared.unit_kind.UnitKind.TheVariants as kinds;
 ghost use Rattle.crs_same.specs.SameParts.{SameUnitAsked, SameUnit, SameLength, SameValue, or_metre};
-ghost use Rattle.crs_same.specs.Sets.{BothOrNeither};
+ghost use Rattle.crs_same.specs.SameIdents.{BothOrNeither};
 
 use crate::laws;
 use crate::named::{same_idents, same_kept_idents};

@@ -4,10 +4,8 @@ ghost use Rattle.std.specs.Option.{option_copied};
 ghost use Rattle.crs_shape.specs.Words.{direction_word, system_word};
 ghost use Rattle.crs_same.specs.declared.content.Content.TheVariants as content;
 ghost use Rattle.crs_same.specs.declared.step.Step.TheVariants as step;
-ghost use Rattle.crs_same.specs.Parts.{◌▸◌};
-ghost use Rattle.crs_same.specs.SingleParts.{words, optional};
+ghost use Rattle.crs_same.specs.Parts.{◌▸◌, words, optional, parts_of_axis, parts_at, parts_of_axes, parts_of_system};
 ghost use Rattle.crs_same.specs.inner.Walked.{Walked};
-ghost use Rattle.crs_same.specs.PartsOfSystems.{parts_of_axis, parts_at, parts_of_axes, parts_of_system};
 ghost use Rattle.crs_same.specs.SameParts.{SameAxisMeridian};
 
 use crate::content::Content;

@@ -1,6 +1,6 @@
 //! Usages, and the boxes and extents that they hold.
 ghost use Rattle.std.specs.Prelude.{◌↔◌, IsTrue};
-ghost use Rattle.crs_same.specs.Sets.{BothOrNeither};
+ghost use Rattle.crs_same.specs.SameIdents.{BothOrNeither};
 ghost use Rattle.crs_same.specs.SameParts.{SameBox, SameExtent, SameUsage};
 
 use crate::laws;

@@ -1,7 +1,7 @@
 -- The text of a set: the spellings of its members, each once, in ascending order of their bytes, a
 -- comma between two.
 use Rattle.std.specs.Prelude.{◌≡◌, ◌↔◌, ◌⊎◌, ℕ, List, [], ◌∷◌, ◌++◌}
-use Rattle.crs_same.specs.Sets.{SameSet}
+use Rattle.crs_same.specs.SameIdents.{SameSet}
 use Rattle.crs_normal.specs.Ascending.{Ascends, IsIn}
 
 -- the texts after one another, a comma before each

@@ -2,9 +2,8 @@
 ghost use Rattle.crs_value.specs.SoundCompound.{IsCompound};
 ghost use Rattle.crs_value.specs.SoundCrs.{IsCrs};
 ghost use Rattle.crs_value.specs.SoundSingle.{IsBase, IsGeodetic, IsProjected, IsVertical};
-ghost use Rattle.crs_same.specs.Parts.{AreSame};
-ghost use Rattle.crs_same.specs.PartsOfCrs.{parts_of_base, parts_of_compound, parts_of_geodetic, parts_of_horizontal};
-ghost use Rattle.crs_same.specs.PartsOfCrs.{parts_of_projected, parts_of_vertical};
+ghost use Rattle.crs_same.specs.Parts.{AreSame, parts_of_base, parts_of_compound, parts_of_geodetic, parts_of_horizontal};
+ghost use Rattle.crs_same.specs.Parts.{parts_of_projected, parts_of_vertical};
 ghost use Rattle.crs_same.specs.SameCrs.{SameCrs};
 ghost use Rattle.crs_normal.specs.PartSpellings.{IsHorizontalPart, IsSpelledBase, IsSpelledCompound, IsSpelledGeodetic};
 ghost use Rattle.crs_normal.specs.PartSpellings.{IsSpelledHorizontal, IsSpelledProjected, IsSpelledVertical};

@@ -1,8 +1,7 @@
 //! Reference frames, ensembles and their members, ellipsoids, prime meridians, and dynamic parts.
 ghost use Rattle.crs_value.specs.SoundParts.{IsDeformationModel, IsDynamic, IsDatum, IsEllipsoid, IsEnsemble, IsMember, IsMeridian};
 ghost use Rattle.crs_same.specs.SameParts.{SameDeformationModel, SameMember};
-ghost use Rattle.crs_same.specs.Parts.{AreSame};
-ghost use Rattle.crs_same.specs.PartsOfFrames.{parts_of_datum, parts_of_ellipsoid, parts_of_ensemble, parts_of_frame, parts_of_given};
+ghost use Rattle.crs_same.specs.Parts.{AreSame, parts_of_datum, parts_of_ellipsoid, parts_of_ensemble, parts_of_frame, parts_of_given};
 ghost use Rattle.crs_same.specs.SameCrs.{SameDynamic};
 ghost use Rattle.crs_normal.specs.PartSpellings.{IsFrame, IsSpelledDatum, IsSpelledDeformationModel, IsSpelledDynamic};
 ghost use Rattle.crs_normal.specs.PartSpellings.{IsSpelledEllipsoid, IsSpelledEnsemble, IsSpelledFrame, IsSpelledMember, IsSpelledMeridian};

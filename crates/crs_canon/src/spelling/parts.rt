@@ -4,8 +4,7 @@ ghost use Rattle.crs_value.specs.Sound.{IsAxis, IsAxisMeridian, IsIdent, IsUnit,
 ghost use Rattle.crs_value.specs.SoundParts.{IsConversion, IsGeoidModel, IsMethod, IsParameter};
 ghost use Rattle.crs_same.specs.SameParts.{SameGeoidModel, SameParameter, SameAxisAlone, SameAxisMeridian, SameUnit, SameBox, SameExtent, SameUsage};
 ghost use Rattle.crs_same.specs.SameIdents.{SameIdent};
-ghost use Rattle.crs_same.specs.Parts.{AreSame};
-ghost use Rattle.crs_same.specs.PartsOfCrs.{parts_of_conversion, parts_of_method};
+ghost use Rattle.crs_same.specs.Parts.{AreSame, parts_of_conversion, parts_of_method};
 ghost use Rattle.crs_normal.specs.AxisAlone.{IsSpelledAxis};
 ghost use Rattle.crs_normal.specs.PartSpellings.{IsSpelledAxisMeridian, IsSpelledBox, IsSpelledConversion};
 ghost use Rattle.crs_normal.specs.PartSpellings.{IsSpelledExtent, IsSpelledGeoidModel, IsSpelledIdent, IsSpelledMethod};

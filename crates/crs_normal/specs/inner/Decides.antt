@@ -8,8 +8,7 @@ use Rattle.crs_value.specs.Kept.{kept}
 use Rattle.crs_value.specs.declared.values.level.Level.{Level}
 use Rattle.crs_same.specs.SameParts.{SameGeoidModel, SameParameter, SameMember, SameUsage}
 use Rattle.crs_same.specs.SameCrs.{SameCrs}
-use Rattle.crs_same.specs.SameIdents.{SameIdents}
-use Rattle.crs_same.specs.Sets.{SameSet}
+use Rattle.crs_same.specs.SameIdents.{SameIdents, SameSet}
 use Rattle.crs_normal.specs.inner.SpelledConversions.{set_geoid_models, set_parameters}
 use Rattle.crs_normal.specs.inner.SpelledCrs.{norm_crs}
 use Rattle.crs_normal.specs.inner.SpelledFrames.{set_members}

@@ -11,10 +11,9 @@ ghost use Rattle.crs_value.specs.SoundParts.{IsDatum, IsEllipsoid, IsEnsemble, I
 ghost use Rattle.crs_value.specs.SoundSingle.{IsBase, IsGeodetic, IsProjected, IsVertical};
 ghost use Rattle.crs_value.specs.Values.{AxisParts};
 ghost use Rattle.crs_value.specs.declared.values.level.Level.{Level};
-ghost use Rattle.crs_same.specs.Parts.{AreSame};
-ghost use Rattle.crs_same.specs.PartsOfCrs.{parts_of_method, parts_of_conversion, parts_of_base, parts_of_geodetic};
-ghost use Rattle.crs_same.specs.PartsOfCrs.{parts_of_projected, parts_of_vertical, parts_of_compound, parts_of_horizontal};
-ghost use Rattle.crs_same.specs.PartsOfFrames.{parts_of_ellipsoid, parts_of_given, parts_of_datum, parts_of_ensemble, parts_of_frame};
+ghost use Rattle.crs_same.specs.Parts.{AreSame, parts_of_method, parts_of_conversion, parts_of_base, parts_of_geodetic};
+ghost use Rattle.crs_same.specs.Parts.{parts_of_projected, parts_of_vertical, parts_of_compound, parts_of_horizontal};
+ghost use Rattle.crs_same.specs.Parts.{parts_of_ellipsoid, parts_of_given, parts_of_datum, parts_of_ensemble, parts_of_frame};
 ghost use Rattle.crs_same.specs.SameParts.{SameGeoidModel, SameParameter, SameDeformationModel, SameMember, SameAxisAlone, SameAxisMeridian, SameUnit, SameBox, SameExtent, SameUsage};
 ghost use Rattle.crs_same.specs.SameCrs.{SameDynamic};
 ghost use Rattle.crs_same.specs.SameIdents.{SameIdent};

@@ -1,7 +1,7 @@
 -- How equivalences are put together: by a field, by parts, of what may be missing, and of sets.
 use Rattle.std.proofs.Common.{◌≡◌, ◌↔◌, ◌∙◌, refl, sym, List, [], ◌∷◌, Option, Some, None, inl, inr}
 use Rattle.crs_same.specs.Sameness.{IsSameness, IsSamenessOf}
-use Rattle.crs_same.specs.Sets.{HasSame, AllHaveSame, SameSet, BothOrNeither}
+use Rattle.crs_same.specs.SameIdents.{HasSame, AllHaveSame, SameSet, BothOrNeither}
 
 infixr 20 ◌⊗◌
 -- a field that is equal

@@ -1,4 +1,4 @@
-use Rattle.crs_same.specs.PartsOfCrs.{parts_of_crs}
+use Rattle.crs_same.specs.Parts.{parts_of_crs}
 use Rattle.crs_same.proofs.WalkedLemmas.{first-found, none-where-same}
 use Rattle.crs_same.proofs.crs.first_part.Goals as goal
 

@@ -1,4 +1,4 @@
-use Rattle.crs_same.specs.PartsOfCrs.{parts_of_crs}
+use Rattle.crs_same.specs.Parts.{parts_of_crs}
 use Rattle.crs_same.proofs.DifferenceLemmas.{one-list}
 use Rattle.crs_same.proofs.SettledLemmas.{crs-of}
 use Rattle.crs_same.proofs.laws.differences_are_one.Goals as goal

@@ -1,5 +1,5 @@
 use Rattle.std.proofs.Common.{[], ◌∷◌}
-use Rattle.crs_same.specs.PartsOfCrs.{parts_of_crs}
+use Rattle.crs_same.specs.Parts.{parts_of_crs}
 use Rattle.crs_same.proofs.DifferenceLemmas.{first-difference}
 use Rattle.crs_same.proofs.laws.first_difference_is_first_part.Goals as goal
 

@@ -1,4 +1,4 @@
-use Rattle.crs_same.specs.PartsOfCrs.{parts_of_crs}
+use Rattle.crs_same.specs.Parts.{parts_of_crs}
 use Rattle.crs_same.specs.SameCrs.{SameCrs}
 use Rattle.crs_same.proofs.AllSameLemmas.{all-first, none-found, some-found}
 use Rattle.crs_same.proofs.SettledLemmas.{crs-of}

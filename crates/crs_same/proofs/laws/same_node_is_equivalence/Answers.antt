@@ -3,9 +3,7 @@ use Rattle.crs_shape.specs.declared.unit_kind.UnitKind.TheVariants as kinds
 use Rattle.crs_value.specs.inner.Prelude.{kept, kept_one}
 use Rattle.crs_same.specs.inner.Prelude.{agree-as, agree-as-of, same-as, same-as-of, equal-by, by, ◌⊗◌, optional, set, usages_of}
 use Rattle.crs_same.specs.declared.step.Step.TheVariants as step
-use Rattle.crs_same.specs.Parts.{AreSame}
-use Rattle.crs_same.specs.PartsOfCrs.{parts_of_conversion, parts_of_dynamic, parts_of_method, parts_of_tail}
-use Rattle.crs_same.specs.PartsOfFrames.{unit_of, or_greenwich, parts_of_meridian}
+use Rattle.crs_same.specs.Parts.{AreSame, parts_of_conversion, parts_of_dynamic, parts_of_method, parts_of_tail, unit_of, or_greenwich, parts_of_meridian}
 use Rattle.crs_same.specs.SameCrs.{SameDynamic}
 use Rattle.crs_same.proofs.AgreementLemmas.{ellipsoids}
 use Rattle.crs_same.proofs.SamenessOfCrsLemmas as crss

@@ -1,5 +1,5 @@
 use Rattle.std.proofs.Common.{◌↔◌, drop}
-use Rattle.crs_same.specs.Sets.{HasSame}
+use Rattle.crs_same.specs.SameIdents.{HasSame}
 use Rattle.crs_same.proofs.sets.has_same.Given as goal
 
 abbrev pub invariant-loop-other : goal.invariant-loop-other

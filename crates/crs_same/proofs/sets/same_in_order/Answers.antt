@@ -1,5 +1,5 @@
 use Rattle.std.proofs.Common.{drop, rules, subst, take}
-use Rattle.crs_same.specs.Sets.{HasSame}
+use Rattle.crs_same.specs.SameIdents.{HasSame}
 use Rattle.crs_same.proofs.SetLemmas.{all_more, has_at, turned_more}
 use Rattle.crs_same.proofs.sets.same_in_order.Goals as goal
 

@@ -1,5 +1,5 @@
 use Rattle.std.proofs.Common.{◌≡◌, take}
-use Rattle.crs_same.specs.Sets.{AllHaveSame}
+use Rattle.crs_same.specs.SameIdents.{AllHaveSame}
 use Rattle.crs_same.proofs.sets.same_in_order.Given as goal
 
 abbrev pub invariant-loop-member : goal.invariant-loop-member

@@ -1,4 +1,4 @@
-use Rattle.crs_same.specs.PartsOfSystems.{parts_of_axes}
+use Rattle.crs_same.specs.Parts.{parts_of_axes}
 use Rattle.crs_same.specs.inner.Walked.{Walked}
 use Rattle.crs_same.proofs.found.Found.axes.Given as goal
 

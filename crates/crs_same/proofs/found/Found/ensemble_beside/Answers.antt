@@ -1,4 +1,4 @@
-use Rattle.crs_same.specs.PartsOfFrames.{parts_of_frame}
+use Rattle.crs_same.specs.Parts.{parts_of_frame}
 use Rattle.crs_same.proofs.WalkedLemmas.{via}
 use Rattle.crs_same.proofs.found.Found.ensemble_beside.Goals as goal
 

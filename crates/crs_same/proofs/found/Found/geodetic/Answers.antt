@@ -1,5 +1,5 @@
 use Rattle.std.proofs.Common.{rules}
-use Rattle.crs_same.specs.PartsOfCrs.{parts_of_geodetic}
+use Rattle.crs_same.specs.Parts.{parts_of_geodetic}
 use Rattle.crs_same.proofs.WalkedLemmas.{via}
 use Rattle.crs_same.proofs.found.Found.geodetic.Goals as goal
 

@@ -1,5 +1,5 @@
 use Rattle.std.proofs.Common.{rules}
-use Rattle.crs_same.specs.PartsOfFrames.{parts_of_meridian}
+use Rattle.crs_same.specs.Parts.{parts_of_meridian}
 use Rattle.crs_same.proofs.WalkedLemmas.{done, greenwiches}
 use Rattle.crs_same.proofs.found.Found.meridian.Goals as goal
 

@@ -1,4 +1,4 @@
-use Rattle.crs_same.specs.PartsOfCrs.{parts_of_projected}
+use Rattle.crs_same.specs.Parts.{parts_of_projected}
 use Rattle.crs_same.proofs.WalkedLemmas.{via}
 use Rattle.crs_same.proofs.found.Found.projected.Goals as goal
 

@@ -1,4 +1,4 @@
-use Rattle.crs_same.specs.PartsOfSystems.{parts_of_system}
+use Rattle.crs_same.specs.Parts.{parts_of_system}
 use Rattle.crs_same.proofs.WalkedLemmas.{via}
 use Rattle.crs_same.proofs.found.Found.system.Goals as goal
 

@@ -1,5 +1,5 @@
 use Rattle.std.proofs.Common.{rules}
-use Rattle.crs_same.specs.PartsOfCrs.{parts_of_tail}
+use Rattle.crs_same.specs.Parts.{parts_of_tail}
 use Rattle.crs_same.proofs.WalkedLemmas.{done, via}
 use Rattle.crs_same.proofs.found.Found.tail.Goals as goal
 

@@ -1,7 +1,7 @@
 use Rattle.std.proofs.Common.{List, Option, None, Some, inr, refl, subst}
 use Rattle.std.specs.Option.{option_copied}
 use Rattle.crs_same.proofs.SetLemmas.{has_at, has_over}
-use Rattle.crs_same.specs.Sets.{HasSame, with_bare}
+use Rattle.crs_same.specs.SameIdents.{HasSame, with_bare}
 use Rattle.crs_same.proofs.sets.SetMembers.includes.Goals as goal
 
 has_listed : {V : Type 0} (Same : V → V → Type 0) (member : V) (bare : Option V) (listed : List V) → HasSame Same member listed → HasSame Same member (with_bare bare listed)
