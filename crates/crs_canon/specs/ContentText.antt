@@ -9,8 +9,7 @@ use Rattle.crs_value.specs.declared.values.level.Level.{Level}
 use Rattle.crs_same.specs.declared.content.Content.{Content}
 use Rattle.crs_same.specs.declared.content.Content.TheVariants as content
 use Rattle.crs_same.specs.SameParts.{SameUnit}
-use Rattle.crs_normal.specs.PartSpellings.{IsSpelledAxisMeridian, IsSpelledDeformationModel, IsSpelledGeoidModel, IsSpelledIdent, IsSpelledMember, IsSpelledParameter, IsSpelledUsage, unit_class}
-use Rattle.crs_normal.specs.SpelledAs.{IsSpelledAs}
+use Rattle.crs_normal.specs.PartSpellings.{IsSpelledAxisMeridian, IsSpelledDeformationModel, IsSpelledGeoidModel, IsSpelledIdent, IsSpelledMember, IsSpelledParameter, IsSpelledUsage, unit_class, IsSpelledAs}
 use Rattle.crs_writer.specs.SetText.{IsSetText, SpellsOneOf}
 
 -- the bytes are the text of the set of those xs whose spelling none of the others has

@@ -4,7 +4,7 @@ use Rattle.std.specs.List.{filter}
 use Rattle.std.specs.Option.{is_some}
 use Rattle.std.specs.Str.{bytes_eq}
 use Rattle.crs_value.specs.Values.{ParameterParts}
-use Rattle.crs_normal.specs.Ascending.{Ascends, IsIn}
+use Rattle.crs_normal.specs.Normal.{Ascends, IsIn}
 
 -- those of this name
 abbrev pub of_name : List ℕ → List ParameterParts → List ParameterParts

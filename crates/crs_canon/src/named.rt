@@ -1,7 +1,7 @@
 //! The members of a set of parameters by their names.
 ghost use Rattle.std.specs.Prelude.{◌≡◌, IfOk, OnOk, map};
 ghost use Rattle.std.specs.Option.{option_copied};
-ghost use Rattle.crs_normal.specs.inner.Ordered.{put, put_all};
+ghost use Rattle.crs_normal.specs.inner.SpelledItems.{put, put_all};
 ghost use Rattle.crs_normal.specs.PartSpellings.{IsSpelledParameter};
 ghost use Rattle.crs_normal.specs.inner.PartTexts.{parameter_text};
 ghost use Rattle.crs_writer.specs.inner.Members.{spellings};

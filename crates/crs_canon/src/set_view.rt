@@ -3,7 +3,7 @@ ghost use Rattle.std.specs.Prelude.{◌≡◌, ◌↔◌, ◌++◌, ℕ, IsTrue,
 ghost use Rattle.crs_value.specs.Sound.{Each};
 ghost use Rattle.crs_value.specs.declared.values.level.Level.{Level};
 ghost use Rattle.crs_same.specs.SameIdents.{AllHaveSame, HasSame, SameSet};
-ghost use Rattle.crs_normal.specs.Ascending.{IsIn};
+ghost use Rattle.crs_normal.specs.Normal.{IsIn};
 ghost use Rattle.crs_writer.specs.inner.Members.{AreSpellingsOf};
 ghost use Rattle.crs_writer.specs.SetText.{HaveOneTextWhereSame, IsSetText, commas, comma_separated};
 ghost use Rattle.crs_canon.specs.Appended.{AppendsOrNothing};

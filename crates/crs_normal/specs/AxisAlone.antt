@@ -11,7 +11,7 @@ use Rattle.crs_value.specs.Values.{AxisParts}
 use Rattle.crs_value.specs.declared.values.level.Level.{Level}
 use Rattle.crs_same.specs.SameParts.{SameAxisAlone}
 use Rattle.crs_normal.specs.Normal.{IsNormalIn, IsNormalNode}
-use Rattle.crs_normal.specs.SpelledAs.{IsSpelledBy}
+use Rattle.crs_normal.specs.PartSpellings.{IsSpelledBy}
 
 -- an argument of this class is normal in an axis, or is a unit that is a normal `UNIT`
 abbrev pub IsNormalArgument : Level → Class → Item → Type 0

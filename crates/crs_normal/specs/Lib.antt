@@ -1,9 +1,6 @@
-pub mod Ascending
 pub mod AxisAlone
 pub mod CanonicalForm
 pub mod Closed
 pub mod Normal
-pub mod NormalOwn
 pub mod PartSpellings
-pub mod SpelledAs
 pub mod inner

@@ -1,11 +1,16 @@
--- Which bytes are the one spelling of a node by itself, outside a CRS.
-use Rattle.std.specs.Prelude.{ℕ, List, Option, Some, None}
+-- Spellings: which bytes are the one spelling of a value by itself.
+use Rattle.std.specs.Prelude.{◌≡◌, ℕ, List, Option, Some, None}
+use Rattle.crs_text.specs.Items.{Item}
+use Rattle.crs_text.specs.Refusal.{RefusedAt}
+use Rattle.crs_text.specs.TextFault.{SpellsNode}
+use Rattle.crs_text.specs.Written.{item_text}
 use Rattle.crs_shape.specs.declared.class.Class.{Class}
-use Rattle.crs_shape.specs.declared.class.Class.TheVariants as class
+use Rattle.crs_shape.specs.ShapeFault.{Shaped}
+use Rattle.crs_value.specs.Checks.{Breaks}
+use Rattle.crs_value.specs.declared.values.level.Level.{Level}
+use Rattle.crs_normal.specs.Normal.{IsNormalIn}
 use Rattle.crs_shape.specs.declared.system_type.SystemType.{SystemType}
-use Rattle.crs_shape.specs.declared.system_type.SystemType.TheVariants as types
 use Rattle.crs_shape.specs.declared.unit_kind.UnitKind.{UnitKind}
-use Rattle.crs_shape.specs.declared.unit_kind.UnitKind.TheVariants as kinds
 use Rattle.crs_value.specs.CompoundValues.{CompoundParts}
 use Rattle.crs_value.specs.Values.{ConversionParts, GeoidModelParts, MethodParts, ParameterParts, DeformationModelParts, DynamicParts, AxisMeridianParts, BoxParts, DatumParts, EllipsoidParts, EnsembleParts, ExtentParts, IdentParts, MemberParts, MeridianParts, UnitParts, UsageParts}
 use Rattle.crs_value.specs.CrsValues.{BaseParts, GeodeticParts, ProjectedParts, VerticalParts}
@@ -13,18 +18,40 @@ use Rattle.crs_value.specs.Reads.{ReadsAxisMeridian, ReadsBox, ReadsDatum, Reads
 use Rattle.crs_value.specs.ReadsCrs.{ReadsBase, ReadsCompound, ReadsGeodetic, ReadsProjected, ReadsVertical}
 use Rattle.crs_value.specs.SoundParts.{IsDatum, IsEnsemble}
 use Rattle.crs_value.specs.declared.values.compound.Horizontal.{Horizontal}
-use Rattle.crs_value.specs.declared.values.compound.Horizontal.TheVariants as horizontal
 use Rattle.crs_value.specs.declared.values.frame.Frame.{Frame}
-use Rattle.crs_value.specs.declared.values.frame.Frame.TheVariants as frame
-use Rattle.crs_value.specs.declared.values.level.Level.{Level}
-use Rattle.crs_value.specs.declared.values.level.Level.TheVariants as levels
-use Rattle.crs_same.specs.Parts.{AreSame, parts_of_method, parts_of_conversion, parts_of_base, parts_of_geodetic, parts_of_projected, parts_of_vertical, parts_of_compound}
-use Rattle.crs_same.specs.Parts.{parts_of_ellipsoid, parts_of_given, parts_of_datum, parts_of_ensemble}
+use Rattle.crs_same.specs.Parts.{AreSame, parts_of_method, parts_of_conversion, parts_of_base, parts_of_geodetic, parts_of_projected, parts_of_vertical, parts_of_compound, parts_of_ellipsoid, parts_of_given, parts_of_datum, parts_of_ensemble}
 use Rattle.crs_same.specs.SameParts.{SameGeoidModel, SameParameter, SameDeformationModel, SameMember, SameAxisMeridian, SameUnit, SameBox, SameExtent, SameUsage}
 use Rattle.crs_same.specs.SameCrs.{SameDynamic}
-pub use Rattle.crs_same.specs.SameCrs.{IsHorizontalPart}
 use Rattle.crs_same.specs.SameIdents.{SameIdent}
-use Rattle.crs_normal.specs.SpelledAs.{IsSpelledAs}
+use Rattle.crs_shape.specs.declared.class.Class.TheVariants as class
+use Rattle.crs_shape.specs.declared.system_type.SystemType.TheVariants as types
+use Rattle.crs_shape.specs.declared.unit_kind.UnitKind.TheVariants as kinds
+use Rattle.crs_value.specs.declared.values.compound.Horizontal.TheVariants as horizontal
+use Rattle.crs_value.specs.declared.values.frame.Frame.TheVariants as frame
+use Rattle.crs_value.specs.declared.values.level.Level.TheVariants as levels
+pub use Rattle.crs_same.specs.SameCrs.{IsHorizontalPart}
+
+-- the bytes are a node of this class, written without white space and in square delimiters; it has
+-- the shape of its class, breaks no check and is normal in this sense, and a value that is the same
+-- is read from it
+pub record IsSpelledBy {V : Type 0} (c : Class) (IsNormal : Item → Type 0)
+    (Reads : Class → Item → V → Type 0) (Same : V → V → Type 0) (value : V) (bytes : List ℕ) : Type 0 where
+  pub item : Item
+  pub spells : SpellsNode bytes item
+  pub written : bytes ≡ item_text item
+  pub shaped : Shaped c item
+  pub unbroken : (fault : RefusedAt) → ¬ (Breaks c item fault)
+  pub normal : IsNormal item
+  pub read : V
+  pub reads : Reads c item read
+  pub same : Same value read
+
+-- normal as one of its class at the level
+abbrev pub IsSpelledAs : {V : Type 0} → Level → Class → (Class → Item → V → Type 0) → (V → V → Type 0) →
+    V → List ℕ → Type 0
+IsSpelledAs level c = IsSpelledBy c (IsNormalIn level c c)
+
+-- ---- which bytes are the one spelling of a node by itself, outside a CRS
 
 -- the one spelling of an identifier by itself: with all that it holds, at each level
 abbrev pub IsSpelledIdent : Level → IdentParts → List ℕ → Type 0

@@ -1,14 +1,9 @@
 pub mod Decides
 pub mod Examples
 pub mod LowerLaws
-pub mod Ordered
 pub mod PartTexts
 pub mod Prelude
-pub mod SpelledConversions
 pub mod SpelledCrs
-pub mod SpelledDynamic
 pub mod SpelledFrames
 pub mod SpelledItems
-pub mod SpelledSystems
-pub mod SpelledUsages
 pub mod WrittenForm

@@ -1,6 +1,6 @@
 -- Rules in another order.
 use Rattle.std.specs.Prelude.{◌≡◌, List}
-use Rattle.crs_normal.specs.Ascending.{IsIn}
+use Rattle.crs_normal.specs.Normal.{IsIn}
 use Rattle.crs_value.specs.Sound.{Each}
 use Rattle.crs_rules.specs.Rules.{RulesParts}
 

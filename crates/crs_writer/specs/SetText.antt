@@ -2,7 +2,7 @@
 -- comma between two.
 use Rattle.std.specs.Prelude.{◌≡◌, ◌↔◌, ◌⊎◌, ℕ, List, [], ◌∷◌, ◌++◌}
 use Rattle.crs_same.specs.SameIdents.{SameSet}
-use Rattle.crs_normal.specs.Ascending.{Ascends, IsIn}
+use Rattle.crs_normal.specs.Normal.{Ascends, IsIn}
 
 -- the texts after one another, a comma before each
 abbrev pub commas : List (List ℕ) → List ℕ

@@ -5,7 +5,7 @@ ghost use Rattle.crs_value.specs.Reading.{those, ReadsAll};
 ghost use Rattle.crs_value.specs.inner.Arguments.{Holds, item_at};
 ghost use Rattle.crs_value.specs.Reads.{ReadsAxis};
 ghost use Rattle.crs_value.specs.Values.{AxisParts};
-ghost use Rattle.crs_normal.specs.inner.SpelledSystems.{axis_at, is_at, is_number};
+ghost use Rattle.crs_normal.specs.inner.SpelledCrs.{axis_at, is_at, is_number};
 ghost use Rattle.crs_writer.specs.inner.FromItems.{IsReadAt};
 
 use crate::Node;

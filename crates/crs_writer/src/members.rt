@@ -4,7 +4,7 @@ ghost use Rattle.crs_text.specs.Items.{Item};
 ghost use Rattle.crs_shape.specs.declared.class.Class.{Class};
 ghost use Rattle.crs_value.specs.inner.Arguments.{from_found, Holds};
 ghost use Rattle.crs_value.specs.Reading.{ReadsEach};
-ghost use Rattle.crs_normal.specs.inner.Ordered.{put};
+ghost use Rattle.crs_normal.specs.inner.SpelledItems.{put};
 ghost use Rattle.crs_writer.specs.inner.Node.{item};
 ghost use Rattle.crs_writer.specs.inner.FromItems.{Writes};
 ghost use Rattle.crs_writer.specs.inner.Parts.{SaysFirst};

@@ -1,6 +1,6 @@
 //! Sets: each spelling once, in ascending order of the bytes.
 ghost use Rattle.std.specs.Prelude.{◌≡◌, ◌∷◌, ◌++◌, List, map, OnOk};
-ghost use Rattle.crs_normal.specs.inner.Ordered.{put, put_all};
+ghost use Rattle.crs_normal.specs.inner.SpelledItems.{put, put_all};
 ghost use Rattle.crs_writer.specs.inner.FromItems.{Writes};
 ghost use Rattle.crs_writer.specs.inner.Members.{set_text, spellings};
 ghost use Rattle.crs_writer.specs.SetText.{commas};

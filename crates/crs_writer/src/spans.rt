@@ -1,6 +1,6 @@
 //! A few texts in ascending order of their bytes, each once. A set of few members needs no more than three vectors.
 ghost use Rattle.std.specs.Prelude.{◌≡◌, ◌≤◌, ◌++◌, ◌∷◌, MatchOption, OnOk, drop, length, take};
-ghost use Rattle.crs_normal.specs.inner.Ordered.{put};
+ghost use Rattle.crs_normal.specs.inner.SpelledItems.{put};
 ghost use Rattle.crs_writer.specs.SetText.{commas};
 ghost use Rattle.crs_writer.specs.inner.Spans.{AreInOrder, AreWithin, IsPutAmong, IsWithin, text_at, texts_at};
 

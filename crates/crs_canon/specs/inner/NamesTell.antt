@@ -1,7 +1,7 @@
 -- A bridge: names that are given once, those of none, and what is paired.
 use Rattle.std.specs.Prelude.{◌≡◌, ◌⊎◌, ℕ, Some, List}
 use Rattle.crs_value.specs.Values.{ParameterParts}
-use Rattle.crs_normal.specs.Ascending.{IsIn}
+use Rattle.crs_normal.specs.Normal.{IsIn}
 use Rattle.crs_canon.specs.Named.{named_once, unpaired}
 
 -- what names tell of parameters

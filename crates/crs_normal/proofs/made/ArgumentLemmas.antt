@@ -10,8 +10,7 @@ use Rattle.crs_value.specs.declared.values.level.Level.{Level}
 use Rattle.crs_value.specs.inner.Prelude.{IsText, those, Own as BreaksOwn}
 use Rattle.crs_value.specs.Sound.{Each}
 use Rattle.crs_normal.specs.inner.LowerLaws.{LowerLaws}
-use Rattle.crs_normal.specs.Normal.{IsFirstKeyword, IsNormalIn, AreNormalIn, IsNormalNode}
-use Rattle.crs_normal.specs.NormalOwn.{HasOwnForm, Rise, set_classes, Ascend}
+use Rattle.crs_normal.specs.Normal.{IsFirstKeyword, IsNormalIn, AreNormalIn, IsNormalNode, HasOwnForm, Rise, set_classes, Ascend}
 use Rattle.crs_normal.specs.inner.Prelude.{each, node_of, number_item, number_node, opt, text_item, text_node, in_order}
 use Rattle.crs_normal.proofs.made.AscendLemmas.{set-each, set-some}
 use Rattle.crs_normal.proofs.made.FitLemmas.{given-few, held, more-fit, none-fit, slot-fits}

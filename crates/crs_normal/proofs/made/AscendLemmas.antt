@@ -4,7 +4,7 @@ use Rattle.std.proofs.lemmas.List.{append-nil}
 use Rattle.crs_text.specs.inner.Prelude.{Item, item_text}
 use Rattle.crs_value.specs.Sound.{Each}
 use Rattle.crs_normal.specs.inner.Prelude.{IsIn, Ascends, Below, in_order}
-use Rattle.crs_normal.specs.NormalOwn.{Ascend}
+use Rattle.crs_normal.specs.Normal.{Ascend}
 use Rattle.crs_normal.proofs.members.SetLemmas.{in_order-ascends, all-old}
 use Rattle.crs_normal.proofs.texts.SegmentLemmas.{each-map, set-kept}
 

@@ -12,7 +12,7 @@ use Rattle.crs_value.specs.declared.values.level.Level.{Level}
 use Rattle.crs_value.specs.Sound.{Each}
 use Rattle.crs_normal.specs.inner.LowerLaws.{LowerLaws}
 use Rattle.crs_normal.specs.inner.Prelude.{axes_from, item_axis, item_head, norm_system, text_node}
-use Rattle.crs_normal.specs.NormalOwn.{Lacks, bare_classes}
+use Rattle.crs_normal.specs.Normal.{Lacks, bare_classes}
 use Rattle.crs_normal.proofs.read.ViewLemmas.{each-so}
 use Rattle.crs_normal.proofs.made.CheckLemmas.{IsSystemIn, IsSystemSeen}
 use Rattle.crs_normal.proofs.made.FrameLemmas.{given-once}

@@ -12,7 +12,7 @@ use Rattle.crs_shape.specs.inner.Prelude.{IsOneOf, asked_kind, direction_word, s
 use Rattle.crs_value.specs.inner.Prelude.{BadOrder, BadOrders, IsBadOrder, IsPosition, LacksOrder, OneHas, ReadsOrder, orders_in, BadOwnUnit, Misfits, units_in, AnyOf, BadSystems, OfHead, ReadsFirst, those, SystemParts, ReadsDirection, ReadsKind, ReadsNumber, ReadsType}
 use Rattle.crs_value.specs.Sound.{Each}
 use Rattle.crs_normal.specs.inner.LowerLaws.{LowerLaws}
-use Rattle.crs_normal.specs.NormalOwn.{AreOrdered, Has, HasAxes, numbers_in}
+use Rattle.crs_normal.specs.Normal.{AreOrdered, Has, HasAxes, numbers_in}
 use Rattle.crs_normal.specs.inner.Prelude.{number_item, number_node, word_item, item_unit, whole_value}
 use Rattle.crs_normal.proofs.read.ViewLemmas.{each-so}
 use Rattle.crs_normal.proofs.made.AxisLemmas.{IsAxisItem, whole-normal}

@@ -9,7 +9,7 @@ use Rattle.crs_value.specs.inner.Prelude.{BadDynamic, IsUnsteady, AnyOf, Dynamic
 use Rattle.crs_value.specs.declared.values.frame.Frame.{Frame}
 use Rattle.crs_value.specs.declared.values.level.Level.{Level}
 use Rattle.crs_normal.specs.inner.LowerLaws.{LowerLaws}
-use Rattle.crs_normal.specs.inner.SpelledDynamic.{item_deformation_model, item_dynamic, norm_deformation_model, norm_dynamic}
+use Rattle.crs_normal.specs.inner.SpelledCrs.{item_deformation_model, item_dynamic, norm_deformation_model, norm_dynamic}
 use Rattle.crs_normal.proofs.made.NodeLemmas.{IsAcceptedNormal, Run, given, none-orderly}
 use Rattle.crs_normal.proofs.made.NamedLemmas.{deformation-model-made}
 use Rattle.crs_normal.proofs.made.ArgumentLemmas.{made-of, one-number, may-node, Argument}

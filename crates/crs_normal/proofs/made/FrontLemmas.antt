@@ -11,8 +11,7 @@ use Rattle.crs_value.specs.declared.values.level.Level.{Level}
 use Rattle.crs_value.specs.inner.Prelude.{DynamicParts, IsDynamicOf, MeridianParts, SystemParts, TailParts, OfCrs, Own as BreaksOwn}
 use Rattle.crs_value.specs.Sound.{Each}
 use Rattle.crs_normal.specs.inner.LowerLaws.{LowerLaws}
-use Rattle.crs_normal.specs.NormalOwn.{HasAxes, HasOwnForm, HasTail}
-use Rattle.crs_normal.specs.Normal.{IsFirstKeyword}
+use Rattle.crs_normal.specs.Normal.{HasAxes, HasOwnForm, HasTail, IsFirstKeyword}
 use Rattle.crs_normal.specs.inner.SpelledFrames.{greenwich, item_frame, item_meridian, norm_frame, norm_given, norm_meridian}
 use Rattle.crs_normal.specs.inner.SpelledItems.{node_of}
 use Rattle.crs_normal.proofs.made.SystemLemmas.{IsFew}

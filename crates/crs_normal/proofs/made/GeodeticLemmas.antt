@@ -12,8 +12,7 @@ use Rattle.crs_value.specs.declared.values.level.Level.{Level}
 use Rattle.crs_value.specs.Sound.{Each}
 use Rattle.crs_normal.specs.inner.LowerLaws.{LowerLaws}
 use Rattle.crs_normal.specs.PartSpellings.{geodetic_class}
-use Rattle.crs_normal.specs.Normal.{IsFirstKeyword}
-use Rattle.crs_normal.specs.NormalOwn.{Has, HasAxes, HasTail, HasOwnForm, words_in}
+use Rattle.crs_normal.specs.Normal.{IsFirstKeyword, Has, HasAxes, HasTail, HasOwnForm, words_in}
 use Rattle.crs_normal.specs.inner.SpelledCrs.{geodetic_keyword, item_geodetic, norm_geodetic}
 use Rattle.crs_normal.specs.inner.Prelude.{item_frame, norm_frame, word_item}
 use Rattle.crs_normal.proofs.made.SystemLemmas.{IsFew}

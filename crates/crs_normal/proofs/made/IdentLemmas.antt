@@ -10,7 +10,7 @@ use Rattle.crs_value.specs.declared.values.level.Level.{Level}
 use Rattle.crs_value.specs.Sound.{Each}
 use Rattle.crs_value.specs.Values.{IdentParts}
 use Rattle.crs_normal.specs.inner.LowerLaws.{LowerLaws}
-use Rattle.crs_normal.specs.NormalOwn.{Ascend, IsCode}
+use Rattle.crs_normal.specs.Normal.{Ascend, IsCode}
 use Rattle.crs_normal.specs.inner.Prelude.{in_order, code_item, text_node, item_ident, set_idents}
 use Rattle.crs_normal.proofs.made.AscendLemmas.{set-ascends}
 use Rattle.crs_normal.proofs.read.ViewLemmas.{each-so}

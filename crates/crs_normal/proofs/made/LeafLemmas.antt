@@ -12,8 +12,7 @@ use Rattle.crs_shape.specs.inner.Prelude.{class_of_kind}
 use Rattle.crs_value.specs.declared.values.level.Level.{Level}
 use Rattle.crs_value.specs.inner.Prelude.{IsText}
 use Rattle.crs_normal.specs.inner.LowerLaws.{LowerLaws}
-use Rattle.crs_normal.specs.Normal.{IsNumberIn, IsSingleIn, IsWordIn}
-use Rattle.crs_normal.specs.NormalOwn.{IsShort}
+use Rattle.crs_normal.specs.Normal.{IsNumberIn, IsSingleIn, IsWordIn, IsShort}
 use Rattle.crs_normal.specs.inner.SpelledItems.{is_short, number_item, text_item, word_item}
 use Rattle.crs_normal.proofs.made.NodeLemmas.{Made}
 use Rattle.crs_normal.proofs.texts.ItemLemmas.{run-single}

@@ -11,7 +11,7 @@ use Rattle.crs_value.specs.inner.Prelude.{kept-none, those, IsMeridian, IsUnitOf
 use Rattle.crs_value.specs.declared.values.level.Level.{Level}
 use Rattle.crs_value.specs.Values.{IdentParts}
 use Rattle.crs_normal.specs.inner.LowerLaws.{LowerLaws}
-use Rattle.crs_normal.specs.NormalOwn.{HasNoUnitAtZero}
+use Rattle.crs_normal.specs.Normal.{HasNoUnitAtZero}
 use Rattle.crs_normal.specs.inner.SpelledFrames.{greenwich, is_zero, item_meridian, norm_given, norm_meridian}
 use Rattle.crs_normal.specs.inner.Prelude.{number_item, item_unit, norm_units, whole_value}
 use Rattle.crs_normal.proofs.made.EllipsoidLemmas.{given-unit}

@@ -7,10 +7,9 @@ use Rattle.crs_shape.specs.inner.Prelude.{is_keyword, class_named, named_slots, 
 use Rattle.crs_value.specs.inner.Prelude.{GeoidModelParts, MethodParts, DeformationModelParts, IsNamed, IsGeoidModel, IsMethod, IsDeformationModel, IsMember, MemberParts, NamedParts, Own as BreaksOwn}
 use Rattle.crs_value.specs.declared.values.level.Level.{Level}
 use Rattle.crs_normal.specs.inner.LowerLaws.{LowerLaws}
-use Rattle.crs_normal.specs.Normal.{IsFirstKeyword}
-use Rattle.crs_normal.specs.NormalOwn.{HasOwnForm}
+use Rattle.crs_normal.specs.Normal.{IsFirstKeyword, HasOwnForm}
 use Rattle.crs_normal.specs.inner.Prelude.{item_geoid_model, item_method, norm_geoid_model, norm_method, item_member, norm_member}
-use Rattle.crs_normal.specs.inner.SpelledDynamic.{item_deformation_model, norm_deformation_model}
+use Rattle.crs_normal.specs.inner.SpelledCrs.{item_deformation_model, norm_deformation_model}
 use Rattle.crs_normal.proofs.made.IdentLemmas.{ids-of, ids-orderly}
 use Rattle.crs_normal.proofs.made.ArgumentLemmas.{made-of, text-of}
 use Rattle.crs_normal.proofs.members.MemberLemmas.{item_named}

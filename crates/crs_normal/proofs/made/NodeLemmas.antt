@@ -7,8 +7,7 @@ use Rattle.crs_shape.specs.declared.class.Class.{Class}
 use Rattle.crs_shape.specs.inner.Prelude.{is_keyword, Allowed, class_in, Shaped, AreShaped, slots_of}
 use Rattle.crs_value.specs.inner.Prelude.{AtClass, Breaks, BreaksAmong, kept, kept-none, kept-where_none, is_same, those, Own as BreaksOwn}
 use Rattle.crs_value.specs.declared.values.level.Level.{Level}
-use Rattle.crs_normal.specs.Normal.{AtLevel, IsNormalIn, left_out}
-use Rattle.crs_normal.specs.NormalOwn.{Ascend, rank, set_classes, Rise}
+use Rattle.crs_normal.specs.Normal.{AtLevel, IsNormalIn, left_out, Ascend, rank, set_classes, Rise}
 use Rattle.crs_value.specs.Sound.{Each}
 use Rattle.crs_normal.specs.inner.SpelledItems.{node_of}
 use Rattle.crs_normal.proofs.texts.SegmentLemmas.{placed-none, those-line}

@@ -6,7 +6,7 @@ use Rattle.crs_text.specs.inner.Prelude.{Item, leaf, node, Siblings, End, More, 
 use Rattle.crs_shape.specs.declared.class.Class.{Class}
 use Rattle.crs_shape.specs.inner.Prelude.{class_in, is_class}
 use Rattle.crs_value.specs.inner.Prelude.{AnyOf, those}
-use Rattle.crs_normal.specs.NormalOwn.{Ascend}
+use Rattle.crs_normal.specs.Normal.{Ascend}
 use Rattle.crs_value.specs.Sound.{Each}
 use Rattle.crs_normal.proofs.members.SetLemmas.{IsBelow}
 

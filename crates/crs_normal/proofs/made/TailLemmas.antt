@@ -10,7 +10,7 @@ use Rattle.crs_value.specs.declared.values.level.Level.TheVariants as levels
 use Rattle.crs_value.specs.Sound.{Each}
 use Rattle.crs_same.specs.inner.Prelude.{usages_of, with_bare}
 use Rattle.crs_normal.specs.inner.LowerLaws.{LowerLaws}
-use Rattle.crs_normal.specs.NormalOwn.{Ascend, HasTail, Rise, Lacks, bare_classes}
+use Rattle.crs_normal.specs.Normal.{Ascend, HasTail, Rise, Lacks, bare_classes}
 use Rattle.crs_normal.specs.inner.Prelude.{in_order, text_node, item_usage, norm_usage, set_usages}
 use Rattle.crs_normal.proofs.made.AscendLemmas.{set-ascends, set-each}
 use Rattle.crs_normal.proofs.made.FrameLemmas.{none-repeats}

@@ -10,8 +10,7 @@ use Rattle.crs_shape.specs.inner.Prelude.{is_keyword, class_named, slots_of, uni
 use Rattle.crs_value.specs.inner.Prelude.{IsAboveZero, NotAbove, AnyOf, OfUnit, those, ReadsNumber, IsUnit, UnitParts, Own as BreaksOwn}
 use Rattle.crs_value.specs.declared.values.level.Level.{Level}
 use Rattle.crs_normal.specs.inner.LowerLaws.{LowerLaws}
-use Rattle.crs_normal.specs.Normal.{IsFirstKeyword}
-use Rattle.crs_normal.specs.NormalOwn.{HasOwnForm}
+use Rattle.crs_normal.specs.Normal.{IsFirstKeyword, HasOwnForm}
 use Rattle.crs_normal.specs.inner.Prelude.{number_item, item_unit, set_idents}
 use Rattle.crs_normal.proofs.made.IdentLemmas.{ids-of, ids-orderly}
 use Rattle.crs_normal.proofs.made.PlaceLemmas.{ArePlaced, none-of}

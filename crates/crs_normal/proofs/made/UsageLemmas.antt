@@ -12,8 +12,7 @@ use Rattle.crs_normal.specs.inner.Prelude.{node_from, item_unit, norm_length, it
 use Rattle.crs_normal.proofs.made.EllipsoidLemmas.{length-argument, placed-some}
 use Rattle.crs_normal.proofs.made.NodeLemmas.{IsAcceptedNormal, IsOrderly, as-argument, none-orderly}
 use Rattle.crs_normal.proofs.made.ArgumentLemmas.{Argument, as_runs, fit, lay, made-of, may-of, may-text, number-of, one-of, may-node}
-use Rattle.crs_normal.specs.Normal.{IsFirstKeyword}
-use Rattle.crs_normal.specs.NormalOwn.{HasOwnForm}
+use Rattle.crs_normal.specs.Normal.{IsFirstKeyword, HasOwnForm}
 use Rattle.crs_normal.proofs.texts.ItemLemmas.{from-named, from-some}
 use Rattle.crs_normal.proofs.members.UsageLemmas.{says-kept, usage-is-node, usage_items}
 use Rattle.crs_normal.proofs.texts.SegmentLemmas.{some-imp}

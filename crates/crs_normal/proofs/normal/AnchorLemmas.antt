@@ -9,7 +9,7 @@ use Rattle.crs_shape.specs.inner.Prelude.{SlotParts, anchor_slot}
 use Rattle.crs_value.specs.inner.Prelude.{RepeatsAny, anchors, those, ReadsOptional, ReadsNumberOf, ReadsTextOf}
 use Rattle.crs_value.specs.Sound.{Each}
 use Rattle.crs_value.specs.declared.values.level.Level.{Level}
-use Rattle.crs_normal.specs.NormalOwn.{Rise}
+use Rattle.crs_normal.specs.Normal.{Rise}
 use Rattle.crs_normal.specs.inner.SpelledItems.{number_node, opt, text_node}
 use Rattle.crs_normal.proofs.normal.CheckedLemmas.{once-only}
 use Rattle.crs_normal.proofs.normal.FormLemmas.{front_in, Looked, Opened, found-in, good-in, optional-spelled}

@@ -10,10 +10,10 @@ use Rattle.crs_value.specs.inner.Prelude.{ReadsOptional, ReadsAxis, ReadsAxisMer
 use Rattle.crs_value.specs.declared.values.level.Level.{Level}
 use Rattle.crs_same.specs.inner.Prelude.{own_or}
 use Rattle.crs_normal.proofs.WithoutPlaces.{without_places}
-use Rattle.crs_normal.specs.NormalOwn.{Has, HasOneOrder, numbers_in}
+use Rattle.crs_normal.specs.Normal.{Has, HasOneOrder, numbers_in}
 use Rattle.crs_value.specs.Sound.{Each}
 use Rattle.crs_normal.specs.inner.SpelledItems.{number_node, opt, word_item, item_unit, norm_unit, norm_units, whole_value}
-use Rattle.crs_normal.specs.inner.SpelledSystems.{item_axis, item_axis_meridian, norm_axis, norm_axis_meridian, norm_axis_meridians}
+use Rattle.crs_normal.specs.inner.SpelledCrs.{item_axis, item_axis_meridian, norm_axis, norm_axis_meridian, norm_axis_meridians}
 use Rattle.crs_normal.proofs.normal.FormLemmas.{Form, IsGood, by-slots, good-in, one-in, opened, optional-in, raws-in, spelled-by, there-in}
 use Rattle.crs_normal.proofs.normal.LeafLemmas.{PlainIsOne, number-form, number-node-form, single-form, text-form}
 use Rattle.crs_normal.proofs.normal.UnitLemmas.{in-angle, in-axis, unit-form, idents-in}

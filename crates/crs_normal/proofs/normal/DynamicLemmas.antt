@@ -4,7 +4,7 @@ use Rattle.crs_shape.specs.declared.class.Class.{Class}
 use Rattle.crs_shape.specs.declared.class.Class.TheVariants as class
 use Rattle.crs_value.specs.inner.Prelude.{ReadsDynamic}
 use Rattle.crs_value.specs.declared.values.level.Level.{Level}
-use Rattle.crs_normal.specs.inner.SpelledDynamic.{item_deformation_model, item_dynamic, norm_deformation_model, norm_dynamic}
+use Rattle.crs_normal.specs.inner.SpelledCrs.{item_deformation_model, item_dynamic, norm_deformation_model, norm_dynamic}
 use Rattle.crs_normal.proofs.normal.FormLemmas.{Form, by-slots, mapped-in, one-in, spelled-by}
 use Rattle.crs_normal.proofs.normal.LeafLemmas.{PlainIsOne, number-node-form}
 use Rattle.crs_normal.proofs.normal.NamedLemmas.{deformation_model-form}

@@ -10,8 +10,7 @@ use Rattle.crs_value.specs.declared.values.frame.Frame.{Frame}
 use Rattle.crs_value.specs.declared.values.frame.Frame.TheVariants as frame
 use Rattle.crs_value.specs.declared.values.level.Level.{Level}
 use Rattle.crs_normal.proofs.WithoutPlaces.{without_places}
-use Rattle.crs_normal.specs.inner.SpelledCrs.{item_base, norm_base}
-use Rattle.crs_normal.specs.inner.SpelledDynamic.{item_dynamic, norm_dynamic}
+use Rattle.crs_normal.specs.inner.SpelledCrs.{item_base, norm_base, item_dynamic, norm_dynamic}
 use Rattle.crs_normal.specs.inner.SpelledFrames.{item_datum, item_ellipsoid, item_ensemble, item_frame, item_member, item_meridian, norm_datum, norm_ellipsoid, norm_ensemble, norm_frame, norm_given, norm_member, norm_meridian, set_members}
 use Rattle.crs_normal.proofs.normal.CheckedLemmas.{Checked, IsUnbroken, by-class, first-or-none, unbroken-by-slots, unbroken-in}
 use Rattle.crs_normal.proofs.normal.DynamicLemmas.{dynamic-form}

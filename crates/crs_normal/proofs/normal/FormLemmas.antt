@@ -9,12 +9,9 @@ use Rattle.crs_shape.specs.inner.Prelude.{Shaped, AreShaped, SlotParts, class_of
 use Rattle.crs_value.specs.inner.Prelude.{AtClass, Breaks, BreaksAmong, Own, those, ReadsFirst, ReadsOptional, ReadsEach, kept, kept-where_none}
 use Rattle.crs_value.specs.declared.values.level.Level.{Level}
 use Rattle.crs_normal.proofs.WithoutPlaces.{without_places, all_without_places}
-use Rattle.crs_normal.specs.Normal.{IsNormalIn, AreNormalIn, IsFirstKeyword, KeepsAll}
-use Rattle.crs_normal.specs.NormalOwn.{Ascend, HasSets, HasOwnForm}
+use Rattle.crs_normal.specs.Normal.{IsNormalIn, AreNormalIn, IsFirstKeyword, KeepsAll, Ascend, HasSets, HasOwnForm, Ascends, Below}
 use Rattle.crs_value.specs.Sound.{Each}
-use Rattle.crs_normal.specs.Ascending.{Ascends, Below}
-use Rattle.crs_normal.specs.inner.Ordered.{in_order}
-use Rattle.crs_normal.specs.inner.SpelledItems.{each, node_from, opt}
+use Rattle.crs_normal.specs.inner.SpelledItems.{in_order, each, node_from, opt}
 use Rattle.crs_normal.proofs.members.SetLemmas.{in_order-of}
 use Rattle.crs_normal.proofs.read.ViewLemmas.{View, looked, spread, those-at, those-looked, view, without_places_onto, without_places-spread, Front, alone, front-at, front_at, same_class, slot_at}
 

@@ -9,10 +9,9 @@ use Rattle.crs_shape.specs.inner.Prelude.{geodetic_slots, dimensions_of}
 use Rattle.crs_value.specs.inner.Prelude.{BreaksAmong, OfCrs, Own, GeodeticParts, ReadsGeodetic}
 use Rattle.crs_value.specs.declared.values.level.Level.{Level}
 use Rattle.crs_normal.proofs.WithoutPlaces.{without_places}
-use Rattle.crs_normal.specs.NormalOwn.{Has, HasAxes, HasTail}
-use Rattle.crs_normal.specs.inner.SpelledCrs.{geodetic_keyword, item_geodetic, norm_geodetic}
+use Rattle.crs_normal.specs.Normal.{Has, HasAxes, HasTail}
+use Rattle.crs_normal.specs.inner.SpelledCrs.{geodetic_keyword, item_geodetic, norm_geodetic, item_dynamic, norm_dynamic}
 use Rattle.crs_normal.specs.inner.SpelledFrames.{item_meridian, norm_given, norm_meridian}
-use Rattle.crs_normal.specs.inner.SpelledDynamic.{item_dynamic, norm_dynamic}
 use Rattle.crs_normal.specs.inner.LowerLaws.{LowerLaws}
 use Rattle.crs_normal.proofs.normal.CheckedLemmas.{Checked, unbroken-by-slots}
 use Rattle.crs_normal.proofs.normal.DimensionLemmas.{AreSmall, small-geodetic, small-geographic}

@@ -10,7 +10,7 @@ use Rattle.crs_shape.specs.declared.system_type.SystemType.TheVariants as types
 use Rattle.crs_shape.specs.inner.Prelude.{IsOneOf, dimensions_of, system_word}
 use Rattle.crs_value.specs.inner.Prelude.{at, BadSystems, those, ReadsEach, ReadsFirst, ReadsHead, ReadsNumberOf, ReadsType, SystemParts}
 use Rattle.crs_value.specs.declared.values.level.Level.{Level}
-use Rattle.crs_normal.specs.NormalOwn.{words_in}
+use Rattle.crs_normal.specs.Normal.{words_in}
 use Rattle.crs_value.specs.Sound.{Each}
 use Rattle.crs_normal.specs.inner.LowerLaws.{LowerLaws}
 use Rattle.crs_normal.proofs.normal.AxisLemmas.{type-form}

@@ -10,7 +10,7 @@ use Rattle.crs_shape.specs.inner.Prelude.{is_keyword, SlotParts, class_of_kind, 
 use Rattle.crs_value.specs.inner.Prelude.{is_a, those, ReadsFirst, ReadsOptional, ReadsText, ReadsIdent, single_of}
 use Rattle.crs_value.specs.declared.values.level.Level.{Level}
 use Rattle.crs_normal.proofs.WithoutPlaces.{without_places}
-use Rattle.crs_normal.specs.NormalOwn.{IsCode, IsShort}
+use Rattle.crs_normal.specs.Normal.{IsCode, IsShort}
 use Rattle.crs_value.specs.Sound.{Each}
 use Rattle.crs_normal.specs.inner.SpelledItems.{code_item, is_short, opt, item_ident}
 use Rattle.crs_normal.proofs.made.LeafLemmas.{short-true, true-short}

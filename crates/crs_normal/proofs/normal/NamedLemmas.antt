@@ -11,8 +11,7 @@ use Rattle.crs_value.specs.declared.values.level.Level.{Level}
 use Rattle.crs_normal.proofs.WithoutPlaces.{without_places}
 use Rattle.crs_normal.specs.Normal.{IsFirstKeyword}
 use Rattle.crs_value.specs.Sound.{Each}
-use Rattle.crs_normal.specs.inner.SpelledConversions.{item_conversion, item_geoid_model, item_method, item_parameter, norm_conversion, norm_geoid_model, norm_method, norm_parameter, set_parameters}
-use Rattle.crs_normal.specs.inner.SpelledDynamic.{item_deformation_model, norm_deformation_model}
+use Rattle.crs_normal.specs.inner.SpelledCrs.{item_conversion, item_geoid_model, item_method, item_parameter, norm_conversion, norm_geoid_model, norm_method, norm_parameter, set_parameters, item_deformation_model, norm_deformation_model}
 use Rattle.crs_normal.specs.inner.SpelledFrames.{item_member, norm_member}
 use Rattle.crs_normal.specs.inner.SpelledItems.{each, node_of, opt, text_item, item_ident, item_unit, norm_unit, norm_units, set_idents}
 use Rattle.crs_normal.proofs.normal.CheckedLemmas.{by-class}

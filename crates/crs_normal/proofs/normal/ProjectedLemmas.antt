@@ -5,8 +5,7 @@ use Rattle.crs_shape.specs.declared.class.Class.TheVariants as class
 use Rattle.crs_shape.specs.inner.Prelude.{dimensions_of}
 use Rattle.crs_value.specs.inner.Prelude.{Own, ReadsBase, ReadsProjected, ReadsVertical}
 use Rattle.crs_value.specs.declared.values.level.Level.{Level}
-use Rattle.crs_normal.specs.inner.SpelledDynamic.{item_dynamic, norm_dynamic}
-use Rattle.crs_normal.specs.inner.SpelledCrs.{item_projected, item_vertical, norm_projected, norm_vertical}
+use Rattle.crs_normal.specs.inner.SpelledCrs.{item_dynamic, norm_dynamic, item_projected, item_vertical, norm_projected, norm_vertical}
 use Rattle.crs_normal.specs.inner.LowerLaws.{LowerLaws}
 use Rattle.crs_normal.proofs.normal.CheckedLemmas.{Checked, first-checked, unbroken-by-slots, unbroken-in}
 use Rattle.crs_normal.proofs.normal.DynamicLemmas.{dynamic-form}

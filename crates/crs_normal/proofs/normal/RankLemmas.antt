@@ -10,7 +10,7 @@ use Rattle.crs_shape.specs.declared.class.Class.{Class}
 use Rattle.crs_shape.specs.declared.class.Class.TheVariants as class
 use Rattle.crs_shape.specs.inner.Prelude.{SlotParts, class_in, is_class, tail, vertical_tail}
 use Rattle.crs_value.specs.inner.Prelude.{AtClass, is_a, those}
-use Rattle.crs_normal.specs.NormalOwn.{Rise, bare_classes, rank}
+use Rattle.crs_normal.specs.Normal.{Rise, bare_classes, rank}
 use Rattle.crs_normal.proofs.WithoutPlaces.{without_places}
 use Rattle.crs_value.specs.Sound.{Each}
 use Rattle.crs_normal.proofs.read.ViewLemmas.{InSlot, View, each-so, front_at, onto, same_class, without_places_onto}

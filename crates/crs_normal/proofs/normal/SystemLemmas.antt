@@ -11,10 +11,10 @@ use Rattle.crs_shape.specs.declared.system_type.SystemType.{SystemType}
 use Rattle.crs_shape.specs.inner.Prelude.{SlotParts}
 use Rattle.crs_value.specs.inner.Prelude.{those, ReadsEach, ReadsAxis, ReadsHead, ReadsSystem, AxisParts, SystemParts}
 use Rattle.crs_value.specs.declared.values.level.Level.{Level}
-use Rattle.crs_normal.specs.NormalOwn.{AreOrdered, Has, HasAxes}
+use Rattle.crs_normal.specs.Normal.{AreOrdered, Has, HasAxes}
 use Rattle.crs_value.specs.Sound.{Each}
 use Rattle.crs_normal.specs.inner.SpelledItems.{each}
-use Rattle.crs_normal.specs.inner.SpelledSystems.{axes_from, axis_at, is_at, item_axis, item_head, norm_system, system_items, with_axis}
+use Rattle.crs_normal.specs.inner.SpelledCrs.{axes_from, axis_at, is_at, item_axis, item_head, norm_system, system_items, with_axis}
 use Rattle.crs_normal.specs.inner.LowerLaws.{LowerLaws}
 use Rattle.crs_normal.proofs.normal.AxisLemmas.{IsNumbered, axis-form, type-form}
 use Rattle.crs_normal.proofs.normal.FormLemmas.{Form, IsGood, Looked, Opened, by-slots, found-in, front_in, good-in, one-in, spelled-by}

@@ -7,12 +7,10 @@ use Rattle.crs_shape.specs.inner.Prelude.{SlotParts, tail}
 use Rattle.crs_value.specs.inner.Prelude.{RepeatsAny, once, GeoidModelParts, is_a, those, ReadsEach, ReadsBare, ReadsTail, ReadsTextOf, ReadsUsage, ReadsGeoidModel, SaysSome, TailParts, UsageParts, kept, kept-where_none-one}
 use Rattle.crs_value.specs.declared.values.level.Level.{Level}
 use Rattle.crs_same.specs.inner.Prelude.{usages_of, with_bare}
-use Rattle.crs_normal.specs.NormalOwn.{HasTail, Lacks, bare_classes}
+use Rattle.crs_normal.specs.Normal.{HasTail, Lacks, bare_classes}
 use Rattle.crs_value.specs.Sound.{Each}
-use Rattle.crs_normal.specs.inner.Ordered.{in_order}
-use Rattle.crs_normal.specs.inner.SpelledConversions.{item_geoid_model, norm_geoid_model, set_geoid_models}
-use Rattle.crs_normal.specs.inner.SpelledItems.{each, opt, text_node, item_ident, set_idents}
-use Rattle.crs_normal.specs.inner.SpelledUsages.{item_usage, norm_tail, norm_usage, set_usages, tail_items}
+use Rattle.crs_normal.specs.inner.SpelledItems.{in_order, each, opt, text_node, item_ident, set_idents, item_usage, norm_tail, norm_usage, set_usages, tail_items}
+use Rattle.crs_normal.specs.inner.SpelledCrs.{item_geoid_model, norm_geoid_model, set_geoid_models}
 use Rattle.crs_normal.proofs.normal.CheckedLemmas.{once-only}
 use Rattle.crs_normal.proofs.normal.FormLemmas.{Looked, Opened, found-in, front-in, front_in, good-in, optional-spelled, reads-kept, set-spelled}
 use Rattle.crs_normal.proofs.normal.FrameLemmas.{none-read}

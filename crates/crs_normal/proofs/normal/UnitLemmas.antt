@@ -10,11 +10,9 @@ use Rattle.crs_value.specs.inner.Prelude.{those, ReadsEach, ReadsIdent, ReadsUni
 use Rattle.crs_value.specs.Values.{IdentParts}
 use Rattle.crs_value.specs.declared.values.level.Level.{Level}
 use Rattle.crs_same.specs.inner.Prelude.{kind_as}
-use Rattle.crs_normal.specs.Normal.{IsFirstKeyword}
-use Rattle.crs_normal.specs.NormalOwn.{Ascend}
+use Rattle.crs_normal.specs.Normal.{IsFirstKeyword, Ascend}
 use Rattle.crs_value.specs.Sound.{Each}
-use Rattle.crs_normal.specs.inner.Ordered.{in_order}
-use Rattle.crs_normal.specs.inner.SpelledItems.{each, item_ident, item_unit, norm_unit, set_idents}
+use Rattle.crs_normal.specs.inner.SpelledItems.{in_order, each, item_ident, item_unit, norm_unit, set_idents}
 use Rattle.crs_normal.proofs.normal.FormLemmas.{Form, IsGood, Looked, Opened, by-slots, found-in, front_in, good-in, one-in, reads-kept, set-spelled, spelled-by}
 use Rattle.crs_normal.proofs.normal.IdentLemmas.{ident-form}
 use Rattle.crs_normal.proofs.normal.LeafLemmas.{ArePlain, PlainIsOne, number-form, text-form}

@@ -7,7 +7,7 @@ use Rattle.crs_shape.specs.declared.unit_kind.UnitKind.TheVariants as kinds
 use Rattle.crs_value.specs.inner.Prelude.{those, ReadsBox, ReadsExtent, ReadsUnit, ReadsUsage}
 use Rattle.crs_value.specs.declared.values.level.Level.{Level}
 use Rattle.crs_value.specs.declared.values.level.Level.TheVariants as levels
-use Rattle.crs_normal.specs.inner.SpelledUsages.{item_box, item_extent, item_usage, norm_extent, norm_usage}
+use Rattle.crs_normal.specs.inner.SpelledItems.{item_box, item_extent, item_usage, norm_extent, norm_usage}
 use Rattle.crs_normal.proofs.normal.FormLemmas.{Form, by-slots, front_in, mapped-in, only-in, optional-in, spelled-by}
 use Rattle.crs_normal.proofs.normal.LeafLemmas.{PlainIsOne, text-node-form}
 use Rattle.crs_normal.proofs.normal.LevelLemmas.{normal-in}

@@ -10,7 +10,7 @@ use Rattle.crs_normal.specs.inner.Decides.{FormDecides}
 use Rattle.crs_normal.proofs.WithoutPlaces.{without_places}
 use Rattle.crs_normal.specs.Normal.{IsNormalIn}
 use Rattle.crs_normal.specs.inner.LowerLaws.{LowerLaws}
-use Rattle.crs_normal.specs.SpelledAs.{IsSpelledAs, IsSpelledBy}
+use Rattle.crs_normal.specs.PartSpellings.{IsSpelledAs, IsSpelledBy}
 use Rattle.crs_normal.proofs.texts.ClosedLemmas.{node-closed}
 use Rattle.crs_normal.proofs.normal.CheckedLemmas.{Checked}
 use Rattle.crs_normal.proofs.normal.FormLemmas.{Form, IsGood, without_places-text}

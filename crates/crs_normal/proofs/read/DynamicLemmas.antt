@@ -8,7 +8,7 @@ use Rattle.crs_shape.specs.inner.Prelude.{class_named}
 use Rattle.crs_value.specs.inner.Prelude.{DeformationModelParts, DynamicParts, ReadsIfAny, ReadsDeformationModel, ReadsDynamic, IsDeformationModel, IsDynamic, IsDynamicOf}
 use Rattle.crs_value.specs.declared.values.frame.Frame.{Frame}
 use Rattle.crs_value.specs.declared.values.level.Level.{Level}
-use Rattle.crs_normal.specs.inner.SpelledDynamic.{item_deformation_model, item_dynamic, norm_deformation_model, norm_dynamic}
+use Rattle.crs_normal.specs.inner.SpelledCrs.{item_deformation_model, item_dynamic, norm_deformation_model, norm_dynamic}
 use Rattle.crs_normal.specs.inner.SpelledItems.{number_node}
 use Rattle.crs_normal.specs.inner.LowerLaws.{LowerLaws}
 use Rattle.crs_normal.proofs.same.DynamicLemmas.{dynamics-sound}

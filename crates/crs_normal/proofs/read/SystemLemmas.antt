@@ -13,7 +13,7 @@ use Rattle.crs_value.specs.inner.Prelude.{ReadsAxis, ReadsAxisMeridian, ReadsHea
 use Rattle.crs_value.specs.Sound.{Each}
 use Rattle.crs_same.specs.inner.Prelude.{own_or, kind_as}
 use Rattle.crs_normal.specs.inner.Prelude.{norm_axis_alone, number_node, item_unit, norm_unit, norm_units, whole_value}
-use Rattle.crs_normal.specs.inner.SpelledSystems.{axes_from, axis_at, item_axis, item_axis_meridian, item_head, norm_axis, norm_axis_meridian, norm_axis_meridians, norm_system, with_axis}
+use Rattle.crs_normal.specs.inner.SpelledCrs.{axes_from, axis_at, item_axis, item_axis_meridian, item_head, norm_axis, norm_axis_meridian, norm_axis_meridians, norm_system, with_axis}
 use Rattle.crs_normal.specs.inner.LowerLaws.{LowerLaws}
 use Rattle.crs_normal.proofs.members.MemberUnitLemmas.{identifiers-back, identifiers-of, number-read, unit-in, unit-kept, unit-read}
 use Rattle.crs_normal.proofs.read.FrameLemmas.{angle-kept, identifiers, identifiers-field}

@@ -13,7 +13,7 @@ use Rattle.crs_same.specs.inner.Prelude.{AgreeAxis, HasAt, IsPositionOf, SameAxi
 use Rattle.crs_normal.specs.inner.Decides.{FormDecides, SetsDecide}
 use Rattle.crs_normal.specs.inner.LowerLaws.{LowerLaws}
 use Rattle.crs_normal.specs.inner.PartTexts.{norm_axis_alone}
-use Rattle.crs_normal.specs.inner.SpelledSystems.{axis_at, is_at, norm_axis, norm_axis_meridian, norm_axis_meridians}
+use Rattle.crs_normal.specs.inner.SpelledCrs.{axis_at, is_at, norm_axis, norm_axis_meridian, norm_axis_meridians}
 use Rattle.crs_normal.proofs.same.PartLemmas.{Maybe, options-agree, values-agree}
 use Rattle.crs_normal.proofs.same.UnitLemmas.{unit-agrees}
 

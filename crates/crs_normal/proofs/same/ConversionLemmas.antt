@@ -5,7 +5,7 @@ use Rattle.crs_value.specs.inner.Prelude.{IsConversion, IsMethod, IsParameter}
 use Rattle.crs_value.specs.declared.values.level.Level.{Level}
 use Rattle.crs_same.specs.inner.Prelude.{AgreeConversion, AgreeMethod, SameParameter}
 use Rattle.crs_normal.specs.inner.Decides.{FormDecides, SetsDecide}
-use Rattle.crs_normal.specs.inner.SpelledConversions.{norm_conversion, norm_method, norm_parameter}
+use Rattle.crs_normal.specs.inner.SpelledCrs.{norm_conversion, norm_method, norm_parameter}
 use Rattle.crs_normal.proofs.same.PartLemmas.{NumbersDecide, values-agree}
 use Rattle.crs_normal.proofs.same.UnitLemmas.{IdentsDecide, unit-agrees}
 

@@ -5,7 +5,7 @@ use Rattle.crs_value.specs.declared.values.frame.Frame.{Frame}
 use Rattle.crs_value.specs.declared.values.level.Level.{Level}
 use Rattle.crs_same.specs.inner.Prelude.{AgreeDynamic}
 use Rattle.crs_normal.specs.inner.Decides.{FormDecides, SetsDecide}
-use Rattle.crs_normal.specs.inner.SpelledDynamic.{norm_dynamic}
+use Rattle.crs_normal.specs.inner.SpelledCrs.{norm_dynamic}
 use Rattle.crs_normal.proofs.same.PartLemmas.{NumbersDecide, values-agree}
 use Rattle.crs_normal.proofs.same.UnitLemmas.{named-agrees}
 

@@ -4,7 +4,7 @@ use Rattle.crs_value.specs.inner.Prelude.{IsTail}
 use Rattle.crs_value.specs.declared.values.level.Level.{Level}
 use Rattle.crs_same.specs.inner.Prelude.{AgreeTail}
 use Rattle.crs_normal.specs.inner.Decides.{FormDecides, SetsDecide}
-use Rattle.crs_normal.specs.inner.SpelledUsages.{norm_tail}
+use Rattle.crs_normal.specs.inner.SpelledItems.{norm_tail}
 use Rattle.crs_normal.proofs.made.TailLemmas.{usages-sound}
 
 module _ (sets : SetsDecide) where

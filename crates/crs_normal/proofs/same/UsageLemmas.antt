@@ -5,7 +5,7 @@ use Rattle.crs_value.specs.declared.values.level.Level.{Level}
 use Rattle.crs_value.specs.declared.values.level.Level.TheVariants as levels
 use Rattle.crs_same.specs.inner.Prelude.{SameBox, SameExtent, SameUsage}
 use Rattle.crs_normal.specs.inner.Decides.{FormDecides}
-use Rattle.crs_normal.specs.inner.SpelledUsages.{norm_extent, norm_usage}
+use Rattle.crs_normal.specs.inner.SpelledItems.{norm_extent, norm_usage}
 use Rattle.crs_normal.proofs.same.PartLemmas.{NumbersDecide, values-agree}
 use Rattle.crs_normal.proofs.same.UnitLemmas.{IdentsDecide, length-agrees}
 

@@ -7,7 +7,7 @@ use Rattle.std.proofs.lemmas.List.{append-nil}
 use Rattle.std.proofs.lemmas.Slice.Eq.{bytes_eq-Decides}
 use Rattle.std.proofs.lemmas.Str.Parse.{IsNumeralModel, numerals_by_fold}
 use Rattle.crs_decimal.specs.inner.Prelude.{Denotes, IsBounded, IsMeasured, digits_value, number_of, Number, SameNumber, whole_number, IsPlain, IsTrim, plain, AreDigits, Parts, SpellsNumber, parts_text, unsigned, Value, IsNormal, exact, is_power, is_zero_power, up_of, down_of}
-use Rattle.crs_normal.specs.inner.SpelledSystems.{is_number}
+use Rattle.crs_normal.specs.inner.SpelledCrs.{is_number}
 
 -- laws of numbers and their spellings
 pub record Laws : Type 0 where

@@ -13,9 +13,8 @@ use Rattle.crs_value.specs.inner.Prelude.{AtClass, is_a, those, single_of}
 use Rattle.crs_value.specs.Sound.{Each}
 use Rattle.crs_value.specs.declared.values.level.Level.{Level}
 use Rattle.crs_value.specs.declared.values.level.Level.TheVariants as levels
-use Rattle.crs_normal.specs.Ascending.{Below}
-use Rattle.crs_normal.specs.Normal.{AreNormalIn, AtLevel, IsFirst, IsNormalIn, IsFirstKeyword, left_out}
-use Rattle.crs_normal.specs.NormalOwn.{Ascend, AreOrdered, HasAxes, HasCodes, Has, HasSets, HasTail, IsCode, LacksEllipsoidal, Lacks, HasOwnForm, Rise, bare_classes, numbers_in, rank, set_classes, words_in}
+use Rattle.crs_normal.specs.Normal.{Below, AreNormalIn, AtLevel, IsFirst, IsNormalIn, IsFirstKeyword, left_out}
+use Rattle.crs_normal.specs.Normal.{Ascend, AreOrdered, HasAxes, HasCodes, Has, HasSets, HasTail, IsCode, LacksEllipsoidal, Lacks, HasOwnForm, Rise, bare_classes, numbers_in, rank, set_classes, words_in}
 use Rattle.crs_normal.specs.inner.LowerLaws.{LowerLaws}
 use Rattle.crs_normal.proofs.verdicts.Verdicts.{Verdict, at_most, both, each, equal, equal_by, implied, negated, none, one_of, some, via}
 use Rattle.crs_normal.proofs.verdicts.SingleVerdict.{is_code, is_single, is_word, single_in}

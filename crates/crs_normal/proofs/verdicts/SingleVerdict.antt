@@ -11,8 +11,7 @@ use Rattle.crs_shape.specs.declared.class.Class.TheVariants as class
 use Rattle.crs_shape.specs.inner.Prelude.{direction_word, every_direction, every_type, system_word}
 use Rattle.crs_value.specs.inner.Prelude.{IsText}
 use Rattle.crs_normal.specs.inner.LowerLaws.{LowerLaws}
-use Rattle.crs_normal.specs.Normal.{IsNumberIn, IsSingleIn, IsWordIn}
-use Rattle.crs_normal.specs.NormalOwn.{IsCode, IsShort}
+use Rattle.crs_normal.specs.Normal.{IsNumberIn, IsSingleIn, IsWordIn, IsCode, IsShort}
 use Rattle.crs_normal.specs.inner.SpelledItems.{is_short}
 use Rattle.crs_normal.proofs.made.LeafLemmas.{short-true, true-short}
 use Rattle.crs_normal.proofs.texts.WordFormLemmas.{AreKnown, direction-known, spelled, type-known}

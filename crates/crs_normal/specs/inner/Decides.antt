@@ -9,11 +9,9 @@ use Rattle.crs_value.specs.declared.values.level.Level.{Level}
 use Rattle.crs_same.specs.SameParts.{SameGeoidModel, SameParameter, SameMember, SameUsage}
 use Rattle.crs_same.specs.SameCrs.{SameCrs}
 use Rattle.crs_same.specs.SameIdents.{SameIdents, SameSet}
-use Rattle.crs_normal.specs.inner.SpelledConversions.{set_geoid_models, set_parameters}
-use Rattle.crs_normal.specs.inner.SpelledCrs.{norm_crs}
+use Rattle.crs_normal.specs.inner.SpelledCrs.{set_geoid_models, set_parameters, norm_crs}
 use Rattle.crs_normal.specs.inner.SpelledFrames.{set_members}
-use Rattle.crs_normal.specs.inner.SpelledItems.{set_idents}
-use Rattle.crs_normal.specs.inner.SpelledUsages.{set_usages}
+use Rattle.crs_normal.specs.inner.SpelledItems.{set_idents, set_usages}
 
 -- values for which `Is` holds have the same form exactly where they are the same
 abbrev pub FormDecides : {A B : Type 0} → (A → Type 0) → (A → B) → (A → A → Type 0) → Type 0

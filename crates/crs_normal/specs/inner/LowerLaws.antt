@@ -13,7 +13,7 @@ use Rattle.crs_shape.specs.ShapeFault.{Inside, IsFree, Shaped}
 use Rattle.crs_value.specs.Sound.{IsSystem}
 use Rattle.crs_value.specs.Values.{AxisParts, SystemParts}
 use Rattle.crs_same.specs.SameParts.{HasAt, SameValue}
-use Rattle.crs_normal.specs.inner.SpelledSystems.{is_number}
+use Rattle.crs_normal.specs.inner.SpelledCrs.{is_number}
 
 -- normal values are equal where their numbers are, each has one plain spelling, and a number is
 -- tested by it; a written item is the only one that its text spells; and each position of a

@@ -10,14 +10,11 @@ use Rattle.crs_value.specs.declared.values.compound.Horizontal.{Horizontal}
 use Rattle.crs_value.specs.declared.values.frame.Frame.{Frame}
 use Rattle.crs_value.specs.declared.values.frame.Frame.TheVariants as frame
 use Rattle.crs_value.specs.declared.values.level.Level.{Level}
-use Rattle.crs_normal.specs.inner.SpelledConversions.{item_conversion, item_geoid_model, item_method, item_parameter, norm_conversion, norm_geoid_model, norm_method, norm_parameter}
-use Rattle.crs_normal.specs.inner.SpelledCrs.{item_base, item_compound, item_geodetic, item_horizontal, item_projected, item_vertical, norm_base, norm_compound, norm_geodetic, norm_horizontal}
-use Rattle.crs_normal.specs.inner.SpelledCrs.{norm_projected, norm_vertical}
-use Rattle.crs_normal.specs.inner.SpelledDynamic.{item_deformation_model, item_dynamic, norm_deformation_model, norm_dynamic}
+use Rattle.crs_normal.specs.inner.SpelledCrs.{item_conversion, item_geoid_model, item_method, item_parameter, norm_conversion, norm_geoid_model, norm_method, norm_parameter}
+use Rattle.crs_normal.specs.inner.SpelledCrs.{item_base, item_compound, item_geodetic, item_horizontal, item_projected, item_vertical, norm_base, norm_compound, norm_geodetic, norm_horizontal, norm_projected, norm_vertical}
+use Rattle.crs_normal.specs.inner.SpelledCrs.{item_deformation_model, item_dynamic, norm_deformation_model, norm_dynamic, item_axis, item_axis_meridian, norm_axis_meridian, norm_axis_meridians}
 use Rattle.crs_normal.specs.inner.SpelledFrames.{item_datum, item_ellipsoid, item_ensemble, item_member, item_meridian, norm_datum, norm_ellipsoid, norm_ensemble, norm_given, norm_member}
-use Rattle.crs_normal.specs.inner.SpelledSystems.{item_axis, item_axis_meridian, norm_axis_meridian, norm_axis_meridians}
-use Rattle.crs_normal.specs.inner.SpelledItems.{item_ident, item_unit, norm_unit, norm_units, set_idents}
-use Rattle.crs_normal.specs.inner.SpelledUsages.{item_box, item_extent, item_usage, norm_extent, norm_usage}
+use Rattle.crs_normal.specs.inner.SpelledItems.{item_ident, item_unit, norm_unit, norm_units, set_idents, item_box, item_extent, item_usage, norm_extent, norm_usage}
 
 -- the text of an identifier, at every level the same
 abbrev pub ident_text : Level → IdentParts → List ℕ

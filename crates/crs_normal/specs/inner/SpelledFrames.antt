@@ -11,8 +11,7 @@ use Rattle.crs_value.specs.declared.values.frame.Frame.{Frame}
 use Rattle.crs_value.specs.declared.values.frame.Frame.TheVariants as frame
 use Rattle.crs_value.specs.declared.values.level.Level.{Level}
 use Rattle.crs_same.specs.Parts.{or_greenwich}
-use Rattle.crs_normal.specs.inner.Ordered.{in_order}
-use Rattle.crs_normal.specs.inner.SpelledItems.{each, node_of, number_item, number_node, opt, text_item, text_node, item_ident, item_unit, norm_length, norm_units, set_idents}
+use Rattle.crs_normal.specs.inner.SpelledItems.{in_order, each, node_of, number_item, number_node, opt, text_item, text_node, item_ident, item_unit, norm_length, norm_units, set_idents}
 
 -- ---- ellipsoids: the unit is written
 

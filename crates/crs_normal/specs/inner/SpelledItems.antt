@@ -1,6 +1,8 @@
--- A bridge: the pieces of which canonical items are made. All places are 0, since a written text
--- doesn't depend on them.
-use Rattle.std.specs.Prelude.{ℕ, true, ◌&&◌, nat_le, Bool, List, [], ◌∷◌, Option, Some, None, length, if◌then◌else◌, false, codes, pos}
+-- A bridge: lists in ascending order of their bytes, no bytes twice.
+use Rattle.std.specs.Prelude.{◌≡◌, ℕ, List, [], ◌∷◌, true, ◌&&◌, nat_le, Bool, Option, Some, None, length, if◌then◌else◌, false, codes, pos, map}
+use Rattle.std.specs.Cmp.Lexicographic.{slice_cmp}
+use Rattle.std.specs.Ordering.{nat_cmp, match_ordering}
+use Rattle.crs_value.specs.Sound.{Each}
 use Rattle.std.specs.List.{list_all}
 use Rattle.crs_decimal.specs.Plain.{plain}
 use Rattle.crs_decimal.specs.Spelling.{is_digit}
@@ -10,12 +12,38 @@ use Rattle.crs_text.specs.Tokens.{number, text, word}
 use Rattle.crs_text.specs.Written.{item_text}
 use Rattle.crs_shape.specs.declared.unit_kind.UnitKind.{UnitKind}
 use Rattle.crs_shape.specs.Words.{unit_word}
-use Rattle.crs_value.specs.Values.{IdentParts, UnitParts}
-use Rattle.crs_value.specs.Kept.{kept}
+use Rattle.crs_value.specs.Values.{IdentParts, UnitParts, BoxParts, ExtentParts, UsageParts, TailParts}
+use Rattle.crs_value.specs.Kept.{kept, kept_one}
 use Rattle.crs_value.specs.declared.values.level.Level.{Level}
-use Rattle.crs_same.specs.SameParts.{kind_as, or_metre}
-use Rattle.crs_normal.specs.inner.Ordered.{in_order}
+use Rattle.crs_same.specs.SameParts.{kind_as, or_metre, usages_of}
+use Rattle.std.specs.Option.{option_map}
 use Rattle.crs_shape.specs.declared.unit_kind.UnitKind.TheVariants as kinds
+use Rattle.crs_value.specs.declared.values.level.Level.TheVariants as levels
+
+-- one more member, unless one has its bytes
+abbrev pub put : {A : Type 0} → (A → List ℕ) → A → List A → List A
+put bytes x [] = x ∷ []
+put bytes x (y ∷ ys) =
+    match_ordering (slice_cmp nat_cmp (bytes x) (bytes y)) (x ∷ y ∷ ys) (y ∷ ys)
+    (y ∷ put bytes x ys)
+
+-- these members put among those that are in order, one after another
+abbrev pub put_all : {A : Type 0} → (A → List ℕ) → List A → List A → List A
+put_all bytes sorted [] = sorted
+put_all bytes sorted (x ∷ xs) = put_all bytes (put bytes x sorted) xs
+
+-- the members in ascending order of their bytes, one of those with equal bytes
+abbrev pub in_order : {A : Type 0} → (A → List ℕ) → List A → List A
+in_order bytes xs = put_all bytes [] xs
+
+-- what is put in order stays so when that is done again, and functions that agree on each member of
+-- a list agree on those of the list in order
+pub record StaysInOrder {A : Type 0} (bytes : A → List ℕ) : Type 0 where
+  pub twice : (xs : List A) → in_order bytes (in_order bytes xs) ≡ in_order bytes xs
+  pub alike : (f g : A → A) (xs : List A) → Each (λ x. f x ≡ g x) xs →
+      Each (λ x. f x ≡ g x) (in_order bytes xs)
+
+-- ---- a bridge: the pieces of which canonical items are made. All places are 0, since a written text doesn't depend on them
 
 -- the item of a quoted text, whose quotes are among these bytes
 abbrev pub text_item : List ℕ → Item
@@ -110,3 +138,60 @@ abbrev pub item_unit : UnitParts → Item
 item_unit u =
     node_of (unit_word u.kind) (text_item u.name)
     (More (number_item u.factor) (each item_ident u.identifiers End))
+
+-- ---- a bridge: usages and the ends of CRSs in their one form, and as items
+
+-- a vertical extent, with its unit written; in a usage the unit keeps its identifiers at each level
+abbrev pub norm_extent : Level → ExtentParts → ExtentParts
+norm_extent level e =
+    record { minimum = e.minimum; maximum = e.maximum; unit = Some (norm_length level e.unit) }
+
+-- a usage, with the unit of its vertical extent written
+abbrev pub norm_usage : UsageParts → UsageParts
+norm_usage u =
+    record {
+      scope = u.scope;
+      area = u.area;
+      bbox = u.bbox;
+      extent = option_map (norm_extent levels.Full) u.extent;
+    }
+
+-- a bounding box as a node: south, west, north, east
+abbrev pub item_box : BoxParts → Item
+item_box b =
+    node_of (codes "BBOX") (number_item b.south)
+    (More (number_item b.west) (More (number_item b.north) (More (number_item b.east) End)))
+
+-- a vertical extent as a node: minimum, maximum, unit
+abbrev pub item_extent : ExtentParts → Item
+item_extent e =
+    node_of (codes "VERTICALEXTENT") (number_item e.minimum)
+    (More (number_item e.maximum) (opt item_unit e.unit End))
+
+-- a usage as a node: scope, area, bounding box, vertical extent
+abbrev pub item_usage : UsageParts → Item
+item_usage u =
+    node_from (codes "USAGE")
+    (opt (text_node (codes "SCOPE")) u.scope (opt (text_node (codes "AREA")) u.area
+    (opt item_box u.bbox (opt item_extent u.extent End))))
+
+-- the usages that the level keeps, as a set
+unfoldable pub set_usages : Level → List UsageParts → List UsageParts
+set_usages level usages =
+    in_order (λ u. item_text (item_usage u)) (map norm_usage (kept level usages))
+
+-- the end of a CRS: the usages and identifiers that the level keeps, as sets, the bare parts as one
+-- more usage
+abbrev pub norm_tail : Level → TailParts → TailParts
+norm_tail level t = record {
+  usages = set_usages level (usages_of t);
+  bare_parts = None;
+  identifiers = set_idents level t.identifiers;
+  remark = kept_one level t.remark;
+}
+
+-- the end of a CRS as items: usages, identifiers, the remark
+abbrev pub tail_items : TailParts → Siblings
+tail_items t =
+    each item_usage t.usages
+    (each item_ident t.identifiers (opt (text_node (codes "REMARK")) t.remark End))

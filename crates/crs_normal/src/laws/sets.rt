@@ -6,13 +6,11 @@ ghost use Rattle.crs_value.specs.Values.{GeoidModelParts, ParameterParts, IdentP
 ghost use Rattle.crs_value.specs.declared.values.level.Level.{Level};
 ghost use Rattle.crs_value.specs.Sound.{Each};
 ghost use Rattle.crs_value.specs.SoundParts.{IsParameter};
-ghost use Rattle.crs_normal.specs.Ascending.{Ascends, IsIn};
+ghost use Rattle.crs_normal.specs.Normal.{Ascends, IsIn};
 ghost use Rattle.crs_normal.specs.inner.Decides.{SetsDecide};
-ghost use Rattle.crs_normal.specs.inner.Ordered.{StaysInOrder, in_order};
-ghost use Rattle.crs_normal.specs.inner.SpelledConversions.{item_geoid_model, item_parameter, norm_parameter, set_parameters};
+ghost use Rattle.crs_normal.specs.inner.SpelledItems.{StaysInOrder, in_order, item_ident, item_usage};
+ghost use Rattle.crs_normal.specs.inner.SpelledCrs.{item_geoid_model, item_parameter, norm_parameter, set_parameters};
 ghost use Rattle.crs_normal.specs.inner.SpelledFrames.{item_member};
-ghost use Rattle.crs_normal.specs.inner.SpelledItems.{item_ident};
-ghost use Rattle.crs_normal.specs.inner.SpelledUsages.{item_usage};
 
 use crate::laws::lower::lower_laws;
 use crs_value::laws::members_read_once;

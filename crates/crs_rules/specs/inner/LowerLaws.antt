@@ -14,13 +14,10 @@ use Rattle.crs_value.specs.declared.values.level.Level.TheVariants as levels
 use Rattle.crs_same.specs.SameCrs.{SameCrs}
 use Rattle.crs_same.specs.Sameness.{IsSamenessOf}
 use Rattle.crs_normal.specs.Normal.{IsNormalText}
-use Rattle.crs_normal.specs.inner.Ordered.{StaysInOrder}
+use Rattle.crs_normal.specs.inner.SpelledItems.{StaysInOrder, item_ident, item_usage}
 use Rattle.crs_normal.specs.inner.PartTexts.{axis_text, norm_axis_alone}
-use Rattle.crs_normal.specs.inner.SpelledConversions.{item_geoid_model, item_parameter, norm_parameter, set_parameters}
-use Rattle.crs_normal.specs.inner.SpelledCrs.{item_crs, norm_crs}
+use Rattle.crs_normal.specs.inner.SpelledCrs.{item_geoid_model, item_parameter, norm_parameter, set_parameters, item_crs, norm_crs}
 use Rattle.crs_normal.specs.inner.SpelledFrames.{item_member}
-use Rattle.crs_normal.specs.inner.SpelledItems.{item_ident}
-use Rattle.crs_normal.specs.inner.SpelledUsages.{item_usage}
 use Rattle.crs_writer.specs.Canonical.{IsCanonicalText}
 
 -- what is known of sets, and of axes that have one text

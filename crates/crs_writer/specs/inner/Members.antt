@@ -3,7 +3,7 @@ use Rattle.std.specs.Prelude.{◌≡◌, ◌↔◌, ℕ, not, List, [], ◌∷�
 use Rattle.std.specs.List.{filter, list_any}
 use Rattle.std.specs.Str.{bytes_eq}
 use Rattle.std.specs.declared.alloc.Global.{Global}
-use Rattle.crs_normal.specs.inner.Ordered.{in_order, put_all}
+use Rattle.crs_normal.specs.inner.SpelledItems.{in_order, put_all}
 use Rattle.crs_writer.specs.SetText.{commas}
 
 -- a set after other arguments

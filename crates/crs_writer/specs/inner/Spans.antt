@@ -1,8 +1,8 @@
 -- A bridge: texts in order by where they are among their bytes.
 use Rattle.std.specs.Prelude.{◌≡◌, ◌≤◌, ℕ, List, length, map, slice_range}
 use Rattle.crs_value.specs.Sound.{Each}
-use Rattle.crs_normal.specs.Ascending.{Ascends}
-use Rattle.crs_normal.specs.inner.Ordered.{put}
+use Rattle.crs_normal.specs.Normal.{Ascends}
+use Rattle.crs_normal.specs.inner.SpelledItems.{put}
 use Rattle.crs_writer.specs.declared.spans.Span.{Span}
 
 -- the text that a span shows among bytes

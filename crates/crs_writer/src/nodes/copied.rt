@@ -10,7 +10,7 @@ ghost use Rattle.crs_value.specs.declared.values.level.Level.TheVariants as leve
 ghost use Rattle.crs_normal.specs.inner.PartTexts.{method_text, parameter_text, usage_text};
 ghost use Rattle.crs_normal.specs.inner.SpelledFrames.{item_datum, norm_datum};
 ghost use Rattle.crs_normal.specs.inner.SpelledItems.{is_short, item_ident};
-ghost use Rattle.crs_normal.specs.inner.SpelledSystems.{item_axis, norm_axis};
+ghost use Rattle.crs_normal.specs.inner.SpelledCrs.{item_axis, norm_axis};
 ghost use Rattle.crs_writer.specs.inner.Copied.{IsDirectionWord, IsEnd, IsNext, IsOpened, IsPlainBox, IsPlainEllipsoid};
 ghost use Rattle.crs_writer.specs.inner.Copied.{IsPlainNumber, IsPlainOrder, IsSaidKind, IsSaidUnit, IsShortIdent, IsTextNode};
 ghost use Rattle.crs_writer.specs.inner.Node.{item};

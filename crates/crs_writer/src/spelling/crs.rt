@@ -10,12 +10,10 @@ ghost use Rattle.crs_value.specs.Values.{DynamicParts, IdentParts, MeridianParts
 ghost use Rattle.crs_value.specs.ReadsCrs.{ReadsBase, ReadsCompound, ReadsCrs, ReadsGeodetic, ReadsHorizontal, ReadsProjected, ReadsVertical};
 ghost use Rattle.crs_value.specs.declared.values.frame.Frame.{Frame};
 ghost use Rattle.crs_normal.specs.inner.PartTexts.{base_text, compound_text, geodetic_text, horizontal_text, projected_text, vertical_text};
-ghost use Rattle.crs_normal.specs.inner.SpelledCrs.{geodetic_keyword};
-ghost use Rattle.crs_normal.specs.inner.SpelledDynamic.{item_dynamic, norm_dynamic};
+ghost use Rattle.crs_normal.specs.inner.SpelledCrs.{geodetic_keyword, item_dynamic, norm_dynamic, norm_system, system_items};
 ghost use Rattle.crs_normal.specs.inner.SpelledFrames.{item_frame, item_meridian, norm_frame, norm_meridian};
 ghost use Rattle.crs_normal.specs.inner.SpelledItems.{each, node_of, opt, text_item, item_ident, item_unit, norm_units, set_idents};
-ghost use Rattle.crs_normal.specs.inner.SpelledSystems.{norm_system, system_items};
-ghost use Rattle.crs_normal.specs.inner.SpelledUsages.{norm_tail, tail_items};
+ghost use Rattle.crs_normal.specs.inner.SpelledItems.{norm_tail, tail_items};
 ghost use Rattle.crs_writer.specs.inner.Node.{item};
 ghost use Rattle.crs_writer.specs.inner.Found.{SaysIfAny};
 ghost use Rattle.crs_writer.specs.inner.FromItems.{IsRead, Writes};

@@ -8,7 +8,7 @@ ghost use Rattle.crs_text.specs.Written.{item_text, others_text};
 ghost use Rattle.crs_value.specs.Values.{DeformationModelParts, EllipsoidParts, UnitParts};
 ghost use Rattle.crs_value.specs.Reads.{ReadsEllipsoid, ReadsMeridian, ReadsDeformationModel, ReadsDynamic};
 ghost use Rattle.crs_normal.specs.inner.PartTexts.{deformation_model_text, dynamic_text, ellipsoid_text, meridian_text};
-ghost use Rattle.crs_normal.specs.inner.SpelledDynamic.{item_deformation_model, norm_deformation_model};
+ghost use Rattle.crs_normal.specs.inner.SpelledCrs.{item_deformation_model, norm_deformation_model};
 ghost use Rattle.crs_normal.specs.inner.SpelledFrames.{greenwich, is_zero, item_meridian, norm_meridian};
 ghost use Rattle.crs_normal.specs.inner.SpelledItems.{each, number_item, opt, item_ident, item_unit, norm_length, set_idents};
 ghost use Rattle.crs_writer.specs.inner.Found.{SaysIfAny};

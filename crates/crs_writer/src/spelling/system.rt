@@ -15,8 +15,8 @@ ghost use Rattle.crs_value.specs.Values.{AxisMeridianParts, AxisParts, IdentPart
 ghost use Rattle.crs_same.specs.SameParts.{own_or};
 ghost use Rattle.crs_normal.specs.inner.PartTexts.{axis_meridian_text, axis_text};
 ghost use Rattle.crs_normal.specs.inner.SpelledItems.{each, number_node, opt, word_item, item_ident, item_unit, norm_units, set_idents};
-ghost use Rattle.crs_normal.specs.inner.SpelledSystems.{axes_from, axis_at, item_axis, item_axis_meridian, item_head, norm_axis};
-ghost use Rattle.crs_normal.specs.inner.SpelledSystems.{norm_axis_meridians, norm_system, system_items, with_axis};
+ghost use Rattle.crs_normal.specs.inner.SpelledCrs.{axes_from, axis_at, item_axis, item_axis_meridian, item_head, norm_axis};
+ghost use Rattle.crs_normal.specs.inner.SpelledCrs.{norm_axis_meridians, norm_system, system_items, with_axis};
 ghost use Rattle.crs_writer.specs.inner.Node.{args, item};
 ghost use Rattle.crs_writer.specs.inner.Found.{SaysIfAny};
 ghost use Rattle.crs_writer.specs.inner.FromItems.{Writes};

@@ -2,7 +2,7 @@ use Rattle.crs_shape.specs.declared.class.Class.TheVariants as class
 use Rattle.crs_value.specs.inner.Prelude.{ReadsAxis, IsAxis}
 use Rattle.crs_normal.specs.AxisAlone.{IsNormalAxis}
 use Rattle.crs_normal.specs.inner.PartTexts.{norm_axis_alone}
-use Rattle.crs_normal.specs.inner.SpelledSystems.{item_axis}
+use Rattle.crs_normal.specs.inner.SpelledCrs.{item_axis}
 use Rattle.crs_normal.proofs.made.AloneLemmas.{axis-stands}
 use Rattle.crs_normal.proofs.parts.AxisAloneLemmas.{axis-alone-form}
 use Rattle.crs_normal.proofs.parts.PartLemmas.{canonical-by, told-by}

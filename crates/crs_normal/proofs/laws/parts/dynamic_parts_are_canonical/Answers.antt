@@ -1,6 +1,6 @@
 use Rattle.std.proofs.Common.{arith}
 use Rattle.crs_shape.specs.declared.class.Class.TheVariants as class
-use Rattle.crs_normal.specs.inner.SpelledDynamic.{item_deformation_model, item_dynamic}
+use Rattle.crs_normal.specs.inner.SpelledCrs.{item_deformation_model, item_dynamic}
 use Rattle.crs_normal.proofs.made.DynamicLemmas.{dynamic-made}
 use Rattle.crs_normal.proofs.made.NamedLemmas.{deformation-model-made}
 use Rattle.crs_normal.proofs.normal.DynamicLemmas.{dynamic-form}

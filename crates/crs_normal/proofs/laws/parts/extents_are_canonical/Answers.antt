@@ -1,6 +1,6 @@
 use Rattle.std.proofs.Common.{arith}
 use Rattle.crs_shape.specs.declared.class.Class.TheVariants as class
-use Rattle.crs_normal.specs.inner.SpelledUsages.{item_box, item_extent, norm_extent}
+use Rattle.crs_normal.specs.inner.SpelledItems.{item_box, item_extent, norm_extent}
 use Rattle.crs_normal.proofs.made.UsageLemmas.{box-made, extent-made}
 use Rattle.crs_normal.proofs.members.ExtentLemmas.{box-read, extent-kept, extent-read}
 use Rattle.crs_normal.proofs.normal.UsageLemmas.{box-form, extent-form}

@@ -1,7 +1,7 @@
 use Rattle.std.proofs.Common.{arith, codes}
 use Rattle.crs_shape.specs.declared.class.Class.TheVariants as class
 use Rattle.crs_normal.specs.inner.SpelledFrames.{item_ellipsoid, item_member, item_meridian, norm_member}
-use Rattle.crs_normal.specs.inner.SpelledSystems.{item_axis_meridian}
+use Rattle.crs_normal.specs.inner.SpelledCrs.{item_axis_meridian}
 use Rattle.crs_normal.proofs.made.AxisLemmas.{axis-meridian-made}
 use Rattle.crs_normal.proofs.made.EllipsoidLemmas.{ellipsoid-made}
 use Rattle.crs_normal.proofs.made.MeridianLemmas.{meridian-made}

@@ -1,9 +1,7 @@
 use Rattle.std.proofs.Common.{◌≡◌, ℕ, List}
-use Rattle.crs_normal.specs.inner.Ordered.{StaysInOrder, in_order}
-use Rattle.crs_normal.specs.inner.SpelledConversions.{item_geoid_model, item_parameter}
+use Rattle.crs_normal.specs.inner.SpelledItems.{StaysInOrder, in_order, item_ident, item_usage}
+use Rattle.crs_normal.specs.inner.SpelledCrs.{item_geoid_model, item_parameter}
 use Rattle.crs_normal.specs.inner.SpelledFrames.{item_member}
-use Rattle.crs_normal.specs.inner.SpelledItems.{item_ident}
-use Rattle.crs_normal.specs.inner.SpelledUsages.{item_usage}
 use Rattle.crs_text.specs.inner.Prelude.{item_text}
 use Rattle.crs_normal.proofs.members.SetLemmas.{each-in_order, in_order-ascends, in_order-of}
 use Rattle.crs_normal.proofs.laws.sets.ordered_lists_stay.Goals as goal

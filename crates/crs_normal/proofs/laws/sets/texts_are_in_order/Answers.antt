@@ -1,4 +1,4 @@
-use Rattle.crs_normal.specs.Ascending.{IsIn}
+use Rattle.crs_normal.specs.Normal.{IsIn}
 use Rattle.crs_normal.proofs.members.SetLemmas.{ascending-one, each-of, in_order-ascends, in_order-back, in_order-has}
 use Rattle.crs_normal.proofs.laws.sets.texts_are_in_order.Goals as goal
 
