@@ -1,8 +1,6 @@
 -- What is written for the value of a part of a CRS.
 use Rattle.std.specs.Prelude.{◌≡◌, ℕ, List, [], ◌++◌, codes}
-use Rattle.crs_decimal.specs.Spelling.{Denotes}
-use Rattle.crs_decimal.specs.Plain.{IsPlain}
-use Rattle.crs_decimal.specs.Value.{exact}
+use Rattle.crs_decimal.specs.Numbers.{Denotes, IsPlain, exact}
 use Rattle.crs_shape.specs.Words.{kind_as}
 use Rattle.crs_value.specs.Reads.{ReadsUnit}
 use Rattle.crs_value.specs.declared.values.level.Level.{Level}

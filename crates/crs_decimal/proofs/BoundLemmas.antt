@@ -3,9 +3,8 @@ use Rattle.std.proofs.Common.{◌≡◌, ◌≢◌, ℕ, ◌+◌, ◌*◌, ◌^�
 use Rattle.std.proofs.lemmas.Bool.Decides.{nat_tests}
 use Rattle.std.proofs.lemmas.Nat.{pow-add}
 use Rattle.std.proofs.Math.Nat.{mul_assoc}
-use Rattle.crs_decimal.specs.Spelling.{digits_value, is_minus, Strips, IsBounded, number_of, power_up, power_down, exponent_digits, Parts, AreDigits, mantissa, fraction_digits}
+use Rattle.crs_decimal.specs.Numbers.{digits_value, is_minus, Strips, IsBounded, number_of, power_up, power_down, exponent_digits, Parts, AreDigits, mantissa, fraction_digits, SameNumber, Value, exact, up_of, down_of, zero}
 use Rattle.crs_decimal.specs.inner.Cut.{IsCut, IsFar, IsPowerBetween}
-use Rattle.crs_decimal.specs.Value.{SameNumber, Value, exact, up_of, down_of, zero}
 use Rattle.crs_decimal.specs.declared.mantissa.Mantissa.{Mantissa}
 use Rattle.crs_decimal.specs.declared.cutting.Spelled.{Spelled}
 use Rattle.crs_decimal.proofs.MantissaLemmas.{IsShown, shown, long_least, zero_scaled}

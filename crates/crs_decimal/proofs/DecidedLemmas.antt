@@ -2,8 +2,7 @@
 use Rattle.std.proofs.Common.{◌≡◌, ℕ, zero, suc, ◌+◌, ◌*◌, ◌/◌, ◌%◌, ◌^◌, ◌<◌, ◌≤◌, ◌⊎◌, inl, inr, List, [], ◌∷◌, length, Option, Some, None, refl, sym, subst, ◌∙◌, arith}
 use Rattle.std.proofs.lemmas.Bool.{cases_eq, cases_lt}
 use Rattle.std.proofs.Math.Nat.{mul-one}
-use Rattle.crs_decimal.specs.Spelling.{Strips, IsMeasured, IsBounded, IsInBounds, number_of, exponent_digits, Exponent, Parts, mantissa, HasForm}
-use Rattle.crs_decimal.specs.Value.{Number}
+use Rattle.crs_decimal.specs.Numbers.{Strips, IsMeasured, IsBounded, IsInBounds, number_of, exponent_digits, Exponent, Parts, mantissa, HasForm, Number}
 use Rattle.crs_decimal.specs.inner.Split.{parts_of, behind_parts, behind_mantissa, exponent_of, HasExponentDigits, IsCutWhole}
 use Rattle.crs_decimal.proofs.SplitLemmas.{spells_parts, parts_only, form_whole}
 use Rattle.crs_decimal.proofs.PowerLemmas.{strip_one, scaled_more}

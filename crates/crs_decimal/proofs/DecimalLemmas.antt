@@ -3,8 +3,7 @@ use Rattle.std.proofs.Common.{◌≡◌, ◌≢◌, ℕ, zero, suc, ◌+◌, ◌
 use Rattle.std.proofs.lemmas.Bool.{and_from, le-leb, cases_lt}
 use Rattle.std.proofs.lemmas.Fmt.{decimal_by_steps_wide}
 use Rattle.std.proofs.lemmas.List.{length-replicate, length-drop, drop-append-le}
-use Rattle.crs_decimal.specs.Spelling.{digits_value, is_digit, AreDigits}
-use Rattle.crs_decimal.specs.Plain.{IsTrim, EndsTrim, padded}
+use Rattle.crs_decimal.specs.Numbers.{digits_value, is_digit, AreDigits, IsTrim, EndsTrim, padded}
 use Rattle.crs_decimal.proofs.DigitLemmas.{value-append, value-zeros, zeros_are_digits}
 use Rattle.crs_decimal.proofs.SplitLemmas.{digits-append}
 

@@ -6,8 +6,7 @@ use Rattle.std.proofs.lemmas.List.{append-nil, length-append}
 use Rattle.std.proofs.lemmas.List.Sums.{fold-append}
 use Rattle.std.proofs.lemmas.Nat.{same_from_place}
 use Rattle.std.proofs.Math.Nat.{mul-le-mul_right}
-use Rattle.crs_decimal.specs.Spelling.{unsigned, Parts, SpellsNumber, is_digit, AreDigits, fraction_digits, fraction_text, mantissa, digits_value, Strips, number_of, power_up, power_down, IsMeasured, IsInBounds}
-use Rattle.crs_decimal.specs.Value.{Number}
+use Rattle.crs_decimal.specs.Numbers.{unsigned, Parts, SpellsNumber, is_digit, AreDigits, fraction_digits, fraction_text, mantissa, digits_value, Strips, number_of, power_up, power_down, IsMeasured, IsInBounds, Number}
 use Rattle.crs_decimal.specs.inner.Mantissa.{no_digits, with_digits}
 use Rattle.crs_decimal.proofs.MantissaLemmas.{shown, Shows, long_least, zero_scaled}
 use Rattle.crs_decimal.proofs.PowerLemmas.{power_next, power_grows}

@@ -5,7 +5,7 @@ use Rattle.std.proofs.lemmas.Bool.{and_parts, cases_eq}
 use Rattle.std.proofs.lemmas.Nat.{mod-mul-add}
 use Rattle.std.proofs.Math.Nat.{mul-one, zero-mul}
 use Rattle.std.proofs.lemmas.Bool.Decides.{nat_tests}
-use Rattle.crs_decimal.specs.Spelling.{is_digit, AreDigits, digits_value, Strips}
+use Rattle.crs_decimal.specs.Numbers.{is_digit, AreDigits, digits_value, Strips}
 use Rattle.crs_decimal.specs.inner.Mantissa.{no_digits, with_digit, with_digits}
 use Rattle.crs_decimal.specs.declared.mantissa.Mantissa.{Mantissa}
 use Rattle.crs_decimal.proofs.PowerLemmas.{scaled_more, scaled_grows}

@@ -4,9 +4,8 @@ use Rattle.std.specs.List.{prefix_len}
 use Rattle.std.proofs.lemmas.Bool.{eqb-false, eqb-true}
 use Rattle.std.proofs.lemmas.List.{append-nil, length-append, take-append-drop, take_more}
 use Rattle.std.proofs.lemmas.List.Sums.{fold-append}
-use Rattle.crs_decimal.specs.Spelling.{digits_value, number_of, Denotes, IsBounded, IsMeasured, AreDigits, is_digit, Sign, unsigned, plus, minus, Exponent, Parts, SpellsNumber, exponent_text, fraction_digits, fraction_text}
-use Rattle.crs_decimal.specs.Value.{Number, SameNumber, SameSize}
-use Rattle.crs_decimal.specs.Plain.{EndsTrim, IsFractionNeeded, IsPlain, IsTrim}
+use Rattle.crs_decimal.specs.Numbers.{digits_value, number_of, Denotes, IsBounded, IsMeasured, AreDigits, is_digit, Sign, unsigned, plus, minus, Exponent, Parts, SpellsNumber, exponent_text, fraction_digits, fraction_text}
+use Rattle.crs_decimal.specs.Numbers.{Number, SameNumber, SameSize, EndsTrim, IsFractionNeeded, IsPlain, IsTrim}
 use Rattle.crs_decimal.specs.inner.PlainBytes.{IsUnsigned}
 use Rattle.crs_decimal.proofs.BoundLemmas.{same_scaled}
 use Rattle.crs_decimal.proofs.DecimalLemmas.{above_some}

@@ -6,9 +6,8 @@ use Rattle.std.proofs.lemmas.List.{append-nil}
 use Rattle.std.proofs.lemmas.List.Sums.{fold-append}
 use Rattle.std.proofs.lemmas.Nat.{same_from_place}
 use Rattle.std.proofs.Math.Nat.{mul-one, mul-le-mul_right}
-use Rattle.crs_decimal.specs.Spelling.{digits_value, is_minus, power_up, power_down, number_of, Denotes, Parts, parts_text, is_digit, AreDigits, fraction_digits, mantissa}
-use Rattle.crs_decimal.specs.Value.{SameSize, SameNumber, Value, exact}
-use Rattle.crs_decimal.specs.Plain.{IsTrim, EndsTrim, IsSignNeeded, IsFractionNeeded, IsPlain}
+use Rattle.crs_decimal.specs.Numbers.{digits_value, is_minus, power_up, power_down, number_of, Denotes, Parts, parts_text, is_digit, AreDigits, fraction_digits, mantissa, SameSize, SameNumber, Value, exact}
+use Rattle.crs_decimal.specs.Numbers.{IsTrim, EndsTrim, IsSignNeeded, IsFractionNeeded, IsPlain}
 use Rattle.crs_decimal.proofs.DecimalLemmas.{above_some}
 use Rattle.crs_decimal.proofs.DigitLemmas.{value_after, value-append, value-cons, value-below, same_digits, digit_range}
 use Rattle.crs_decimal.proofs.MantissaLemmas.{last_digit}

@@ -2,7 +2,7 @@
 use Rattle.std.proofs.Common.{◌≡◌, ℕ, ◌<◌, ◌==◌, ◌||◌, inl, inr, Bool, true, List, [], ◌∷◌, ◌++◌, length, Option, Some, None, refl, arith}
 use Rattle.std.specs.List.{list_all}
 use Rattle.std.proofs.lemmas.Bool.{and_parts, and_from, or_cases, eqb-true}
-use Rattle.crs_decimal.specs.Spelling.{Sign, unsigned, plus, minus, sign_text, Exponent, Parts, fraction_text, exponent_text, parts_text, is_digit, AreDigits, fraction_digits, IsExponent, IsForm, HasForm, is_run_byte}
+use Rattle.crs_decimal.specs.Numbers.{Sign, unsigned, plus, minus, sign_text, Exponent, Parts, fraction_text, exponent_text, parts_text, is_digit, AreDigits, fraction_digits, IsExponent, IsForm, HasForm, is_run_byte}
 use Rattle.crs_decimal.specs.inner.Run.{IsRun}
 use Rattle.crs_decimal.proofs.SplitLemmas.{all_append, digits_parts}
 

@@ -4,9 +4,8 @@ use Rattle.std.proofs.lemmas.List.{length-append}
 use Rattle.std.proofs.lemmas.List.Sums.{fold-append}
 use Rattle.crs_decimal.specs.declared.short.Short.{Short}
 use Rattle.crs_decimal.specs.declared.mantissa.Mantissa.{Mantissa}
-use Rattle.crs_decimal.specs.Spelling.{digits_value, is_minus, IsBounded, number_of, power_up, power_down, Parts, fraction_digits, mantissa}
+use Rattle.crs_decimal.specs.Numbers.{digits_value, is_minus, IsBounded, number_of, power_up, power_down, Parts, fraction_digits, mantissa, SameNumber, Value, IsNormal, exact}
 use Rattle.crs_decimal.specs.inner.Cut.{IsPowerBetween}
-use Rattle.crs_decimal.specs.Value.{SameNumber, Value, IsNormal, exact}
 use Rattle.crs_decimal.specs.inner.Short.{IsReadShort, IsShortCut}
 use Rattle.crs_decimal.specs.inner.Split.{leading_digits, behind_digits, sign_of, behind_sign, fraction_of, behind_fraction, exponent_of, behind_exponent, behind_whole, behind_mantissa, parts_of, HasExponentDigits}
 use Rattle.crs_decimal.proofs.BoundLemmas.{near_bounded, near_same}

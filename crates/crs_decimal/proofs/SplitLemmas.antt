@@ -7,7 +7,7 @@ use Rattle.std.proofs.lemmas.List.{take-append-drop, append-nil, take_at, drop_a
 use Rattle.std.proofs.lemmas.List.Folds.{list_all-append}
 use Rattle.std.proofs.lemmas.List.Sums.{take_while-cons}
 use Rattle.crs_decimal.specs.inner.Cut.{IsExponentWhole, IsExponentCut}
-use Rattle.crs_decimal.specs.Spelling.{is_minus, is_below, exponent_digits, Sign, unsigned, plus, minus, sign_text, Exponent, Parts, fraction_text, exponent_text, parts_text, is_digit, AreDigits, fraction_digits, mantissa, IsExponent, IsForm, SpellsNumber, HasForm}
+use Rattle.crs_decimal.specs.Numbers.{is_minus, is_below, exponent_digits, Sign, unsigned, plus, minus, sign_text, Exponent, Parts, fraction_text, exponent_text, parts_text, is_digit, AreDigits, fraction_digits, mantissa, IsExponent, IsForm, SpellsNumber, HasForm}
 use Rattle.crs_decimal.specs.inner.Split.{is_exponent_letter, leading_digits, behind_digits, sign_of, behind_sign, fraction_of, behind_fraction, exponent_of, behind_exponent, behind_whole, behind_mantissa, parts_of, behind_parts, HasExponentDigits, IsCutWhole}
 
 -- ---- bytes are the text of their parts, and what is left

@@ -1,9 +1,8 @@
 -- Bytes that are a number in bounds denote a normal value.
 use Rattle.std.proofs.Common.{◌≡◌, ◌≢◌, ℕ, ◌+◌, ◌-◌, ◌%◌, ◌^◌, ◌<◌, ◌≤◌, ◌⊎◌, inl, inr, false, IsTrue, List, length, refl, arith, ℤ, pos, negsuc}
 use Rattle.std.proofs.lemmas.Bool.{cases_lt, le-leb, lt-ltb, ne_eqb}
-use Rattle.crs_decimal.specs.Spelling.{is_minus, IsMeasured, IsInBounds, Denotes, number_of, power_up, power_down, Parts, fraction_digits}
+use Rattle.crs_decimal.specs.Numbers.{is_minus, IsMeasured, IsInBounds, Denotes, number_of, power_up, power_down, Parts, fraction_digits, SameNumber, Value, exact, zero, is_power, IsNormal}
 use Rattle.crs_decimal.specs.inner.Cut.{IsPowerBetween}
-use Rattle.crs_decimal.specs.Value.{SameNumber, Value, exact, zero, is_power, IsNormal}
 use Rattle.crs_decimal.specs.declared.mantissa.Mantissa.{Mantissa}
 use Rattle.crs_decimal.proofs.BoundLemmas.{near_same, zero_same}
 

@@ -1,6 +1,6 @@
 -- The test that a number is this whole one.
 use Rattle.std.proofs.Common.{◌≡◌, ℕ, ◌*◌, ◌↔◌, IsTrue, nat_eq, arith}
-use Rattle.crs_decimal.specs.Value.{Number, SameNumber, whole_number, Value, exact}
+use Rattle.crs_decimal.specs.Numbers.{Number, SameNumber, whole_number, Value, exact}
 use Rattle.std.proofs.lemmas.Bool.{eq-eqb, eqb-true}
 
 pub wholes-same : (m n : ℕ) → SameNumber (whole_number m) (whole_number n) → m ≡ n

@@ -4,9 +4,8 @@ use Rattle.std.proofs.lemmas.Bool.{leb-true, ltb-true}
 use Rattle.std.proofs.lemmas.Fmt.{length-decimal-le_wide}
 use Rattle.std.proofs.lemmas.List.{append-nil, take-append-drop, length-replicate}
 use Rattle.std.proofs.Math.Nat.{mul-one}
-use Rattle.crs_decimal.specs.Spelling.{digits_value, is_minus, number_of, IsMeasured, Denotes, Sign, unsigned, minus, sign_text, Parts, AreDigits, fraction_digits, fraction_text, SpellsNumber}
-use Rattle.crs_decimal.specs.Plain.{IsTrim, IsSignNeeded, IsFractionNeeded, IsPlain, AppendsPlain, padded, with_period, scaled, plain}
-use Rattle.crs_decimal.specs.Value.{Value, zero as zero_value, IsNormal, exact, is_power, up_of, down_of}
+use Rattle.crs_decimal.specs.Numbers.{digits_value, is_minus, number_of, IsMeasured, Denotes, Sign, unsigned, minus, sign_text, Parts, AreDigits, fraction_digits, fraction_text, SpellsNumber}
+use Rattle.crs_decimal.specs.Numbers.{IsTrim, IsSignNeeded, IsFractionNeeded, IsPlain, AppendsPlain, padded, with_period, scaled, plain, Value, zero as zero_value, IsNormal, exact, is_power, up_of, down_of}
 use Rattle.crs_decimal.proofs.BoundLemmas.{same_scaled}
 use Rattle.crs_decimal.proofs.DecimalLemmas.{above_some, start-append, start_trim, AreDigitsOf, decimal_digits, padded_digits, padded_value, padded_length, whole_trim, fraction_trim, fraction_length}
 use Rattle.crs_decimal.proofs.DigitLemmas.{IsSmall, small_measured, value-append, value-zeros, zeros_are_digits}

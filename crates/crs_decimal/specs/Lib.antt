@@ -1,5 +1,3 @@
 pub mod Fault
-pub mod Plain
-pub mod Spelling
-pub mod Value
+pub mod Numbers
 pub mod inner

@@ -1,6 +1,6 @@
 ghost use Rattle.std.specs.Prelude.{◌≡◌, ◌+◌, ◌<◌, ◌≤◌, ◌^◌, length, take, drop, MatchOption};
 ghost use Rattle.std.specs.List.{prefix_len};
-ghost use Rattle.crs_decimal.specs.Spelling.{is_minus, AreDigits, fraction_digits, is_digit};
+ghost use Rattle.crs_decimal.specs.Numbers.{is_minus, AreDigits, fraction_digits, is_digit};
 ghost use Rattle.crs_decimal.specs.inner.Cut.{IsExponentWhole, IsExponentCut, IsCut};
 ghost use Rattle.crs_decimal.specs.inner.Mantissa.{with_digits};
 ghost use Rattle.crs_decimal.specs.inner.Split.{leading_digits, behind_digits, sign_of, behind_sign, fraction_of};

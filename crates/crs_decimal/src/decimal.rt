@@ -1,5 +1,5 @@
 ghost use Rattle.std.specs.Prelude.{◌≡◌, ℕ, MatchOption, ◌≢◌, ◌==◌, ◌%◌, ◌^◌, ◌<◌, ◌↔◌, IsTrue};
-ghost use Rattle.crs_decimal.specs.Value.{SameNumber, whole_number, IsNormal, exact, is_power, zero};
+ghost use Rattle.crs_decimal.specs.Numbers.{SameNumber, whole_number, IsNormal, exact, is_power, zero};
 
 use crate::laws;
 use crate::mantissa::scaled;
@@ -20,8 +20,8 @@ pub struct Decimal {
 impl Model for Decimal {
     ghost use Rattle.std.specs.Prelude.{◌<◌, ◌==◌};
     ghost use Rattle.std.specs.Int.{from_bool};
-    ghost use Rattle.crs_decimal.specs.Value.{IsNormal};
-    ghost use Rattle.crs_decimal.specs.Value as value;
+    ghost use Rattle.crs_decimal.specs.Numbers.{IsNormal};
+    ghost use Rattle.crs_decimal.specs.Numbers as value;
     ghost use Rattle.crs_decimal.specs.inner.Sign.{sign_back};
 
     ghost Value = { value.Value };

@@ -1,11 +1,10 @@
 //! Laws of the definitions, as contracts of functions that do nothing.
 
 ghost use Rattle.std.specs.Prelude.{◌≡◌, ℕ, ◌<◌, ◌≤◌, ◌↔◌, ◌⊎◌, List, None, length};
-ghost use Rattle.crs_decimal.specs.Spelling.{IsInBounds, Denotes, Parts, SpellsNumber, HasForm, AreDigits, mantissa};
+ghost use Rattle.crs_decimal.specs.Numbers.{IsInBounds, Denotes, Parts, SpellsNumber, HasForm, AreDigits, mantissa};
 ghost use Rattle.crs_decimal.specs.inner.Run.{IsRun};
 ghost use Rattle.crs_decimal.specs.inner.Examples.{SpellingsDenote, SpellingsFail, ValuesArePlain};
-ghost use Rattle.crs_decimal.specs.Value.{Number, SameNumber, Value, IsNormal, exact};
-ghost use Rattle.crs_decimal.specs.Plain.{IsPlain, plain};
+ghost use Rattle.crs_decimal.specs.Numbers.{Number, SameNumber, Value, IsNormal, exact, IsPlain, plain};
 
 /// Bytes spell the parts of a number in one way at most.
 #[tactic(auto, using(crate::proofs::SplitLemmas::parts_one))]

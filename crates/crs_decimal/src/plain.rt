@@ -2,9 +2,7 @@
 ghost use Rattle.std.specs.Prelude.{◌≡◌, ◌≢◌, ◌<◌, ◌≤◌, ◌∷◌, ◌+◌, ◌-◌, ◌==◌, ◌++◌, if◌then◌else◌, IfSome, IsTrue};
 ghost use Rattle.std.specs.Prelude.{length, take, replicate, slice_index_or};
 ghost use Rattle.std.specs.List.{list_all};
-ghost use Rattle.crs_decimal.specs.Spelling.{Denotes, is_digit};
-ghost use Rattle.crs_decimal.specs.Value.{Number};
-ghost use Rattle.crs_decimal.specs.Plain.{IsPlain, IsTrim};
+ghost use Rattle.crs_decimal.specs.Numbers.{Denotes, is_digit, Number, IsPlain, IsTrim};
 ghost use Rattle.crs_decimal.specs.inner.PlainBytes.{IsUnsigned};
 
 use crate::cutting::{digits_len, front_of, rest_of};

@@ -1,8 +1,7 @@
 ghost use Rattle.std.specs.Prelude.{◌≡◌, ◌+◌, ◌<◌, ◌≤◌, length, if◌then◌else◌, MatchOption, MatchResult};
-ghost use Rattle.crs_decimal.specs.Spelling.{digits_value, IsBounded, number_of, Denotes, Parts, AreDigits, mantissa};
+ghost use Rattle.crs_decimal.specs.Numbers.{digits_value, IsBounded, number_of, Denotes, Parts, AreDigits, mantissa, SameNumber, IsNormal, exact};
 ghost use Rattle.crs_decimal.specs.inner.Cut.{IsCut, IsFar, IsPowerBetween};
 ghost use Rattle.crs_decimal.specs.Fault.{IsFault};
-ghost use Rattle.crs_decimal.specs.Value.{SameNumber, IsNormal, exact};
 
 use crate::cutting::{Spelled, read};
 use crate::decimal::Decimal;

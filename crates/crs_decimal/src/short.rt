@@ -1,8 +1,7 @@
 //! Numbers of at most 19 bytes without an exponent, as nearly all are: their digits fit a `u64`.
 ghost use Rattle.std.specs.Prelude.{◌≡◌, ◌≢◌, ◌+◌, ◌-◌, ◌*◌, ◌%◌, ◌^◌, ◌<◌, ◌≤◌, length, fold, IfSome};
-ghost use Rattle.crs_decimal.specs.Spelling.{IsBounded, number_of, Parts};
+ghost use Rattle.crs_decimal.specs.Numbers.{IsBounded, number_of, Parts, SameNumber, IsNormal, exact};
 ghost use Rattle.crs_decimal.specs.inner.Cut.{IsPowerBetween};
-ghost use Rattle.crs_decimal.specs.Value.{SameNumber, IsNormal, exact};
 ghost use Rattle.crs_decimal.specs.inner.Short.{IsReadShort, IsShortCut};
 ghost use Rattle.crs_decimal.specs.inner.Split.{leading_digits, behind_digits};
 

@@ -1,7 +1,6 @@
 ghost use Rattle.std.specs.Prelude.{◌≡◌, suc, IsTrue, ◌+◌, ◌≤◌, ◌++◌, length, replicate, MatchResult};
 ghost use Rattle.arrayvec.specs.ArrayVec.{array_vec_len};
-ghost use Rattle.crs_decimal.specs.Plain.{AppendsPlain, scaled, with_period, padded};
-ghost use Rattle.crs_decimal.specs.Value.{IsNormal, is_power};
+ghost use Rattle.crs_decimal.specs.Numbers.{AppendsPlain, scaled, with_period, padded, IsNormal, is_power};
 
 use crate::decimal::Decimal;
 use arrayvec::ArrayVec;

@@ -5,7 +5,7 @@ use Rattle.std.specs.Ordering.{nat_cmp}
 use Rattle.std.specs.declared.cmp.Ordering.TheVariants.{Less}
 use Rattle.crs_value.specs.Sound.{Each}
 use Rattle.std.specs.List.{list_all}
-use Rattle.crs_decimal.specs.Spelling.{is_digit}
+use Rattle.crs_decimal.specs.Numbers.{is_digit, IsPlain}
 use Rattle.crs_text.specs.Items.{Item, Siblings, End, More, arguments, kind_of_item, raw_of, skip, leaf, node}
 use Rattle.crs_text.specs.Written.{item_text}
 use Rattle.crs_shape.specs.declared.class.Class.{Class}
@@ -13,7 +13,6 @@ use Rattle.crs_shape.specs.ShapeFault.{class_in, class_of_root}
 use Rattle.crs_value.specs.Checks.{AtClass}
 use Rattle.crs_value.specs.Reading.{those}
 use Rattle.crs_value.specs.Reads.{single_of}
-use Rattle.crs_decimal.specs.Plain.{IsPlain}
 use Rattle.crs_text.specs.declared.keyword.Keyword.{Keyword}
 use Rattle.crs_text.specs.Keywords.{spelling_of}
 use Rattle.crs_text.specs.TextFault.{SpellsNode}

@@ -1,5 +1,5 @@
 -- What is asked of rules: what they write is accepted.
-use Rattle.crs_decimal.specs.Value.{IsNormal}
+use Rattle.crs_decimal.specs.Numbers.{IsNormal}
 use Rattle.crs_value.specs.Checks.{IsAboveZero}
 use Rattle.crs_value.specs.Sound.{Each, IsText}
 use Rattle.crs_rules.specs.Rules.{NameAliasParts, RulesParts, UnitAliasParts}

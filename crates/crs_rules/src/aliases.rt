@@ -2,7 +2,7 @@
 ghost use Rattle.std.specs.Prelude.{◌≡◌, ◌++◌, [], ◌∷◌, List, OnErr, OnOk, drop, length, take, ℕ};
 ghost use Rattle.std.specs.Option.{option_copied};
 ghost use Rattle.std.specs.Str.{bytes_eq};
-ghost use Rattle.crs_decimal.specs.Plain.{plain};
+ghost use Rattle.crs_decimal.specs.Numbers.{plain};
 ghost use Rattle.crs_value.specs.Sound.{Each, IsText};
 ghost use Rattle.crs_rules.specs.inner.Firsts.{AreFound, IsNoted, name_digest, place_of, unit_digest};
 ghost use Rattle.crs_rules.specs.Rules.{NameAliasParts, UnitAliasParts, first_name, first_that, is_name_alias, is_unit_alias};

@@ -4,7 +4,7 @@ use Rattle.crs_value.specs.Values.{UnitParts, IdentParts, AxisParts, SystemParts
 use Rattle.crs_same.specs.declared.content.Content.{Content}
 use Rattle.crs_value.specs.declared.values.level.Level.{Level}
 use Rattle.crs_same.specs.declared.step.Step.{Step}
-use Rattle.crs_decimal.specs.Value.{Value, zero}
+use Rattle.crs_decimal.specs.Numbers.{Value, zero}
 use Rattle.crs_shape.specs.declared.unit_kind.UnitKind.{UnitKind}
 use Rattle.crs_value.specs.Kept.{kept, kept_one}
 use Rattle.crs_same.specs.SameIdents.{SameIdent, SameSet, BothOrNeither}

@@ -1,6 +1,6 @@
 -- When units, systems, frames, dynamic parts, conversions and usages are the same.
 use Rattle.std.specs.Prelude.{◌≡◌, false, pos, [], Option, Some, None, codes, ℕ, ◌+◌, List, ◌∷◌, ◌⊎◌, ⊤}
-use Rattle.crs_decimal.specs.Value.{SameNumber, whole_number, Value, exact}
+use Rattle.crs_decimal.specs.Numbers.{SameNumber, whole_number, Value, exact}
 use Rattle.crs_shape.specs.declared.unit_kind.UnitKind.{UnitKind}
 use Rattle.crs_value.specs.declared.values.level.Level.{Level}
 use Rattle.crs_value.specs.Values.{UnitParts, AxisMeridianParts, AxisParts, BoxParts, ExtentParts, UsageParts, TailParts, ParameterParts}

@@ -1,6 +1,6 @@
 -- Choices: one of some values is so; and the value that is so, or none.
 use Rattle.std.specs.Prelude.{List, [], ◌∷◌, Option, Some, None, ◌⊎◌, ℕ}
-use Rattle.crs_decimal.specs.Value.{SameNumber, whole_number, Value, exact}
+use Rattle.crs_decimal.specs.Numbers.{SameNumber, whole_number, Value, exact}
 use Rattle.crs_shape.specs.declared.class.Class.{Class}
 use Rattle.crs_shape.specs.declared.system_type.SystemType.{SystemType}
 use Rattle.crs_shape.specs.declared.class.Class.TheVariants as class

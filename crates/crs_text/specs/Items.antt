@@ -1,8 +1,7 @@
 -- Items: a single token, or a node, which is a word, an opening delimiter, one or more items
 -- separated by commas, and the closing delimiter of the same kind.
 use Rattle.std.specs.Prelude.{◌≡◌, ◌≢◌, ℕ, zero, suc, ◌+◌, ◌≤◌, max, Bool, Option, Some, None, List, [], ◌∷◌, ◌++◌, slice_index_or}
-use Rattle.crs_decimal.specs.Spelling.{Denotes}
-use Rattle.crs_decimal.specs.Value.{Value, IsNormal, exact}
+use Rattle.crs_decimal.specs.Numbers.{Denotes, Value, IsNormal, exact}
 use Rattle.crs_text.specs.Keywords.{keyword_of}
 use Rattle.crs_text.specs.declared.items.ItemKind.{ItemKind}
 use Rattle.crs_text.specs.declared.items.ItemKind.TheVariants.{Number, Text, Word, Node}

@@ -2,7 +2,7 @@
 -- to right, that can't be formed or after which no text can follow.
 use Rattle.std.specs.Prelude.{◌≡◌, ℕ, ◌+◌, ◌||◌, ◌==◌, Bool, IsTrue, IsFalse, List, [], ◌∷◌, ◌++◌, length, ◌≢◌, ◌⊎◌}
 use Rattle.std.specs.List.{list_all}
-use Rattle.crs_decimal.specs.Spelling.{is_run_byte, is_run_start, HasForm, IsInBounds}
+use Rattle.crs_decimal.specs.Numbers.{is_run_byte, is_run_start, HasForm, IsInBounds}
 use Rattle.crs_text.specs.Tokens.{StopsAt, BeginsWith, is_quote, IsInside, Through, IsUtf8Front, IsLongestUtf8, Token, single, comma, opening, closing, is_letter, Forms, Fronts, AreTokens, IsAfterWhite}
 use Rattle.crs_text.specs.Items.{Item, AreNode}
 use Rattle.crs_text.specs.Viable.{IsViable, IsViableAtAnyDepth}

@@ -1,7 +1,7 @@
 -- Quoted texts: from a quote to the next one that isn't doubled.
 use Rattle.std.specs.Prelude.{◌≡◌, ℕ, ◌+◌, ◌==◌, Bool, IsTrue, IsFalse, List, [], ◌∷◌, ◌++◌, if◌then◌else◌, ◌⊎◌, ◌≤◌, length, take, IsUtf8, ◌&&◌, ◌||◌, nat_le, true, false}
 use Rattle.std.specs.List.{list_all}
-use Rattle.crs_decimal.specs.Spelling.{is_digit, is_run_byte, is_run_start, IsInBounds}
+use Rattle.crs_decimal.specs.Numbers.{is_digit, is_run_byte, is_run_start, IsInBounds}
 
 -- characters with each quote among them written twice
 abbrev pub doubled : List ℕ → List ℕ

@@ -2,7 +2,7 @@
 ghost use Rattle.std.specs.Prelude.{◌≡◌, ◌+◌, ◌≤◌, ◌<◌, ◌∷◌, length, take, drop, MatchOption, MatchBool, MatchResult, IsTrue, IfSome};
 ghost use Rattle.crs_text.specs.Tokens.{BeginsWith, IsInside, StopsAt, is_quote, IsLongestUtf8, IsUtf8Front};
 ghost use Rattle.crs_text.specs.inner.Lexing.{IsShutAt, IsLexed, IsValidTo};
-ghost use Rattle.crs_decimal.specs.Spelling as spelling;
+ghost use Rattle.crs_decimal.specs.Numbers as spelling;
 ghost use Rattle.crs_text.specs.inner.Runs.{IsOneDigit, IsSigned, IsFractional};
 
 use crate::refusal::Reason;

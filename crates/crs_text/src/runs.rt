@@ -4,7 +4,7 @@ ghost use Rattle.std.specs.List.{prefix_len};
 ghost use Rattle.crs_text.specs.Tokens.{StopsAt};
 ghost use Rattle.crs_text.specs.inner.Runs.{first_set, is_plain_ascii};
 ghost use Rattle.crs_text.specs.Tokens as tokens;
-ghost use Rattle.crs_decimal.specs.Spelling as spelling;
+ghost use Rattle.crs_decimal.specs.Numbers as spelling;
 
 use crate::lexing::rest_of;
 use std::simd::prelude::*;

@@ -4,7 +4,7 @@ use Rattle.crs_text.specs.Items.{Item, place_of, Siblings, arguments, leaf, node
 use Rattle.crs_text.specs.Refusal.{RefusedAt, is_before}
 use Rattle.crs_shape.specs.declared.class.Class.{Class}
 use Rattle.crs_value.specs.Reading.{OneIs, those, ReadsFirst, Each}
-use Rattle.crs_decimal.specs.Value.{Value, exact, SameNumber, whole_number}
+use Rattle.crs_decimal.specs.Numbers.{Value, exact, SameNumber, whole_number}
 use Rattle.crs_value.specs.Reads.{ReadsNumber, HasType, ReadsDirection, ReadsKind, HasDimension, ReadsType, ReadsNumberOf}
 use Rattle.crs_shape.specs.declared.direction.Direction.{Direction}
 use Rattle.crs_shape.specs.declared.system_type.SystemType.{SystemType}

@@ -1,7 +1,6 @@
 -- What the nodes say, field by field. Each field is read from the arguments of its class.
 use Rattle.std.specs.Prelude.{◌≡◌, ℕ, [], Option, Some, None, drop, List, ◌∷◌}
-use Rattle.crs_decimal.specs.Spelling.{Denotes}
-use Rattle.crs_decimal.specs.Value.{Value, IsNormal, exact}
+use Rattle.crs_decimal.specs.Numbers.{Denotes, Value, IsNormal, exact}
 use Rattle.crs_text.specs.Items.{Item, arguments, raw_of}
 use Rattle.crs_shape.specs.declared.class.Class.{Class}
 use Rattle.crs_shape.specs.declared.direction.Direction.{Direction}

@@ -1,7 +1,7 @@
 -- What is asked of identifiers, named values, units and axes by themselves: well-formed
 -- texts, decimals in their normal form, and units of a kind that fits.
 use Rattle.std.specs.Prelude.{◌≡◌, ◌≢◌, ℕ, List, ◌⊎◌, IsUtf8, IfSome, Option, Some, None, [], ◌∷◌, length, map, IsSomeAnd}
-use Rattle.crs_decimal.specs.Value.{IsNormal, Value, exact, SameNumber, whole_number}
+use Rattle.crs_decimal.specs.Numbers.{IsNormal, Value, exact, SameNumber, whole_number}
 use Rattle.crs_text.specs.Tokens.{IsInside}
 use Rattle.crs_shape.specs.declared.unit_kind.UnitKind.{UnitKind}
 use Rattle.crs_value.specs.Checks.{IsAboveZero, IsPosition}

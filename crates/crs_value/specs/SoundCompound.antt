@@ -1,6 +1,6 @@
 -- What is asked of a compound CRS by itself.
 use Rattle.std.specs.Prelude.{◌≡◌}
-use Rattle.crs_decimal.specs.Value.{SameNumber, whole_number, exact}
+use Rattle.crs_decimal.specs.Numbers.{SameNumber, whole_number, exact}
 use Rattle.crs_shape.specs.declared.system_type.SystemType.TheVariants as types
 use Rattle.crs_value.specs.declared.values.compound.Horizontal.{Horizontal}
 use Rattle.crs_value.specs.declared.values.compound.Horizontal.TheVariants as horizontal

@@ -1,6 +1,6 @@
 -- What is asked of conversions, dynamic parts and reference frames by themselves.
 use Rattle.std.specs.Prelude.{IfSome, ◌≡◌, ◌≢◌, false, []}
-use Rattle.crs_decimal.specs.Value.{IsNormal}
+use Rattle.crs_decimal.specs.Numbers.{IsNormal}
 use Rattle.crs_value.specs.Values.{ParameterParts, ConversionParts, DynamicParts, EllipsoidParts, MeridianParts, DatumParts, EnsembleParts}
 use Rattle.crs_value.specs.Sound.{Each, IsText, IsIdent, IsNamed, IsUnit, IsUnitOf}
 use Rattle.crs_value.specs.Checks.{IsAboveZero}

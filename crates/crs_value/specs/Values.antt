@@ -2,7 +2,7 @@
 -- the bytes between its quotes, each quote among them doubled; two texts are equal
 -- where their characters are. A code or version is its characters, quoted or not.
 use Rattle.std.specs.Prelude.{◌⊎◌, ℕ, List, Option, IsSome}
-use Rattle.crs_decimal.specs.Value.{Value}
+use Rattle.crs_decimal.specs.Numbers.{Value}
 use Rattle.crs_shape.specs.declared.direction.Direction.{Direction}
 use Rattle.crs_shape.specs.declared.system_type.SystemType.{SystemType}
 use Rattle.crs_shape.specs.declared.unit_kind.UnitKind.{UnitKind}

@@ -1,7 +1,6 @@
 //! Numbers: as their bytes spell them, and whole ones.
 ghost use Rattle.std.specs.Prelude.{◌≡◌, ◌++◌, OnOk, Some};
-ghost use Rattle.crs_decimal.specs.Plain.{plain};
-ghost use Rattle.crs_decimal.specs.Value.{Value};
+ghost use Rattle.crs_decimal.specs.Numbers.{plain, Value};
 ghost use Rattle.crs_normal.specs.inner.SpelledItems.{whole_value};
 ghost use Rattle.crs_writer.specs.inner.Found.{IsNumber};
 ghost use Rattle.crs_writer.specs.inner.FromItems.{Writes};

@@ -1,8 +1,7 @@
 //! Values that are spelled, and parts of nodes: those of a value, or those that are read from an item. Of each part it is
 //! known which values it may say, and the text of any of them is what is appended.
 ghost use Rattle.std.specs.Prelude.{◌≡◌, ◌∷◌, ◌++◌, [], List, OnOk, Option, Some, ℕ};
-ghost use Rattle.crs_decimal.specs.Plain.{plain};
-ghost use Rattle.crs_decimal.specs.Value.{Value};
+ghost use Rattle.crs_decimal.specs.Numbers.{plain, Value};
 ghost use Rattle.crs_text.specs.Items.{End};
 ghost use Rattle.crs_text.specs.Written.{item_text, others_text};
 ghost use Rattle.crs_value.specs.Values.{IdentParts, UnitParts};

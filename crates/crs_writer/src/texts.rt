@@ -1,7 +1,7 @@
 //! Bytes, and items of one token or of one argument.
 ghost use Rattle.std.specs.Prelude.{◌≡◌, ◌∷◌, ◌++◌, [], OnOk};
 ghost use Rattle.std.specs.Option.{option_copied};
-ghost use Rattle.crs_decimal.specs.Plain.{plain};
+ghost use Rattle.crs_decimal.specs.Numbers.{plain};
 ghost use Rattle.crs_text.specs.Items.{End, More};
 ghost use Rattle.crs_text.specs.Written.{item_text, others_text};
 ghost use Rattle.crs_normal.specs.inner.SpelledItems.{code_item, number_item};

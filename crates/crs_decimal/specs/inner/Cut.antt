@@ -1,10 +1,9 @@
 -- A bridge: what the reader keeps of a number's parts.
 use Rattle.std.specs.Prelude.{◌≡◌, ℕ, ◌+◌, ◌<◌, ◌⊎◌, Bool, List, [], length, ℤ, IsTrue}
 use Rattle.crs_decimal.specs.declared.cutting.Spelled.{Spelled}
-use Rattle.crs_decimal.specs.Spelling.{is_minus, is_below, exponent_digits, Parts, mantissa, fraction_digits, AreDigits}
+use Rattle.crs_decimal.specs.Numbers.{is_minus, is_below, exponent_digits, Parts, mantissa, fraction_digits, AreDigits, is_power, up_of, down_of}
 use Rattle.crs_decimal.specs.inner.Mantissa.{no_digits, with_digits}
 use Rattle.crs_decimal.specs.inner.Split.{exponent_of, behind_exponent, HasExponentDigits}
-use Rattle.crs_decimal.specs.Value.{is_power, up_of, down_of}
 
 -- the bytes are an exponent that has digits, or none
 abbrev pub IsExponentWhole : List ℕ → Type 0

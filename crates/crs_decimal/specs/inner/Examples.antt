@@ -1,8 +1,6 @@
 -- The definitions on a few spellings and values.
 use Rattle.std.specs.Prelude.{◌≡◌, ℕ, Bool, true, false, ℤ, pos, negsuc, codes}
-use Rattle.crs_decimal.specs.Spelling.{IsInBounds, Denotes, HasForm}
-use Rattle.crs_decimal.specs.Plain.{plain}
-use Rattle.crs_decimal.specs.Value.{Value, exact, zero}
+use Rattle.crs_decimal.specs.Numbers.{IsInBounds, Denotes, HasForm, plain, Value, exact, zero}
 
 -- a decimal of this sign, these digits and this power of ten
 abbrev pub value : Bool → ℕ → ℤ → Value

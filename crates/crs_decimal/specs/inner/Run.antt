@@ -1,7 +1,7 @@
 -- A bridge: bytes that are taken as one run, before they are read as a number.
 use Rattle.std.specs.Prelude.{ℕ, IsTrue, List, [], ◌∷◌}
 use Rattle.std.specs.List.{list_all}
-use Rattle.crs_decimal.specs.Spelling.{is_run_byte, is_run_start}
+use Rattle.crs_decimal.specs.Numbers.{is_run_byte, is_run_start}
 
 -- there is a byte, the first is one that a number starts with, and all are bytes of numbers and
 -- words

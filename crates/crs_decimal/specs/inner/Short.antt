@@ -1,7 +1,7 @@
 -- A bridge: what the reader keeps of a short number.
 use Rattle.std.specs.Prelude.{◌≡◌, ℕ, ◌^◌, ◌<◌, ◌≤◌, List, length, None}
 use Rattle.crs_decimal.specs.declared.short.Short.{Short}
-use Rattle.crs_decimal.specs.Spelling.{digits_value, is_minus, Parts, fraction_digits, mantissa}
+use Rattle.crs_decimal.specs.Numbers.{digits_value, is_minus, Parts, fraction_digits, mantissa}
 use Rattle.crs_decimal.specs.inner.Split.{parts_of, IsCutWhole}
 
 -- the reader keeps this of the parts, which have no exponent

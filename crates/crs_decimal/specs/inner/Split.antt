@@ -1,7 +1,7 @@
 -- A bridge: bytes cut into the parts of a number as far as they go, and what is left after them.
 use Rattle.std.specs.Prelude.{◌≡◌, ℕ, ◌<◌, ◌==◌, ◌||◌, Bool, if◌then◌else◌, List, [], ◌∷◌, length, take, drop, Option, Some, None}
 use Rattle.std.specs.List.{prefix_len}
-use Rattle.crs_decimal.specs.Spelling.{Sign, unsigned, plus, minus, Exponent, Parts, is_digit, mantissa}
+use Rattle.crs_decimal.specs.Numbers.{Sign, unsigned, plus, minus, Exponent, Parts, is_digit, mantissa}
 
 -- the digits in front
 abbrev pub leading_digits : List ℕ → List ℕ

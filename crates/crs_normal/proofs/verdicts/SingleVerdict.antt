@@ -3,7 +3,7 @@ use Rattle.std.proofs.Common.{◌≡◌, ℕ, zero, suc, ◌+◌, ◌-◌, ◌==
 use Rattle.std.specs.List.{list_all}
 use Rattle.std.specs.Str.{all_scalars, str_to_ascii_lowercase}
 use Rattle.crs_decimal.specs.inner.Prelude.{IsInBounds, digits_value, Denotes, IsFractionNeeded, IsPlain, plain, Parts, SpellsNumber, unsigned, Value, IsNormal, exact, is_normal}
-use Rattle.crs_decimal.specs.Value.{zero as zero_value}
+use Rattle.crs_decimal.specs.Numbers.{zero as zero_value}
 use Rattle.crs_text.specs.inner.Prelude.{Item, leaf, doubled, Kind, number, text, word, IsSingle, IsWord, is_letter, is_word_byte}
 use Rattle.crs_text.specs.declared.items.ItemKind.TheVariants as kinds
 use Rattle.crs_shape.specs.declared.class.Class.{Class}

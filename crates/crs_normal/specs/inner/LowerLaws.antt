@@ -1,10 +1,8 @@
 -- A bridge: what the lower crates provide, as one fact: laws of numbers, of items and their texts, and
 -- of the axes of coordinate systems; and the test that a number is a whole one.
 use Rattle.std.specs.Prelude.{◌≡◌, ◌↔◌, ◌<◌, ◌≤◌, ◌^◌, ℕ, ⊤, true, List, codes, length}
-use Rattle.crs_decimal.specs.Spelling.{Denotes, IsInBounds, AreDigits, HasForm, Parts, SpellsNumber}
+use Rattle.crs_decimal.specs.Numbers.{Denotes, IsInBounds, AreDigits, HasForm, Parts, SpellsNumber, Number, SameNumber, whole_number, Value, IsNormal, exact, zero, IsPlain, plain}
 use Rattle.crs_decimal.specs.inner.Run.{IsRun}
-use Rattle.crs_decimal.specs.Value.{Number, SameNumber, whole_number, Value, IsNormal, exact, zero}
-use Rattle.crs_decimal.specs.Plain.{IsPlain, plain}
 use Rattle.crs_text.specs.Items.{Item}
 use Rattle.crs_text.specs.TextFault.{SpellsNode}
 use Rattle.crs_text.specs.Written.{AreFormed, WrittenSpells}

@@ -1,8 +1,7 @@
 -- A bridge: coordinate systems in their one form, their axes by position, and as items.
 use Rattle.std.specs.Prelude.{ℕ, zero, suc, ◌+◌, ◌==◌, Bool, List, [], ◌∷◌, Option, Some, None, length, decimal, codes, if◌then◌else◌, map}
 use Rattle.std.specs.Str.{bytes_eq}
-use Rattle.crs_decimal.specs.Plain.{plain}
-use Rattle.crs_decimal.specs.Value.{Value}
+use Rattle.crs_decimal.specs.Numbers.{plain, Value}
 use Rattle.crs_text.specs.Items.{Item, Siblings, End, More}
 use Rattle.crs_shape.specs.Words.{asked_kind, direction_word, system_word}
 use Rattle.crs_value.specs.Values.{AxisMeridianParts, AxisParts, SystemParts, MethodParts, ParameterParts, ConversionParts, GeoidModelParts, DeformationModelParts, DynamicParts}

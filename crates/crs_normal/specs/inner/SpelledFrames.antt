@@ -2,7 +2,7 @@
 -- items.
 use Rattle.std.specs.Prelude.{ℕ, ◌==◌, Bool, List, Option, Some, None, codes, map, if◌then◌else◌}
 use Rattle.std.specs.Option.{option_map}
-use Rattle.crs_decimal.specs.Value.{Value}
+use Rattle.crs_decimal.specs.Numbers.{Value}
 use Rattle.crs_text.specs.Items.{Item, End, More}
 use Rattle.crs_text.specs.Written.{item_text}
 use Rattle.crs_shape.specs.declared.unit_kind.UnitKind.TheVariants as kinds

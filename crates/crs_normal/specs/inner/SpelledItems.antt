@@ -4,9 +4,7 @@ use Rattle.std.specs.Cmp.Lexicographic.{slice_cmp}
 use Rattle.std.specs.Ordering.{nat_cmp, match_ordering}
 use Rattle.crs_value.specs.Sound.{Each}
 use Rattle.std.specs.List.{list_all}
-use Rattle.crs_decimal.specs.Plain.{plain}
-use Rattle.crs_decimal.specs.Spelling.{is_digit}
-use Rattle.crs_decimal.specs.Value.{Value}
+use Rattle.crs_decimal.specs.Numbers.{plain, is_digit, Value}
 use Rattle.crs_text.specs.Items.{Item, leaf, node, Siblings, End, More}
 use Rattle.crs_text.specs.Tokens.{number, text, word}
 use Rattle.crs_text.specs.Written.{item_text}

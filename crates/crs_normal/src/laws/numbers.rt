@@ -1,6 +1,6 @@
 //! Whole numbers in plain texts.
 ghost use Rattle.std.specs.Prelude.{◌≡◌, ◌↔◌, ◌<◌, ◌^◌, ℕ, true};
-ghost use Rattle.crs_decimal.specs.Value.{SameNumber, whole_number, Value, IsNormal, exact};
+ghost use Rattle.crs_decimal.specs.Numbers.{SameNumber, whole_number, Value, IsNormal, exact};
 ghost use Rattle.crs_normal.specs.inner.SpelledCrs.{is_number};
 
 use crs_decimal::laws::{one_form, plain_is_the_one, same_number_is_equivalence};

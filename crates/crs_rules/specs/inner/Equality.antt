@@ -6,7 +6,7 @@ use Rattle.std.specs.Ordering.{int_eq}
 use Rattle.std.specs.Hash.{HashWrites, le_bytes, u64}
 use Rattle.std.specs.Hash.DefaultHasher.{finish, initial, write}
 use denote.Enum.Bare.{sameb}
-use Rattle.crs_decimal.specs.Value.{Value}
+use Rattle.crs_decimal.specs.Numbers.{Value}
 use Rattle.crs_shape.specs.contracts.class.Class.{the_type}
 use Rattle.crs_rules.specs.Members.{MemberParts}
 

@@ -6,7 +6,7 @@ use Rattle.std.proofs.Common.{ap, rules, ◌∙◌}
 use Rattle.std.specs.Cmp.{IsEquivalence, booleans_Decides, decided, first_so, second_so, signed_Decides, unsigned_Decides}
 use Rattle.std.specs.Cmp.Lexicographic.{bytes_decides, pointwise}
 use denote.Enum.Bare.{sameb, same_true, true_same}
-use Rattle.crs_decimal.specs.Value.{Value}
+use Rattle.crs_decimal.specs.Numbers.{Value}
 use Rattle.crs_shape.specs.contracts.class.Class.{the_type}
 use Rattle.crs_shape.specs.declared.class.Class.{Class}
 use Rattle.crs_rules.specs.inner.Equality.{factors_equal, member_writes, members_equal}

@@ -1,6 +1,6 @@
 -- A bridge: what a node of a known class says by its arguments, and what holds of each node.
 use Rattle.std.specs.Prelude.{◌≡◌, Option, Some, None}
-use Rattle.crs_decimal.specs.Value.{Value}
+use Rattle.crs_decimal.specs.Numbers.{Value}
 use Rattle.crs_text.specs.Items.{Siblings}
 use Rattle.crs_shape.specs.declared.class.Class.{Class}
 use Rattle.crs_shape.specs.declared.unit_kind.UnitKind.{UnitKind}

@@ -23,7 +23,7 @@ use Rattle.crs_same.specs.Parts.{parts_of_ellipsoid, parts_of_given, or_greenwic
 use Rattle.crs_same.specs.SameParts.{SameParameter, SameGeoidModel, SameDeformationModel, SameMember, SameAxisMeridian, HasAt, own_or, SameValue, SameUnit, SameLength, SameUsage, usages_of}
 use Rattle.crs_same.specs.SameCrs.{SameCrs, SameDynamic, IsHorizontalPart}
 use Rattle.crs_same.specs.SameIdents.{SameIdents, SameSet, BothOrNeither}
-use Rattle.crs_decimal.specs.Value.{SameNumber, whole_number, Value, exact}
+use Rattle.crs_decimal.specs.Numbers.{SameNumber, whole_number, Value, exact}
 use Rattle.crs_value.specs.Kept.{kept, kept_one}
 
 -- the value is zero

@@ -1,7 +1,7 @@
 -- A bridge: how far the front of a text is settled, and what is known of the token that isn't.
 use Rattle.std.specs.Prelude.{◌≡◌, ℕ, ◌+◌, ◌≤◌, ◌<◌, IsTrue, ◌⊎◌, Option, Some, None, List, ◌∷◌, ◌++◌, [], length, take, drop}
 use Rattle.std.specs.List.{list_all}
-use Rattle.crs_decimal.specs.Spelling.{is_run_byte, is_run_start}
+use Rattle.crs_decimal.specs.Numbers.{is_run_byte, is_run_start}
 use Rattle.crs_text.specs.Tokens.{BeginsWith, StopsAt, IsInside, Token, is_white, is_letter, is_word_byte}
 use Rattle.crs_text.specs.TextFault.{FormsSettled, SettledFronts, IsRunSettled, IsSettledStop, IsSettledRefusal, IsTakenSoFar}
 use Rattle.crs_text.specs.inner.Table.{Flat, Shows}

@@ -2,7 +2,7 @@
 use Rattle.std.specs.Prelude.{◌≡◌, ℕ, ◌==◌, ◌&&◌, Bool, if◌then◌else◌, List, ◌∷◌, ◌++◌, drop, length, Option, [], IsTrue, not}
 use Rattle.std.specs.Int.{w64, trailing_zeros}
 use Rattle.std.specs.Char.{is_ascii}
-use Rattle.crs_decimal.specs.Spelling.{Sign, sign_text, fraction_text, fraction_digits, AreDigits, is_digit, is_run_byte}
+use Rattle.crs_decimal.specs.Numbers.{Sign, sign_text, fraction_text, fraction_digits, AreDigits, is_digit, is_run_byte}
 use Rattle.crs_text.specs.Tokens.{StopsAt, is_quote}
 
 -- a byte that isn't a quote

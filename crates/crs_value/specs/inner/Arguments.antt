@@ -6,7 +6,7 @@ use Rattle.crs_shape.specs.declared.class.Class.{Class}
 use Rattle.crs_shape.specs.inner.Counts.{is_bounded, least, most}
 use Rattle.crs_shape.specs.Shape.{slots_of}
 use Rattle.crs_value.specs.Reading.{is_same, those, Each, OneIs}
-use Rattle.crs_decimal.specs.Value.{SameNumber, whole_number, Value, exact}
+use Rattle.crs_decimal.specs.Numbers.{SameNumber, whole_number, Value, exact}
 use Rattle.crs_shape.specs.ShapeFault.{Shaped}
 use Rattle.crs_value.specs.Checks.{orders_in, ReadsOrder}
 use Rattle.crs_text.specs.Refusal.{RefusedAt, is_before}

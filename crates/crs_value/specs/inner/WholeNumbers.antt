@@ -1,7 +1,6 @@
 -- A bridge: whole numbers, as the checks of orders and dimensions ask for them.
 use Rattle.std.specs.Prelude.{ℕ, List}
-use Rattle.crs_decimal.specs.Spelling.{Denotes}
-use Rattle.crs_decimal.specs.Value.{SameNumber, whole_number, Value, IsNormal, exact}
+use Rattle.crs_decimal.specs.Numbers.{Denotes, SameNumber, whole_number, Value, IsNormal, exact}
 use Rattle.crs_text.specs.Items.{Item}
 use Rattle.crs_shape.specs.declared.class.Class.{Class}
 use Rattle.crs_value.specs.Reads.{ReadsNumberOf}

@@ -1,7 +1,6 @@
 -- A bridge: nodes of the commonest forms that are canonical as they stand.
 use Rattle.std.specs.Prelude.{◌≡◌, ℕ, IsTrue, List, Option, codes}
-use Rattle.crs_decimal.specs.Plain.{plain}
-use Rattle.crs_decimal.specs.Value.{Value}
+use Rattle.crs_decimal.specs.Numbers.{plain, Value}
 use Rattle.crs_text.specs.Items.{HasId, Item, Siblings, End, More, arguments, kind_of_item, raw_of}
 use Rattle.crs_text.specs.declared.items.ItemKind.{ItemKind}
 use Rattle.crs_text.specs.declared.items.ItemKind.TheVariants as items

@@ -1,7 +1,6 @@
 -- A bridge: what is found among the arguments of a node.
 use Rattle.std.specs.Prelude.{ℕ, List, Option, Some, None}
-use Rattle.crs_decimal.specs.Spelling.{Denotes}
-use Rattle.crs_decimal.specs.Value.{Value, IsNormal, exact}
+use Rattle.crs_decimal.specs.Numbers.{Denotes, Value, IsNormal, exact}
 use Rattle.crs_text.specs.Items.{Siblings, leaf, node, End, More}
 
 -- what a part says, if there is one

@@ -2,8 +2,7 @@
 -- item.
 use Rattle.std.specs.Prelude.{ℕ, List, [], ◌∷◌, ◌++◌, Option, Some, None, codes}
 use Rattle.std.specs.Option.{option_map}
-use Rattle.crs_decimal.specs.Plain.{plain}
-use Rattle.crs_decimal.specs.Value.{Value}
+use Rattle.crs_decimal.specs.Numbers.{plain, Value}
 use Rattle.crs_text.specs.Items.{End}
 use Rattle.crs_value.specs.Values.{DatumParts}
 use Rattle.crs_value.specs.declared.values.level.Level.{Level}

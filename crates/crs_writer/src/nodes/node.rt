@@ -40,7 +40,7 @@ pub struct Node<'i, 'a> {
 impl<'i, 'a> Node<'i, 'a> {
     ghost use Rattle.std.specs.Prelude.{◌≡◌, ◌↔◌, [], List, ℕ, Option, Some, IsTrue, IsFalse};
     ghost use Rattle.std.specs.Option.{option_copied};
-    ghost use Rattle.crs_decimal.specs.Value.{Value};
+    ghost use Rattle.crs_decimal.specs.Numbers.{Value};
     ghost use Rattle.crs_text.specs.Items.{arguments, raw_of, skip};
     ghost use Rattle.crs_shape.specs.declared.direction.Direction.{Direction};
     ghost use Rattle.crs_shape.specs.declared.unit_kind.UnitKind.{UnitKind};

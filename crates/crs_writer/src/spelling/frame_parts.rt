@@ -1,8 +1,7 @@
 //! Ellipsoids, prime meridians and dynamic parts.
 ghost use Rattle.std.specs.Prelude.{◌≡◌, ◌++◌, ◌∷◌, [], None, OnOk, Option, Some, if◌then◌else◌};
 ghost use Rattle.std.specs.Option.{option_map};
-ghost use Rattle.crs_decimal.specs.Plain.{plain};
-ghost use Rattle.crs_decimal.specs.Value.{Value};
+ghost use Rattle.crs_decimal.specs.Numbers.{plain, Value};
 ghost use Rattle.crs_text.specs.Items.{End, More};
 ghost use Rattle.crs_text.specs.Written.{item_text, others_text};
 ghost use Rattle.crs_value.specs.Values.{DeformationModelParts, EllipsoidParts, UnitParts};

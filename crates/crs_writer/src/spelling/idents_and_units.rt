@@ -1,7 +1,7 @@
 //! Identifiers, nodes that have a name and identifiers alone, units, and nodes of a number in a unit.
 ghost use Rattle.std.specs.Prelude.{◌≡◌, ◌∷◌, ◌++◌, [], ℕ, List, OnOk, Option, Some, map};
 ghost use Rattle.std.specs.Option.{option_copied};
-ghost use Rattle.crs_decimal.specs.Value.{Value};
+ghost use Rattle.crs_decimal.specs.Numbers.{Value};
 ghost use Rattle.crs_text.specs.Items.{End, More};
 ghost use Rattle.crs_text.specs.Written.{item_text, others_text};
 ghost use Rattle.crs_shape.specs.Words.{unit_word};

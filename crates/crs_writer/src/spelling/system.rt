@@ -1,7 +1,7 @@
 //! Coordinate systems: their axes are in order of position.
 ghost use Rattle.std.specs.Prelude.{◌≡◌, ◌∷◌, ◌++◌, [], ℕ, IfOk, List, OnOk, Option, codes, length};
 ghost use Rattle.std.specs.Option.{option_copied};
-ghost use Rattle.crs_decimal.specs.Value.{Value};
+ghost use Rattle.crs_decimal.specs.Numbers.{Value};
 ghost use Rattle.crs_text.specs.Items.{End, More};
 ghost use Rattle.crs_text.specs.Written.{item_text, others_text};
 ghost use Rattle.crs_shape.specs.Words.{SpellsWord, direction_word, system_word};

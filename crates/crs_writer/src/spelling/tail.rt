@@ -1,7 +1,7 @@
 //! Usages and their extents, and the ends of CRSs: usages, identifiers and remark.
 ghost use Rattle.std.specs.Prelude.{◌≡◌, ◌++◌, ◌<◌, ℕ, List, OnOk, Option, Some, codes, length, slice_set};
 ghost use Rattle.std.specs.Option.{option_copied, option_map};
-ghost use Rattle.crs_decimal.specs.Value.{Value};
+ghost use Rattle.crs_decimal.specs.Numbers.{Value};
 ghost use Rattle.crs_text.specs.Items.{End, More, Siblings};
 ghost use Rattle.crs_text.specs.Written.{item_text, others_text};
 ghost use Rattle.crs_value.specs.Kept.{kept_one};

@@ -2,7 +2,7 @@ use Rattle.std.proofs.Common.{◌≡◌, ◌<◌, length, get_or, false, arith, 
 use Rattle.std.specs.List.{prefix_len}
 use Rattle.std.proofs.lemmas.List.Folds.{length-prefix_len}
 use Rattle.std.proofs.lemmas.List.Sums.{prefix_len_is}
-use Rattle.crs_decimal.specs.Spelling.{is_digit}
+use Rattle.crs_decimal.specs.Numbers.{is_digit}
 use Rattle.crs_decimal.proofs.cutting.split_digits.Goals as goal
 use Rattle.crs_decimal.proofs.cutting.split_digits.Goals.{else-loop-byte-test, then-loop-byte-test+then-not-is_ascii_digit}
 

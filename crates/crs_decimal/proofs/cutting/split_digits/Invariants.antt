@@ -1,5 +1,5 @@
 use Rattle.std.proofs.Common.{◌≡◌, ◌+◌, ◌≤◌, ◌<◌, ℕ, take, get_or, true}
-use Rattle.crs_decimal.specs.Spelling.{is_digit}
+use Rattle.crs_decimal.specs.Numbers.{is_digit}
 use Rattle.crs_decimal.specs.inner.Mantissa.{with_digits}
 use Rattle.crs_decimal.proofs.cutting.split_digits.Given as goal
 

@@ -1,7 +1,7 @@
 use Rattle.std.proofs.Common.{◌≡◌, ◌∷◌, ◌<◌, length, drop, get_or, true, rules, sym, ap, subst, ◌∙◌}
 use Rattle.std.proofs.lemmas.List.{take_rest}
 use Rattle.crs_decimal.specs.inner.Cut.{IsExponentWhole}
-use Rattle.crs_decimal.specs.Spelling.{is_minus, AreDigits}
+use Rattle.crs_decimal.specs.Numbers.{is_minus, AreDigits}
 use Rattle.crs_decimal.specs.inner.Split.{is_exponent_letter, sign_of, behind_sign}
 use Rattle.crs_decimal.proofs.SplitLemmas.{exponent_whole, whole_exponent}
 use Rattle.crs_decimal.proofs.cutting.split_exponent.Goals as goal

@@ -1,4 +1,4 @@
-use Rattle.crs_decimal.specs.Plain.{plain}
+use Rattle.crs_decimal.specs.Numbers.{plain}
 use Rattle.crs_decimal.proofs.PlainLemmas.{plain_denoted_one}
 use Rattle.crs_decimal.proofs.WrittenLemmas.{written}
 use Rattle.crs_decimal.proofs.laws.plain_is_the_one.Goals as goal

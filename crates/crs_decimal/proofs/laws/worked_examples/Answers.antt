@@ -1,7 +1,6 @@
 use Rattle.std.proofs.Common.{ℕ, List, length, codes, refl, ap, inl, inr, arith, true, false, pos, negsuc, subst}
 use Rattle.std.specs.Fmt.{digits}
-use Rattle.crs_decimal.specs.Spelling.{IsBounded, IsInBounds, number_of, Denotes, HasForm}
-use Rattle.crs_decimal.specs.Value.{SameNumber, Value, exact, zero}
+use Rattle.crs_decimal.specs.Numbers.{IsBounded, IsInBounds, number_of, Denotes, HasForm, SameNumber, Value, exact, zero}
 use Rattle.crs_decimal.specs.inner.Split.{IsCutWhole, parts_of}
 use Rattle.crs_decimal.specs.inner.Examples.{value}
 use Rattle.crs_decimal.specs.declared.mantissa.Mantissa.{Mantissa}

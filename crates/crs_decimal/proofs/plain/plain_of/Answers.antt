@@ -1,7 +1,7 @@
 use Rattle.std.proofs.Common.{◌≡◌, ◌∷◌, ◌-◌, length, take, drop, rules, sym, subst}
 use Rattle.std.proofs.lemmas.List.{take_rest}
 use Rattle.std.proofs.lemmas.Option.{IfSome_then}
-use Rattle.crs_decimal.specs.Spelling.{Denotes}
+use Rattle.crs_decimal.specs.Numbers.{Denotes}
 use Rattle.crs_decimal.proofs.PlainBytesLemmas.{plus-off}
 use Rattle.crs_decimal.proofs.plain.plain_of.Goals as goal
 

@@ -1,7 +1,6 @@
 use Rattle.std.proofs.Common.{◌≡◌, ℕ, false, ◌∷◌, [], ◌+◌, ◌-◌, ◌==◌, if◌then◌else◌, length, drop, take, arith, rules, sym, ap, subst, ◌∙◌}
 use Rattle.std.proofs.lemmas.List.{nil_from_length, take_rest}
-use Rattle.crs_decimal.specs.Plain.{IsTrim}
-use Rattle.crs_decimal.specs.Spelling.{AreDigits}
+use Rattle.crs_decimal.specs.Numbers.{IsTrim, AreDigits}
 use Rattle.crs_decimal.proofs.PlainBytesLemmas.{trim-off, trim-plain, whole-plain}
 use Rattle.crs_decimal.proofs.plain.unsigned_plain.Goals as goal
 use Rattle.crs_decimal.proofs.plain.unsigned_plain.Goals.{then-kept-eq0, else-kept-eq0}

@@ -1,5 +1,5 @@
 use Rattle.std.proofs.Common.{◌≡◌, ◌<◌, ◌^◌, take}
-use Rattle.crs_decimal.specs.Spelling.{digits_value}
+use Rattle.crs_decimal.specs.Numbers.{digits_value}
 use Rattle.crs_decimal.proofs.reading.exponent_value.Given as goal
 
 abbrev pub invariant-loop-digit : goal.invariant-loop-digit

@@ -2,9 +2,8 @@ use Rattle.std.proofs.Common.{MatchOption, MatchResult, None, Some}
 use Rattle.std.specs.Prelude.{ok_or}
 use Rattle.crs_decimal.specs.declared.fault.NumberFault.TheVariants.{Range}
 use Rattle.crs_decimal.specs.Fault.{IsFault}
-use Rattle.crs_decimal.specs.Spelling.{Denotes, IsBounded, number_of}
+use Rattle.crs_decimal.specs.Numbers.{Denotes, IsBounded, number_of, SameNumber, IsNormal, exact}
 use Rattle.crs_decimal.specs.inner.Split.{parts_of}
-use Rattle.crs_decimal.specs.Value.{SameNumber, IsNormal, exact}
 use Rattle.crs_decimal.proofs.SplitLemmas.{parts_form, form_whole, spells_parts, parts_only}
 use Rattle.crs_decimal.proofs.reading.parse_any.Goals as goal
 

@@ -1,7 +1,7 @@
 use Rattle.std.proofs.Common.{◌≡◌, ◌^◌, ◌<◌, ◌≤◌, [], ◌∷◌, ◌++◌, length, drop, sym, ap, subst, ◌∙◌, arith, rules}
 use Rattle.std.proofs.lemmas.List.{nil_from_length}
 use Rattle.std.proofs.lemmas.Option.{IfSome_then}
-use Rattle.crs_decimal.specs.Spelling.{digits_value}
+use Rattle.crs_decimal.specs.Numbers.{digits_value}
 use Rattle.crs_decimal.specs.inner.Split.{leading_digits, behind_digits, behind_sign}
 use Rattle.crs_decimal.proofs.ShortLemmas.{short_fraction, value_joined, small_at}
 use Rattle.crs_decimal.proofs.short.read_short.Goals as goal

@@ -2,7 +2,7 @@ use Rattle.std.proofs.Common.{rules, ◌+◌, ◌-◌, ◌*◌, ◌≡◌, ◌<�
 use Rattle.std.specs.List.{prefix_len}
 use Rattle.std.proofs.lemmas.List.Folds.{length-prefix_len}
 use Rattle.std.proofs.lemmas.List.Sums.{prefix_len_is, fold_more}
-use Rattle.crs_decimal.specs.Spelling.{is_digit}
+use Rattle.crs_decimal.specs.Numbers.{is_digit}
 use Rattle.crs_decimal.proofs.ShortLemmas.{small_at, small_more}
 use Rattle.crs_decimal.proofs.short.with_digits.Goals as goal
 use Rattle.crs_decimal.proofs.short.with_digits.Goals.{else-loop-byte-test, then-loop-byte-test+then-not-is_ascii_digit}

@@ -1,5 +1,5 @@
 use Rattle.std.proofs.Common.{◌≡◌, ◌+◌, ◌-◌, ◌*◌, ◌^◌, ◌<◌, ℕ, take, fold, get_or, true}
-use Rattle.crs_decimal.specs.Spelling.{is_digit}
+use Rattle.crs_decimal.specs.Numbers.{is_digit}
 use Rattle.crs_decimal.proofs.short.with_digits.Given as goal
 
 abbrev pub invariant-loop-byte : goal.invariant-loop-byte

@@ -1,7 +1,7 @@
 use Rattle.std.proofs.Common.{◌≡◌, ◌≤◌, ◌++◌, length, decimal, List, ℕ, arith, ◌∙◌, ap, rules, subst, sym, MatchResult}
 use Rattle.std.proofs.lemmas.Fmt.{length-decimal-le_wide}
 use Rattle.std.proofs.lemmas.Result.{MatchResult-weaker}
-use Rattle.crs_decimal.specs.Plain.{plain}
+use Rattle.crs_decimal.specs.Numbers.{plain}
 use Rattle.crs_decimal.proofs.NumberLemmas.{normal_parts}
 use Rattle.crs_decimal.proofs.WrittenLemmas.{appends-plain}
 use Rattle.crs_decimal.proofs.decimal.Decimal.write.Goals as goal

@@ -1,7 +1,75 @@
--- How a number is spelled, the number that the parts of a spelling mean, and which are within the bounds.
-use Rattle.std.specs.Prelude.{◌≡◌, ℕ, ◌<◌, ◌==◌, ◌&&◌, ◌||◌, nat_le, Bool, IsTrue, List, [], ◌∷◌, ◌++◌, length, Option, Some, None, ◌≢◌, ◌+◌, ◌-◌, ◌*◌, ◌%◌, ◌^◌, ◌≤◌, ◌⊎◌, true, false, if◌then◌else◌, fold}
+-- Numbers: exact ones, how they are spelled, and the plain form.
+use Rattle.std.specs.Prelude.{◌≡◌, ℕ, ◌+◌, ◌*◌, ◌^◌, Bool, false, ◌⊎◌, suc, ◌%◌, ◌==◌, ◌&&◌, ◌||◌, not, nat_lt, nat_le, IsTrue, ℤ, pos, negsuc, ◌<◌, List, [], ◌∷◌, ◌++◌, length, Option, Some, None, ◌≢◌, ◌-◌, ◌≤◌, true, if◌then◌else◌, fold, take, drop, replicate, decimal}
 use Rattle.std.specs.List.{list_all}
-use Rattle.crs_decimal.specs.Value.{Number, SameNumber}
+
+-- ---- an exact number: no rounding, and equality by multiplying across
+
+-- digits * 10^up / 10^down, and below zero where `negative`
+pub record Number : Type 0 where
+  pub negative : Bool
+  pub digits : ℕ
+  pub up : ℕ
+  pub down : ℕ
+
+-- two numbers are of one size: equal when the powers of ten below are multiplied across
+abbrev pub SameSize : Number → Number → Type 0
+SameSize a b = a.digits * 10 ^ (a.up + b.down) ≡ b.digits * 10 ^ (b.up + a.down)
+
+-- two numbers are the same: of one size, and of one sign unless both are zero
+abbrev pub SameNumber : Number → Number → Type 0
+SameNumber a b = SameSize a b × ((a.negative ≡ b.negative) ⊎ ((a.digits ≡ 0) × (b.digits ≡ 0)))
+
+-- a natural number as an exact number
+abbrev pub whole_number : ℕ → Number
+whole_number n = record { negative = false; digits = n; up = 0; down = 0 }
+
+-- ---- a decimal as callers see it, always in its normal form
+
+-- digits * 10^power, below zero where `negative`
+pub record Value : Type 0 where
+  pub negative : Bool
+  pub digits : ℕ
+  pub power : ℤ
+
+-- the decimal zero
+abbrev pub zero : Value
+zero = record { negative = false; digits = 0; power = pos 0 }
+
+-- a power from -40 to 40
+abbrev pub is_power : ℤ → Bool
+is_power (pos n) = nat_le n 40
+is_power (negsuc n) = nat_lt n 40
+
+-- whether a power of ten is 0
+abbrev pub is_zero_power : ℤ → Bool
+is_zero_power (pos n) = n == 0
+is_zero_power (negsuc n) = false
+
+-- zero is neither negative nor has a power; any other number
+-- has at most 38 digits, the last not a zero
+abbrev pub is_normal : Value → Bool
+is_normal v =
+    nat_lt v.digits (10 ^ 38) && is_power v.power && (not (v.digits % 10 == 0)
+    || (v.digits == 0 && not v.negative && is_zero_power v.power))
+
+-- the decimal is in its normal form
+abbrev pub IsNormal : Value → Type 0
+IsNormal v = IsTrue (is_normal v)
+
+-- the power of ten that a decimal's power multiplies by; 0 where it divides
+abbrev pub up_of : ℤ → ℕ
+up_of (pos n) = n
+up_of (negsuc n) = 0
+
+-- the power of ten that a decimal's power divides by; 0 where it multiplies
+abbrev pub down_of : ℤ → ℕ
+down_of (pos n) = 0
+down_of (negsuc n) = suc n
+
+-- the number that the decimal denotes
+abbrev pub exact : Value → Number
+exact v =
+    record { negative = v.negative; digits = v.digits; up = up_of v.power; down = down_of v.power }
 
 -- ---- how a number is spelled: [sign] (digits [. [digits]] | . digits) [E [sign] digits]
 
@@ -156,3 +224,59 @@ IsInBounds bytes = (p : Parts) × SpellsNumber bytes p × IsBounded p
 -- the bytes spell this number, within the bounds
 abbrev pub Denotes : List ℕ → Number → Type 0
 Denotes bytes n = (p : Parts) × SpellsNumber bytes p × IsBounded p × SameNumber (number_of p) n
+
+-- ---- the plain spelling: no exponent, no plus sign, no needless zero, no closing period, a zero before a leading period
+
+-- digits that begin with no zero, or one zero alone
+abbrev pub IsTrim : List ℕ → Type 0
+IsTrim [] = ⊥
+IsTrim (d ∷ ds) = (d ≢ 48) ⊎ (ds ≡ [])
+
+-- digits that end in no zero, at least one
+abbrev pub EndsTrim : List ℕ → Type 0
+EndsTrim [] = ⊥
+EndsTrim (d ∷ []) = d ≢ 48
+EndsTrim (d ∷ e ∷ ds) = EndsTrim (e ∷ ds)
+
+-- there is a minus only where the number isn't zero
+abbrev pub IsSignNeeded : Parts → Type 0
+IsSignNeeded p =
+    (p.sign ≡ unsigned) ⊎ ((p.sign ≡ minus) × ((p.whole ≢ 48 ∷ []) ⊎ (p.fraction ≢ None)))
+
+-- a fraction, where one is written, has a digit and doesn't end in a zero
+abbrev pub IsFractionNeeded : Option (List ℕ) → Type 0
+IsFractionNeeded None = Unit {0}
+IsFractionNeeded (Some ds) = EndsTrim ds
+
+-- the bytes are a plain spelling
+pub record IsPlain (bytes : List ℕ) : Type 0 where
+  pub parts : Parts
+  pub spells : SpellsNumber bytes parts
+  pub sign : IsSignNeeded parts
+  pub whole : IsTrim parts.whole
+  pub fraction : IsFractionNeeded parts.fraction
+  pub exponent : parts.exponent ≡ None
+
+-- what follows the bytes from before is a plain spelling of the value
+pub record AppendsPlain (value : Value) (before after : List ℕ) : Type 0 where
+  pub spelling : List ℕ
+  pub appended : after ≡ before ++ spelling
+  pub is_plain : IsPlain spelling
+  pub denotes : Denotes spelling (exact value)
+
+-- digits with zeros before them where there are fewer than n
+abbrev pub padded : ℕ → List ℕ → List ℕ
+padded n ds = replicate (n - length ds) 48 ++ ds
+
+-- a period placed before the last n digits
+abbrev pub with_period : ℕ → List ℕ → List ℕ
+with_period n ds = take (length ds - n) ds ++ 46 ∷ drop (length ds - n) ds
+
+-- the digits times ten to the power, written out
+abbrev pub scaled : List ℕ → ℤ → List ℕ
+scaled ds (pos n) = ds ++ replicate n 48
+scaled ds (negsuc n) = with_period (suc n) (padded (suc (suc n)) ds)
+
+-- the plain spelling of a value
+abbrev pub plain : Value → List ℕ
+plain v = (if v.negative then 45 ∷ [] else []) ++ scaled (decimal v.digits) v.power
