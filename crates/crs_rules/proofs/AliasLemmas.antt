@@ -5,8 +5,7 @@ use Rattle.crs_shape.specs.declared.unit_kind.UnitKind.{UnitKind}
 use Rattle.crs_value.specs.inner.Prelude.{IsText, IsUnit, IsUnitOf, IsAxisUnit, UnitParts}
 use Rattle.crs_value.specs.Sound.{Each}
 use Rattle.crs_rules.specs.Rewritten.{counted_name}
-use Rattle.crs_rules.specs.Rules.{Meaning, NameAliasParts, RulesParts, UnitAliasParts, first_that, is_name_alias, is_unit_alias, meaning, name_for, unit_for}
-use Rattle.crs_rules.specs.SoundRules.{AreRules, IsNameAlias, IsUnitAlias}
+use Rattle.crs_rules.specs.Rules.{Meaning, NameAliasParts, RulesParts, UnitAliasParts, first_that, is_name_alias, is_unit_alias, meaning, name_for, unit_for, AreRules, IsNameAlias, IsUnitAlias}
 
 pub choice : {A : Type 0} (P : A → Type 0) (b : Bool) (x y : A) → P x → P y → P (if b then x else y)
 choice P true x y h k = h

@@ -6,10 +6,8 @@ use Rattle.crs_text.specs.inner.Prelude.{Item, leaf, node, Siblings, End, More, 
 use Rattle.crs_shape.specs.declared.unit_kind.UnitKind.{UnitKind}
 use Rattle.crs_value.specs.inner.Prelude.{OneIs, IsIn}
 use Rattle.crs_value.specs.Sound.{Each}
-use Rattle.crs_rules.specs.NoRules.{no_rules, nothing}
-use Rattle.crs_rules.specs.OrderOfRules.{DifferInOrder, HaveSameMembers}
+use Rattle.crs_rules.specs.Rules.{no_rules, nothing, DifferInOrder, HaveSameMembers, NameAliasParts, UnitAliasParts}
 use Rattle.crs_rules.specs.ReorderedAxes.{IsReordered}
-use Rattle.crs_rules.specs.Rules.{NameAliasParts, UnitAliasParts}
 use Rattle.crs_rules.specs.declared.uncounted.Uncounted.{Uncounted}
 use Rattle.crs_rules.specs.Members.{MemberParts, kind_of}
 use Rattle.crs_rules.specs.OrderOfLines.{AreLinesOf, AreReordered}

@@ -5,8 +5,7 @@ use Rattle.crs_shape.specs.declared.class.Class.{Class}
 use Rattle.crs_value.specs.Sound.{Each}
 use Rattle.crs_value.specs.inner.Prelude.{UnitParts}
 use Rattle.crs_rules.specs.inner.Firsts.{name_digest, unit_digest}
-use Rattle.crs_rules.specs.Rules.{NameAliasParts, UnitAliasParts, is_name_alias, is_unit_alias}
-use Rattle.crs_rules.specs.SoundRules.{IsUnitAlias}
+use Rattle.crs_rules.specs.Rules.{NameAliasParts, UnitAliasParts, is_name_alias, is_unit_alias, IsUnitAlias}
 use Rattle.crs_rules.proofs.FactorLemmas.{one-plain}
 use Rattle.crs_rules.proofs.MatchLemmas.{of-name, of-unit}
 

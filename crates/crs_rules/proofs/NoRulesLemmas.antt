@@ -15,9 +15,8 @@ use Rattle.crs_value.specs.declared.values.level.Level.TheVariants as levels
 use Rattle.crs_normal.specs.inner.Prelude.{axis_text}
 use Rattle.crs_writer.specs.inner.Prelude.{IsCanonicalOf}
 use Rattle.crs_canon.specs.MainTheorem.{MainTheorem}
-use Rattle.crs_rules.specs.NoRules.{no_rules}
+use Rattle.crs_rules.specs.Rules.{no_rules, meaning}
 use Rattle.crs_rules.specs.Rewritten.{across, axis, dynamic, ellipsoid, extent, frame_or_ensemble, meridian, parameter, rewritten, usage, AreTextsOfAxes, IsForm}
-use Rattle.crs_rules.specs.Rules.{meaning}
 
 abbrev ChangesNothing : {A : Type 0} → (A → A) → Type 0
 ChangesNothing {A} f = ◌≡◌ {A = A → A} (λ x. f x) (λ x. x)

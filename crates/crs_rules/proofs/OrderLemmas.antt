@@ -6,9 +6,8 @@ use Rattle.crs_value.specs.Sound.{Each}
 use Rattle.crs_value.specs.inner.Prelude.{UnitParts}
 use Rattle.crs_value.specs.declared.values.level.Level.{Level}
 use Rattle.crs_writer.specs.inner.Prelude.{IsCanonicalText}
-use Rattle.crs_rules.specs.OrderOfRules.{DifferInOrder, HaveSameMembers}
+use Rattle.crs_rules.specs.Rules.{DifferInOrder, HaveSameMembers, NameAliasParts, RulesParts, UnitAliasParts, first_name, first_that, first_unit, is_name_alias, is_unit_alias, meaning, name_for, unit_for}
 use Rattle.crs_rules.specs.Rewritten.{rewritten, IsForm}
-use Rattle.crs_rules.specs.Rules.{NameAliasParts, RulesParts, UnitAliasParts, first_name, first_that, first_unit, is_name_alias, is_unit_alias, meaning, name_for, unit_for}
 
 pub each-in : {A : Type 0} (P : A → Type 0) (x : A) (xs : List A) → Each P xs → IsIn x xs → P x
 each-in P x [] h k = absurd k

@@ -9,8 +9,7 @@ use Rattle.crs_shape.specs.declared.unit_kind.UnitKind.TheVariants as kind
 use Rattle.crs_shape.specs.contracts.class.Class as classes
 use Rattle.crs_shape.specs.contracts.unit_kind.UnitKind.{the_type}
 use Rattle.crs_value.specs.inner.Prelude.{is_same}
-use Rattle.crs_rules.specs.Rules.{NameAliasParts, RulesParts, UnitAliasParts, is_name_alias, is_unit_alias}
-use Rattle.crs_rules.specs.SteadyRules.{AreSteady, NamesAgree, UnitsAgree, unit_written}
+use Rattle.crs_rules.specs.Rules.{NameAliasParts, RulesParts, UnitAliasParts, is_name_alias, is_unit_alias, AreSteady, NamesAgree, UnitsAgree, unit_written}
 use Rattle.crs_rules.specs.Members.{MemberParts, Says, SaysFactor, SaysName, kind_of}
 use Rattle.crs_rules.specs.RulesFile.{Reads, ReadsFile, SpellsRules, next, start}
 use Rattle.crs_rules.specs.Statements.{Adds, AddsSet, Drops, Joins, Over, Reading, listed, with_alias}

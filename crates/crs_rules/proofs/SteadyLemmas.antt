@@ -5,8 +5,7 @@ use Rattle.crs_normal.specs.inner.Prelude.{IsIn}
 use Rattle.crs_value.specs.NamedValues.{IdentParts}
 use Rattle.crs_value.specs.inner.Prelude.{UnitParts}
 use Rattle.crs_value.specs.Sound.{Each}
-use Rattle.crs_rules.specs.Rules.{Meaning, NameAliasParts, RulesParts, UnitAliasParts, first_name, first_that, first_unit, is_name_alias, is_unit_alias, meaning, unit_for}
-use Rattle.crs_rules.specs.SteadyRules.{AreSteady, NamesAgree, UnitsAgree}
+use Rattle.crs_rules.specs.Rules.{Meaning, NameAliasParts, RulesParts, UnitAliasParts, first_name, first_that, first_unit, is_name_alias, is_unit_alias, meaning, unit_for, AreSteady, NamesAgree, UnitsAgree}
 use Rattle.crs_rules.proofs.MatchLemmas.{of-name, of-unit}
 use Rattle.crs_rules.proofs.OrderLemmas.{AreClear, Sought, each-in, sought}
 

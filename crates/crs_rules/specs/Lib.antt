@@ -1,13 +1,9 @@
 pub mod FormOrder
 pub mod Members
-pub mod NoRules
 pub mod OrderOfLines
-pub mod OrderOfRules
 pub mod ReorderedAxes
 pub mod Rewritten
 pub mod Rules
 pub mod RulesFile
-pub mod SoundRules
 pub mod Statements
-pub mod SteadyRules
 pub mod inner

@@ -1,15 +1,18 @@
 -- Rules, as callers see them: which names and units count as others, and what doesn't count.
-use Rattle.std.specs.Prelude.{ℕ, ◌&&◌, ◌-◌, Bool, List, [], ◌∷◌, Option, Some, None, codes, length, if◌then◌else◌, nat_eq, take}
+use Rattle.std.specs.Prelude.{ℕ, ◌&&◌, ◌-◌, Bool, List, [], ◌∷◌, Option, Some, None, codes, length, if◌then◌else◌, nat_eq, take, false, ◌≡◌, true}
 use Rattle.std.specs.List.{ends_with}
 use Rattle.std.specs.Str.{bytes_eq}
 use denote.Enum.Bare.{sameb}
-use Rattle.crs_decimal.specs.Numbers.{plain, Value}
+use Rattle.crs_decimal.specs.Numbers.{plain, Value, IsNormal}
 use Rattle.crs_shape.specs.declared.class.Class.{Class}
 use Rattle.crs_shape.specs.declared.unit_kind.UnitKind.{UnitKind}
 use Rattle.crs_shape.specs.contracts.unit_kind.UnitKind.{the_type}
 use Rattle.crs_value.specs.Reading.{is_same}
 use Rattle.crs_value.specs.Values.{UnitParts}
 use Rattle.crs_rules.specs.declared.uncounted.Uncounted.{Uncounted}
+use Rattle.crs_value.specs.Checks.{IsAboveZero}
+use Rattle.crs_value.specs.Sound.{Each, IsText}
+use Rattle.crs_normal.specs.Normal.{IsIn}
 
 -- a name of nodes of a class that counts as another name, which is written for it
 pub record NameAliasParts : Type 0 where
@@ -84,3 +87,82 @@ meaning r = record {
 abbrev pub without_ensemble : List ℕ → List ℕ
 without_ensemble name =
     if ends_with nat_eq name (codes " ensemble") then take (length name - 9) name else name
+
+-- ---- no rules
+
+-- everything counts
+abbrev pub nothing : Uncounted
+nothing = record {
+  crs_names = false;
+  base_names = false;
+  conversion_names = false;
+  axis_names = false;
+  dynamics = false;
+  anchors = false;
+  geoid_models = false;
+  base_units = false;
+  ensembles = false;
+  axis_order = false;
+}
+
+-- rules by which nothing counts as another, and everything counts
+abbrev pub no_rules : RulesParts
+no_rules = record { names = []; units = []; uncounted = nothing }
+
+-- ---- what is asked of rules: what they write is accepted
+
+-- what is asked of an alias of a name: the name that is written is a text
+abbrev pub IsNameAlias : NameAliasParts → Type 0
+IsNameAlias a = IsText a.name
+
+-- what is asked of an alias of a unit: the name that is written is a text, and both factors are
+-- decimals in their normal form, the written one above zero
+pub record IsUnitAlias (a : UnitAliasParts) : Type 0 where
+  pub name : IsText a.name
+  pub factor : IsNormal a.factor
+  pub above_zero : IsAboveZero a.factor
+  pub alias_factor : IsNormal a.alias_factor
+
+-- what is asked of rules: each of their aliases is as asked
+pub record AreRules (r : RulesParts) : Type 0 where
+  pub names : Each IsNameAlias r.names
+  pub units : Each IsUnitAlias r.units
+
+-- ---- rules by which nothing chains, and whose order says nothing
+
+-- the unit that counts as another by an alias
+abbrev pub unit_that_counts : UnitAliasParts → UnitParts
+unit_that_counts a = record { kind = a.kind; name = a.alias; factor = a.alias_factor; identifiers = [] }
+
+-- the unit that is written for an alias
+abbrev pub unit_written : UnitAliasParts → UnitParts
+unit_written a = record { kind = a.kind; name = a.name; factor = a.factor; identifiers = [] }
+
+-- two aliases of names: what the one writes is no alias of the other; if both are of one name, both
+-- write one name
+pub record NamesAgree (a b : NameAliasParts) : Type 0 where
+  pub steady : is_name_alias a.class a.name b ≡ false
+  pub clear : is_name_alias a.class a.alias b ≡ true → a.name ≡ b.name
+
+-- two aliases of units: what the one writes is no alias of the other; if both are of one unit, both
+-- write one name and one factor
+pub record UnitsAgree (a b : UnitAliasParts) : Type 0 where
+  pub steady : is_unit_alias (unit_written a) b ≡ false
+  pub clear : is_unit_alias (unit_that_counts a) b ≡ true → (a.name ≡ b.name) × (a.factor ≡ b.factor)
+
+-- nothing chains, and the order of aliases says nothing: each alias agrees with each
+pub record AreSteady (r : RulesParts) : Type 0 where
+  pub names : Each (λ a. Each (NamesAgree a) r.names) r.names
+  pub units : Each (λ a. Each (UnitsAgree a) r.units) r.units
+
+-- ---- rules in another order
+
+-- each of either list is one of the other
+abbrev pub HaveSameMembers : {A : Type 0} → List A → List A → Type 0
+HaveSameMembers xs ys = Each (λ x. IsIn x ys) xs × Each (λ y. IsIn y xs) ys
+
+-- the rules differ in the order and the repeats of their aliases alone
+pub record DifferInOrder (r s : RulesParts) : Type 0 where
+  pub names : HaveSameMembers r.names s.names
+  pub units : HaveSameMembers r.units s.units
+  pub uncounted : r.uncounted ≡ s.uncounted

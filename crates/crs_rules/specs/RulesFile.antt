@@ -4,8 +4,7 @@ use Rattle.crs_text.specs.Items.{Item}
 use Rattle.crs_text.specs.TextFault.{RefusesText, SpellsNode}
 use Rattle.crs_text.specs.Tokens.{is_white}
 use Rattle.crs_streams.specs.Lines.{AreLines}
-use Rattle.crs_rules.specs.NoRules.{no_rules}
-use Rattle.crs_rules.specs.Rules.{RulesParts}
+use Rattle.crs_rules.specs.Rules.{no_rules, RulesParts}
 use Rattle.crs_rules.specs.declared.file.fault.RulesRefusal.{RulesRefusal}
 use Rattle.crs_rules.specs.Statements.{FaultOfStatement, FaultOver, Over, Reading, States}
 

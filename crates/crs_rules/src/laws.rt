@@ -9,13 +9,9 @@ ghost use Rattle.crs_writer.specs.Canonical.{IsCanonicalOf};
 ghost use Rattle.crs_canon.specs.MainTheorem.{IsAccepted, SpellSame};
 ghost use Rattle.crs_rules.specs.FormOrder.{in_form_order};
 ghost use Rattle.crs_rules.specs.inner.LowerLaws.{FormLaws, SetLaws};
-ghost use Rattle.crs_rules.specs.NoRules.{no_rules};
-ghost use Rattle.crs_rules.specs.OrderOfRules.{DifferInOrder};
+ghost use Rattle.crs_rules.specs.Rules.{no_rules, DifferInOrder, Meaning, RulesParts, meaning, AreRules, AreSteady};
 ghost use Rattle.crs_rules.specs.ReorderedAxes.{IsCrsReordered};
 ghost use Rattle.crs_rules.specs.Rewritten.{renamed, rewritten, IsForm, SameUnder};
-ghost use Rattle.crs_rules.specs.Rules.{Meaning, RulesParts, meaning};
-ghost use Rattle.crs_rules.specs.SoundRules.{AreRules};
-ghost use Rattle.crs_rules.specs.SteadyRules.{AreSteady};
 
 pub mod files;
 

@@ -2,9 +2,7 @@
 ghost use Rattle.std.specs.Prelude.{◌≡◌, ◌++◌, ◌∷◌, [], OnErr, OnOk, length, take};
 ghost use Rattle.crs_value.specs.Checks.{IsAboveZero};
 ghost use Rattle.crs_value.specs.Sound.{IsText};
-ghost use Rattle.crs_rules.specs.NoRules.{no_rules};
-ghost use Rattle.crs_rules.specs.Rules.{RulesParts};
-ghost use Rattle.crs_rules.specs.SoundRules.{AreRules};
+ghost use Rattle.crs_rules.specs.Rules.{no_rules, RulesParts, AreRules};
 
 use crate::aliases::{Aliases, NameAlias, UnitAlias};
 use crate::uncounted::Uncounted;

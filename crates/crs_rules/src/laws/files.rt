@@ -1,9 +1,7 @@
 //! Laws of rules files: calls that do nothing, and whose contracts are the laws.
 ghost use Rattle.std.specs.Prelude.{◌≡◌, List, ℕ};
 ghost use Rattle.crs_value.specs.declared.values.level.Level.{Level};
-ghost use Rattle.crs_rules.specs.OrderOfRules.{DifferInOrder};
-ghost use Rattle.crs_rules.specs.Rules.{RulesParts};
-ghost use Rattle.crs_rules.specs.SteadyRules.{AreSteady};
+ghost use Rattle.crs_rules.specs.Rules.{DifferInOrder, RulesParts, AreSteady};
 ghost use Rattle.crs_rules.specs.Rewritten.{IsForm};
 ghost use Rattle.crs_rules.specs.OrderOfLines.{AreReordered};
 ghost use Rattle.crs_rules.specs.RulesFile.{ReadsFile, RefusesFile, SpellsRules, start};
