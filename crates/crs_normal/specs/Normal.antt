@@ -1,4 +1,4 @@
--- Lists in ascending order of their bytes, no bytes twice.
+-- Normal texts: the one spelling of a CRS, as a property of a text; lists in ascending order of their bytes, no bytes twice.
 use Rattle.std.specs.Prelude.{◌≡◌, ℕ, List, [], ◌∷◌, ◌≢◌, ◌≤◌, ◌⊎◌, ◌+◌, true, ◌++◌, map, length, codes, decimal, Some}
 use Rattle.std.specs.Cmp.Lexicographic.{slice_cmp}
 use Rattle.std.specs.Ordering.{nat_cmp}

@@ -1,4 +1,4 @@
--- Spellings: which bytes are the one spelling of a value by itself.
+-- Spellings: which bytes are the one spelling of a value by itself, and of a node outside a CRS.
 use Rattle.std.specs.Prelude.{◌≡◌, ℕ, List, Option, Some, None}
 use Rattle.crs_text.specs.Items.{Item}
 use Rattle.crs_text.specs.Refusal.{RefusedAt}

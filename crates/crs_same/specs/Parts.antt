@@ -1,10 +1,10 @@
--- The value of a part of a CRS that may be missing.
+-- The parts of two values in order, which of them differ, and the parts of each kind of value.
 use Rattle.std.specs.Prelude.{Option, Some, None, ◌≡◌, List, [], ◌∷◌, ◌++◌, ◌⊎◌, ℕ, zero, suc, max, length, ◌==◌, if◌then◌else◌, codes}
 use Rattle.crs_value.specs.Values.{UnitParts, IdentParts, AxisParts, SystemParts, EllipsoidParts, MeridianParts, DatumParts, EnsembleParts, MethodParts, ConversionParts, DynamicParts, TailParts}
 use Rattle.crs_same.specs.declared.content.Content.{Content}
 use Rattle.crs_value.specs.declared.values.level.Level.{Level}
 use Rattle.crs_same.specs.declared.step.Step.{Step}
-use Rattle.crs_decimal.specs.Numbers.{Value, zero}
+use Rattle.crs_decimal.specs.Numbers.{Value, zero as nought}
 use Rattle.crs_shape.specs.declared.unit_kind.UnitKind.{UnitKind}
 use Rattle.crs_value.specs.Kept.{kept, kept_one}
 use Rattle.crs_same.specs.SameIdents.{SameIdent, SameSet, BothOrNeither}
@@ -215,7 +215,7 @@ parts_of_given at level a b =
 
 -- a prime meridian; a missing one is Greenwich
 abbrev pub or_greenwich : Option MeridianParts → MeridianParts
-or_greenwich None = record { name = codes "Greenwich"; longitude = zero; unit = None; identifiers = [] }
+or_greenwich None = record { name = codes "Greenwich"; longitude = nought; unit = None; identifiers = [] }
 or_greenwich (Some meridian) = meridian
 
 -- the parts of two prime meridians, a missing one being Greenwich

@@ -1,4 +1,4 @@
--- Choices: one of some values is so; and the value that is so, or none.
+-- Choices: one of some values is so, and the value that is so, or none; and the dimensions of coordinate systems.
 use Rattle.std.specs.Prelude.{List, [], ◌∷◌, Option, Some, None, ◌⊎◌, ℕ}
 use Rattle.crs_decimal.specs.Numbers.{SameNumber, whole_number, Value, exact}
 use Rattle.crs_shape.specs.declared.class.Class.{Class}

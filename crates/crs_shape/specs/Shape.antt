@@ -1,4 +1,4 @@
--- Slots: the places that a class has for its arguments, in order.
+-- Slots, the places that a class has for its arguments, in order; and shapes, the lists of arguments that they allow.
 use Rattle.std.specs.Prelude.{ℕ, Bool, true, false, Option, Some, None, List, [], ◌∷◌, ◌≡◌, ◌≤◌, ◌||◌, ◌&&◌, not, IsTrue, IsFalse, ◌++◌, length}
 use Rattle.std.specs.List.{list_any}
 use denote.Enum.Bare.{sameb}

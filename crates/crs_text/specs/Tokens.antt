@@ -1,4 +1,4 @@
--- Quoted texts: from a quote to the next one that isn't doubled.
+-- Tokens: quoted texts, well-formed UTF-8, single tokens, commas and delimiters; and the tokens of a text.
 use Rattle.std.specs.Prelude.{◌≡◌, ℕ, ◌+◌, ◌==◌, Bool, IsTrue, IsFalse, List, [], ◌∷◌, ◌++◌, if◌then◌else◌, ◌⊎◌, ◌≤◌, length, take, IsUtf8, ◌&&◌, ◌||◌, nat_le, true, false}
 use Rattle.std.specs.List.{list_all}
 use Rattle.crs_decimal.specs.Numbers.{is_digit, is_run_byte, is_run_start, IsInBounds}

@@ -1,4 +1,4 @@
--- A bridge: coordinate systems in their one form, their axes by position, and as items.
+-- A bridge: coordinate systems, conversions, dynamic parts and CRSs in their one form, and as items.
 use Rattle.std.specs.Prelude.{ℕ, zero, suc, ◌+◌, ◌==◌, Bool, List, [], ◌∷◌, Option, Some, None, length, decimal, codes, if◌then◌else◌, map}
 use Rattle.std.specs.Str.{bytes_eq}
 use Rattle.crs_decimal.specs.Numbers.{plain, Value}

@@ -1,4 +1,4 @@
--- A bridge: lists in ascending order of their bytes, no bytes twice.
+-- A bridge: the pieces of which canonical items are made, lists in order, and usages and the ends of CRSs.
 use Rattle.std.specs.Prelude.{◌≡◌, ℕ, List, [], ◌∷◌, true, ◌&&◌, nat_le, Bool, Option, Some, None, length, if◌then◌else◌, false, codes, pos, map}
 use Rattle.std.specs.Cmp.Lexicographic.{slice_cmp}
 use Rattle.std.specs.Ordering.{nat_cmp, match_ordering}

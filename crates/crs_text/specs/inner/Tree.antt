@@ -1,4 +1,4 @@
--- A bridge: items that lie in a source, and how many bytes their written form has, as their rows tell.
+-- A bridge: rows of a source as items: how many bytes their written form has, and the tree that they give.
 use Rattle.std.specs.Prelude.{◌≡◌, ℕ, ◌+◌, Bool, true, List, [], ◌∷◌, ◌++◌, length, zero, suc, ◌≤◌, take, drop, map, refl}
 use Rattle.crs_text.specs.Tokens.{Token, Fronts, number, text, word, single, comma, opening, closing, IsFormed}
 use Rattle.crs_text.specs.declared.items.ItemKind.{ItemKind}

@@ -1,4 +1,4 @@
--- A bridge: the classes of some slots.
+-- A bridge: the classes of some slots; and what is read from items of one kind of node, one value at most.
 use Rattle.crs_shape.specs.declared.class.Class.{Class}
 use Rattle.std.specs.Prelude.{◌≡◌}
 use Rattle.crs_text.specs.Items.{Item}
