@@ -7,7 +7,7 @@ use Rattle.crs_decimal.specs.Numbers.{digits_value, is_minus, Strips, IsBounded,
 use Rattle.crs_decimal.specs.inner.Cut.{IsCut, IsFar, IsPowerBetween}
 use Rattle.crs_decimal.specs.declared.mantissa.Mantissa.{Mantissa}
 use Rattle.crs_decimal.specs.declared.cutting.Spelled.{Spelled}
-use Rattle.crs_decimal.proofs.MantissaLemmas.{IsShown, shown, long_least, zero_scaled}
+use Rattle.crs_decimal.proofs.DigitLemmas.{IsShown, shown, long_least, zero_scaled}
 use Rattle.crs_decimal.proofs.PowerLemmas.{strip_one, scaled_grows}
 
 -- what the reader's mantissa shows

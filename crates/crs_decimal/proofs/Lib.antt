@@ -2,7 +2,6 @@ pub mod BoundLemmas
 pub mod DecidedLemmas
 pub mod DecimalLemmas
 pub mod DigitLemmas
-pub mod MantissaLemmas
 pub mod NumberLemmas
 pub mod PlainBytesLemmas
 pub mod PlainLemmas

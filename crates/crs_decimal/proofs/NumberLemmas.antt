@@ -5,7 +5,7 @@ use Rattle.std.proofs.lemmas.Int.{ints}
 use Rattle.std.proofs.lemmas.Nat.{pow-add}
 use Rattle.std.proofs.Math.Nat.{mul-one, zero-add, le_of_mul-le-mul_right, le_antisymm}
 use Rattle.crs_decimal.specs.Numbers.{Denotes, number_of, Number, SameSize, SameNumber, whole_number, Value, zero, is_power, is_zero_power, IsNormal, exact, up_of, down_of}
-use Rattle.crs_decimal.proofs.MantissaLemmas.{zero_scaled}
+use Rattle.crs_decimal.proofs.DigitLemmas.{zero_scaled}
 use Rattle.crs_decimal.proofs.PowerLemmas.{strip_one, power_positive, last_zero}
 use Rattle.crs_decimal.proofs.SplitLemmas.{parts_one}
 

@@ -9,8 +9,7 @@ use Rattle.std.proofs.Math.Nat.{mul-one, mul-le-mul_right}
 use Rattle.crs_decimal.specs.Numbers.{digits_value, is_minus, power_up, power_down, number_of, Denotes, Parts, parts_text, is_digit, AreDigits, fraction_digits, mantissa, SameSize, SameNumber, Value, exact}
 use Rattle.crs_decimal.specs.Numbers.{IsTrim, EndsTrim, IsSignNeeded, IsFractionNeeded, IsPlain}
 use Rattle.crs_decimal.proofs.DecimalLemmas.{above_some}
-use Rattle.crs_decimal.proofs.DigitLemmas.{value_after, value-append, value-cons, value-below, same_digits, digit_range}
-use Rattle.crs_decimal.proofs.MantissaLemmas.{last_digit}
+use Rattle.crs_decimal.proofs.DigitLemmas.{value_after, value-append, value-cons, value-below, same_digits, digit_range, last_digit}
 use Rattle.crs_decimal.proofs.NumberLemmas.{lowered, cancelled, symmetric, transitive}
 use Rattle.crs_decimal.proofs.PowerLemmas.{power_grows, last_zero}
 use Rattle.crs_decimal.proofs.SplitLemmas.{digits_parts, parts_one}

@@ -8,8 +8,7 @@ use Rattle.crs_decimal.specs.Numbers.{digits_value, is_minus, number_of, IsMeasu
 use Rattle.crs_decimal.specs.Numbers.{IsTrim, IsSignNeeded, IsFractionNeeded, IsPlain, AppendsPlain, padded, with_period, scaled, plain, Value, zero as zero_value, IsNormal, exact, is_power, up_of, down_of}
 use Rattle.crs_decimal.proofs.BoundLemmas.{same_scaled}
 use Rattle.crs_decimal.proofs.DecimalLemmas.{above_some, start-append, start_trim, AreDigitsOf, decimal_digits, padded_digits, padded_value, padded_length, whole_trim, fraction_trim, fraction_length}
-use Rattle.crs_decimal.proofs.DigitLemmas.{IsSmall, small_measured, value-append, value-zeros, zeros_are_digits}
-use Rattle.crs_decimal.proofs.MantissaLemmas.{zero_scaled}
+use Rattle.crs_decimal.proofs.DigitLemmas.{IsSmall, small_measured, value-append, value-zeros, zeros_are_digits, zero_scaled}
 use Rattle.crs_decimal.proofs.NumberLemmas.{normal_parts}
 use Rattle.crs_decimal.proofs.SplitLemmas.{digits-append}
 

@@ -1,4 +1,3 @@
-pub mod ClassSetLemmas
 pub mod ItemLemmas
 pub mod KeywordLemmas
 pub mod KeywordTableLemmas

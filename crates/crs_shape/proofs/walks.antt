@@ -1,4 +1,3 @@
-pub mod CountLemmas
 pub mod SlotLemmas
 pub mod TableLemmas
 pub mod WalkLemmas

@@ -1,6 +1,4 @@
 pub mod AllowedLemmas
-pub mod FlawLemmas
-pub mod FrontsLemmas
 pub mod LaidLemmas
 pub mod LeftLemmas
 pub mod LexedLemmas

@@ -17,10 +17,9 @@ use Rattle.crs_shape.specs.inner.KeywordTable.{classes_of, classes_by, is_among,
 use Rattle.crs_shape.specs.ShapeFault.{class_in}
 use Rattle.crs_shape.specs.Shape.{is_class}
 use Rattle.crs_shape.specs.inner.SoughtKind.{kind_for}
-use Rattle.crs_shape.proofs.naming.ClassSetLemmas.{has_bit-word_of}
+use Rattle.crs_shape.proofs.naming.KeywordTableLemmas.{has_bit-word_of, clear-named}
 use Rattle.crs_shape.proofs.naming.ItemLemmas.{class_in-node, not-among}
 use Rattle.crs_shape.proofs.naming.KeywordLemmas.{among-classes_of, class_named-table, is_keyword-table}
-use Rattle.crs_shape.proofs.naming.KeywordTableLemmas.{clear-named}
 use Rattle.crs_shape.proofs.naming.ListLemmas.{list_any-map}
 
 -- ---- the kind

@@ -15,9 +15,7 @@ use Rattle.crs_text.specs.declared.refusal.Reason.TheVariants.{NotUtf8}
 use Rattle.crs_text.specs.declared.items.ItemKind.{ItemKind}
 use Rattle.crs_text.specs.Innermost.{IsClosed, IsInnermost}
 use Rattle.crs_text.specs.inner.Nesting.{places_after, IsPassed, IsHalted, LeadsTo, IsAnswered}
-use Rattle.crs_text.proofs.tokens.TokenLemmas.{Forms-one}
-use Rattle.crs_text.proofs.tokens.FlawLemmas.{flaw_no_token}
-use Rattle.crs_text.proofs.tokens.FrontsLemmas.{fronts_dark, skip_white, front_token, front_none, fronts_more, forms_shorter}
+use Rattle.crs_text.proofs.tokens.TokenLemmas.{Forms-one, flaw_no_token, fronts_dark, skip_white, front_token, front_none, fronts_more, forms_shorter}
 use Rattle.crs_text.proofs.tokens.AllowedLemmas.{allows_from_viable, opens-item}
 use Rattle.crs_text.proofs.tokens.ViableLemmas.{viable_front}
 use Rattle.crs_text.proofs.tokens.ScanLemmas.{after_white, fronts_short, IsSingleAt}

@@ -6,7 +6,7 @@ use Rattle.crs_text.specs.inner.State.{State, start, step, run}
 use Rattle.crs_text.specs.TextFault.{IsTooDeep, FormsSettled, SettledFronts, IsSettledRefusal, IsTakenSoFar}
 use Rattle.crs_text.specs.declared.refusal.Reason.TheVariants.{BadCharacter, Unexpected}
 use Rattle.crs_text.specs.inner.Examples.{begun}
-use Rattle.crs_text.proofs.tokens.FrontsLemmas.{at_once}
+use Rattle.crs_text.proofs.tokens.TokenLemmas.{at_once}
 use Rattle.crs_text.proofs.tokens.ViableLemmas.{viable_from_run}
 use Rattle.crs_text.proofs.tokens.AllowedLemmas.{not_viable_from_none}
 use Rattle.crs_text.proofs.settled.StayLemmas.{taken_so_far}

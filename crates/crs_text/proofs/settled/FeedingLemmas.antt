@@ -27,11 +27,9 @@ use Rattle.crs_text.specs.declared.refusal.Reason.TheVariants.{BadCharacter, Bad
 use Rattle.crs_text.specs.declared.items.ItemKind.{ItemKind}
 use Rattle.crs_text.specs.declared.lexing.Lexed.{Lexed}
 use Rattle.crs_text.specs.declared.lexing.Lexed.TheVariants as lexed
-use Rattle.crs_text.proofs.tokens.TokenLemmas.{a_single, shape_of, shape_at, shape_at_start, Forms-shape, Forms-shut, Forms-one, some_shape}
+use Rattle.crs_text.proofs.tokens.TokenLemmas.{a_single, shape_of, shape_at, shape_at_start, Forms-shape, Forms-shut, Forms-one, some_shape, shape_for, flaw_shape, flaw_no_token, flaw_one, forms_some, at_once, dark_start, dark_word}
 use Rattle.crs_text.proofs.tokens.QuotedLemmas.{doubled-append, true_not_false, same_tail, same_split, shut_one, shut_not_open}
 use Rattle.crs_text.proofs.tokens.Utf8Lemmas.{IsUtf8Front-shorter}
-use Rattle.crs_text.proofs.tokens.FlawLemmas.{shape_for, flaw_shape, flaw_no_token, flaw_one}
-use Rattle.crs_text.proofs.tokens.FrontsLemmas.{forms_some, at_once, dark_start, dark_word}
 use Rattle.crs_text.proofs.rows.ShowsLemmas.{shows_start, viable_from_shows, shows_more}
 use Rattle.crs_text.proofs.tokens.ScanLemmas.{reached_first, number_at, word_at, text_at, comma_at, opening_at, closing_at, after_white, IsSingleAt}
 use Rattle.crs_text.proofs.settled.StayLemmas.{refuses_from_settled, fronts_from_settled, stop_some, through_front, all_append, fronts_longer, taken_so_far}

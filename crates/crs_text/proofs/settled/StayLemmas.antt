@@ -11,12 +11,10 @@ use Rattle.crs_text.specs.declared.refusal.Reason.{Reason}
 use Rattle.crs_text.specs.declared.refusal.Reason.TheVariants.{BadCharacter, BadNumber, NumberRange, NotUtf8, OpenText, Unexpected, UnexpectedEnd, TooDeep}
 use Rattle.crs_text.specs.TextFault.{BeginsNoToken, IsFirstRun, IsFlaw, IsStop, RefusesText, IsSettled, FormsSettled, SettledFronts, IsRunSettled, IsSettledStop, IsSettledRefusal, IsTakenSoFar}
 use Rattle.crs_text.specs.inner.Feeding.{IsUnsettled}
-use Rattle.crs_text.proofs.tokens.TokenLemmas.{Forms-one}
-use Rattle.crs_text.proofs.tokens.FlawLemmas.{flaw_some}
+use Rattle.crs_text.proofs.tokens.TokenLemmas.{Forms-one, flaw_some, after_white_one, forms_some, at_once, fronts_dark, fronts_compare, front_none}
 use Rattle.crs_text.proofs.tokens.QuotedLemmas.{same_head, same_tail, shut_one, shut_not_open}
 use Rattle.crs_text.proofs.tokens.Utf8Lemmas.{IsUtf8Front-shorter, IsLongestUtf8-longer}
 use Rattle.crs_text.proofs.tokens.LeftLemmas.{shut_or_open}
-use Rattle.crs_text.proofs.tokens.FrontsLemmas.{after_white_one, forms_some, at_once, fronts_dark, fronts_compare, front_none}
 use Rattle.crs_text.proofs.tokens.ViableLemmas.{viable_front}
 use Rattle.crs_text.proofs.texts.OneAnswerLemmas.{refusal_one, no_further}
 

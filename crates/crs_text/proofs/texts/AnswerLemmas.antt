@@ -12,7 +12,7 @@ use Rattle.crs_text.specs.declared.refusal.Reason.TheVariants.{Unexpected, Unexp
 use Rattle.crs_text.specs.declared.table.Progress.{Progress}
 use Rattle.crs_text.specs.declared.table.Progress.TheVariants.{AfterWord}
 use Rattle.crs_text.specs.TextFault.{SpellsNode, reason_number, IsFlaw, IsStop, RefusesText}
-use Rattle.crs_text.proofs.tokens.FrontsLemmas.{fronts_more, forms_shorter}
+use Rattle.crs_text.proofs.tokens.TokenLemmas.{fronts_more, forms_shorter}
 use Rattle.crs_text.proofs.rows.ShowsLemmas.{shows_start, viable_from_shows, shows_more, not_viable_from_shows, refused_from_shows, deep_from_shows, whole_from_shows, not_whole_from_shows}
 use Rattle.crs_text.proofs.tokens.ScanLemmas.{stop_flaw, after_white, fronts_short}
 use Rattle.crs_text.proofs.tokens.LeftLemmas.{DecidesNumbers, token_or_flaw}

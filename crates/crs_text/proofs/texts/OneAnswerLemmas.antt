@@ -7,10 +7,8 @@ use Rattle.crs_text.specs.Viable.{IsViable}
 use Rattle.crs_text.specs.declared.refusal.Reason.{Reason}
 use Rattle.crs_text.specs.declared.refusal.Reason.TheVariants.{Unexpected, UnexpectedEnd, TooDeep}
 use Rattle.crs_text.specs.TextFault.{SpellsNode, reason_number, IsTooDeep, IsStop, RefusesText}
-use Rattle.crs_text.proofs.tokens.TokenLemmas.{Forms-one}
-use Rattle.crs_text.proofs.tokens.FlawLemmas.{flaw_no_token, flaw_one, flaw_some}
+use Rattle.crs_text.proofs.tokens.TokenLemmas.{Forms-one, flaw_no_token, flaw_one, flaw_some, fronts_dark, GoesOn, fronts_compare, front_token, front_none, forms_some}
 use Rattle.crs_text.proofs.tokens.ViableLemmas.{viable_front}
-use Rattle.crs_text.proofs.tokens.FrontsLemmas.{fronts_dark, GoesOn, fronts_compare, front_token, front_none, forms_some}
 
 pub tokens_one : (bytes : List ℕ) (ts us : List Token) → AreTokens bytes ts → AreTokens bytes us → ts ≡ us
 tokens_one bytes ts us p q = elim (fronts_compare (length bytes) ts us bytes [] [] p q) [ inl g ↦ same ts us g | inr g ↦ sym (same us ts g) ]

@@ -6,7 +6,7 @@ use Rattle.crs_text.specs.Items.{Item, leaf, node, Siblings, End, More, tokens, 
 use Rattle.crs_text.specs.TextFault.{SpellsNode}
 use Rattle.crs_text.specs.inner.Tree.{EachToken}
 use Rattle.crs_text.specs.Written.{item_text, others_text, AreFormed, AreAllFormed, at_place, at_places, WrittenSpells}
-use Rattle.crs_text.proofs.tokens.FrontsLemmas.{dark_start, dark_word, at_once}
+use Rattle.crs_text.proofs.tokens.TokenLemmas.{dark_start, dark_word, at_once}
 use Rattle.crs_text.proofs.tokens.ViableLemmas.{node_tokens}
 
 abbrev mutual

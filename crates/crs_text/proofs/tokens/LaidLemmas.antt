@@ -10,7 +10,7 @@ use Rattle.crs_text.specs.inner.Table.{rows, rows_of_items, row_of}
 use Rattle.crs_text.specs.Written.{item_text, others_text}
 use Rattle.crs_text.specs.declared.items.ItemKind.TheVariants.{Node}
 use Rattle.crs_text.specs.declared.table.Row.{Row}
-use Rattle.crs_text.proofs.tokens.FrontsLemmas.{at_once}
+use Rattle.crs_text.proofs.tokens.TokenLemmas.{at_once}
 use Rattle.crs_text.proofs.rows.IdLemmas.{lt_from_has, rows_here}
 use Rattle.crs_text.proofs.rows.StandLemmas.{cut_front, stands_at}
 use Rattle.crs_text.proofs.rows.TreeLemmas.{item_of}

@@ -22,7 +22,7 @@ use Rattle.crs_text.specs.declared.lexing.Lexed.TheVariants as lexed
 use Rattle.crs_text.specs.declared.table.Opened.TheVariants as opened
 use Rattle.crs_text.proofs.tokens.LexedLemmas.{prefix_taken, prefix_ends}
 use Rattle.crs_text.proofs.rows.FlatLemmas.{word_begun, delimiter_begun}
-use Rattle.crs_text.proofs.tokens.FrontsLemmas.{fronts_more, forms_shorter}
+use Rattle.crs_text.proofs.tokens.TokenLemmas.{fronts_more, forms_shorter}
 use Rattle.crs_text.proofs.rows.ShowsLemmas.{shows_start, viable_from_shows, shows_more, not_viable_from_shows, deep_from_shows, none_from_deep, whole_from_shows, not_whole_from_shows}
 
 -- a single token of this kind is here, with these raw bytes and as many bytes in all as `size` says

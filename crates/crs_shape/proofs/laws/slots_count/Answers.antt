@@ -1,4 +1,4 @@
-use Rattle.crs_shape.proofs.walks.CountLemmas.{allowed-least, allowed-most}
+use Rattle.crs_shape.proofs.walks.SlotLemmas.{allowed-least, allowed-most}
 use Rattle.crs_shape.proofs.laws.slots_count.Goals as goal
 
 pub returns-clause-least : goal.returns-clause-least

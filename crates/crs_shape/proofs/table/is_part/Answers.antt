@@ -1,6 +1,6 @@
 use Rattle.std.proofs.Common.{◌∙◌, ap}
 use Rattle.crs_shape.specs.inner.ClassSet.{bit_of, has_bit}
-use Rattle.crs_shape.proofs.naming.ClassSetLemmas.{has_bit-parts}
+use Rattle.crs_shape.proofs.naming.KeywordTableLemmas.{has_bit-parts}
 use Rattle.crs_shape.proofs.table.is_part.Goals as goal
 
 pub returns : goal.returns
