@@ -3,10 +3,8 @@ pub mod ComponentLemmas
 pub mod CrsLemmas
 pub mod DynamicLemmas
 pub mod LeastLemmas
-pub mod OrderLemmas
 pub mod OwnLemmas
 pub mod PlaceLemmas
 pub mod PlacedLemmas
 pub mod SignLemmas
-pub mod SystemLemmas
 pub mod UnitLemmas

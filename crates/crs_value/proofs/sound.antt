@@ -1,10 +1,7 @@
 pub mod AxisLemmas
 pub mod CompoundLemmas
-pub mod ConversionLemmas
 pub mod CrsLemmas
-pub mod DynamicLemmas
 pub mod FrameLemmas
 pub mod KnownWordLemmas
 pub mod PartLemmas
 pub mod SystemLemmas
-pub mod UsageLemmas

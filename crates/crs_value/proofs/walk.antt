@@ -1,8 +1,6 @@
-pub mod AxesLemmas
 pub mod JudgedLemmas
 pub mod LayoutLemmas
 pub mod LeftLemmas
 pub mod RestLemmas
 pub mod RootLemmas
-pub mod RunLemmas
 pub mod WholeNumberLemmas

@@ -8,9 +8,8 @@ use Rattle.crs_value.specs.Checks.{IsNotPlane, IsNotHorizontal, BadComponent, at
 use Rattle.crs_value.specs.Reading.{those}
 use Rattle.crs_value.specs.inner.Arguments.{item_at, IsFound}
 use Rattle.crs_value.specs.Reads.{HasDimension}
-use Rattle.crs_value.proofs.checked.CheckLemmas.{DenotesOne}
+use Rattle.crs_value.proofs.checked.CheckLemmas.{DenotesOne, dimension-is-one}
 use Rattle.crs_value.proofs.checked.LeastLemmas.{least-at}
-use Rattle.crs_value.proofs.checked.SystemLemmas.{dimension-is-one}
 
 abbrev IsTwo : Value → Type 0
 IsTwo v = SameNumber (exact v) (whole_number 2)

@@ -5,9 +5,7 @@ use Rattle.crs_text.specs.inner.Prelude.{Item, RefusedAt}
 use Rattle.crs_value.specs.Checks.{LacksOrder, ReadsOrder, HasThis, OneHas, IsBadOrder, BadOrders, BadOrder, AnyOf, IsLeast}
 use Rattle.crs_value.specs.inner.Arguments.{HasPlace, AreInOrder}
 use Rattle.crs_value.specs.Reading.{ReadsFirst}
-use Rattle.crs_value.proofs.checked.CheckLemmas.{DenotesOne}
-use Rattle.crs_value.proofs.checked.OrderLemmas.{order-one, wrong-none, order-all}
-use Rattle.crs_value.proofs.checked.SystemLemmas.{wholes-same}
+use Rattle.crs_value.proofs.checked.CheckLemmas.{DenotesOne, order-one, wrong-none, order-all, wholes-same}
 
 abbrev pub Symmetric : Type 0
 Symmetric = (a b : Number) → SameNumber a b → SameNumber b a

@@ -12,9 +12,8 @@ use Rattle.crs_value.specs.inner.Arguments.{from_found, AllShaped, lesser, item_
 use Rattle.crs_value.specs.Reading.{those, IsReading}
 use Rattle.crs_value.specs.Reads.{ReadsDirection, ReadsKind}
 use Rattle.crs_value.proofs.found.ArgumentLemmas.{SlotsBound, found-is, found-holds, found-shaped}
-use Rattle.crs_value.proofs.checked.CheckLemmas.{only-of}
+use Rattle.crs_value.proofs.checked.CheckLemmas.{only-of, first-one, type-is-one}
 use Rattle.crs_value.proofs.checked.LeastLemmas.{least-same, either-is}
-use Rattle.crs_value.proofs.checked.SystemLemmas.{first-one, type-is-one}
 use Rattle.crs_value.proofs.one.WordLemmas.{direction-one}
 
 -- the keyword that a unit was read with is that of its bytes

@@ -1,16 +1,19 @@
 -- Arguments: those of a class, one after another, are sound where their node is, and as many as its slots require.
-use Rattle.std.proofs.Common.{◌≡◌, ◌≢◌, ℕ, zero, suc, ◌+◌, ◌<◌, ◌≤◌, length, drop, take, Bool, true, false, IsTrue, inl, inr, Option, Some, None, List, [], ◌∷◌, ◌++◌, if◌then◌else◌, refl, sym, ◌∙◌, ap, subst, arith, rules}
+use Rattle.std.proofs.Common.{◌≡◌, ◌≢◌, ℕ, zero, suc, ◌+◌, ◌<◌, ◌≤◌, length, drop, take, Bool, true, false, IsTrue, inl, inr, Option, Some, None, List, [], ◌∷◌, ◌++◌, if◌then◌else◌, refl, sym, ◌∙◌, ap, subst, arith, rules, add-one, ◌||◌}
 use denote.Enum.Bare.{sameb, same_true}
-use Rattle.crs_text.specs.inner.Prelude.{Item, leaf, node, Siblings, End, More, arguments, first_of, rest_of, kind_of_item, HasId, IsAt, RefusedAt, Kind, number, AreFormed, AreAllFormed}
+use Rattle.crs_text.specs.inner.Prelude.{Item, leaf, node, Siblings, End, More, arguments, first_of, rest_of, kind_of_item, HasId, IsAt, RefusedAt, Kind, number, AreFormed, AreAllFormed, here}
 use Rattle.crs_shape.specs.contracts.class.Class.{the_type}
-use Rattle.crs_text.specs.declared.items.ItemKind.TheVariants as kinds
 use Rattle.crs_shape.specs.declared.class.Class.{Class}
-use Rattle.crs_shape.specs.declared.class.Class.TheVariants as class
 use Rattle.crs_shape.specs.inner.Prelude.{is_keyword, one_if, how_many, is_bounded, least, most, Allowed, Shaped, AreShaped, class_in, class_of_kind, SlotParts, slots_of, is_class}
-use Rattle.crs_value.specs.inner.Arguments.{from_found, AllShaped, item_at, ahead, Holds, IsFound}
+use Rattle.crs_value.specs.inner.Arguments.{from_found, AllShaped, item_at, ahead, Holds, IsFound, RequiresOneOf}
 use Rattle.crs_value.specs.Checks.{AtClass, Breaks, BreaksAmong}
 use Rattle.crs_value.specs.inner.ReadOnce.{IsSound}
-use Rattle.crs_value.specs.Reading.{Each, is_same, is_a, those}
+use Rattle.crs_value.specs.Reading.{Each, is_same, is_a, those, ReadsFirst, ReadsOptional, ReadsEach}
+use Rattle.std.proofs.lemmas.List.{append-nil}
+use Rattle.std.specs.Option.{IsSome}
+use Rattle.std.specs.List.{list_any}
+use Rattle.crs_text.specs.declared.items.ItemKind.TheVariants as kinds
+use Rattle.crs_shape.specs.declared.class.Class.TheVariants as class
 
 pub ahead_at : (tree : Item) (items : Siblings) (at : Option ℕ) → IsAt tree items at → ahead tree at ≡ items
 ahead_at tree items None e = sym e
@@ -203,3 +206,125 @@ found-shaped tree parent c item at shaped found = all-shaped c _ _ (found-is tre
 pub first-shaped : (tree : Item) (parent c : Class) (item : Item) (id : ℕ) → Shaped parent item → IsFound tree parent c (those parent c (arguments item)) (Some id) →
     Shaped c (item_at tree id)
 first-shaped tree parent c item id shaped found = (found-shaped tree parent c item (Some id) shaped found).0
+
+-- ---- loops over the arguments of one class: what has been read so far
+
+-- the list holds the values of those before; with the values of the rest it is that of all
+pub record Going {V : Type 0} (R : Item → V → Type 0) (tree : Item) (parent c : Class) (whole : List Item) (list : List V) (at : Option ℕ) : Type 0 where
+  pub holds : Holds tree at
+  pub sound : AllSound c (from_found tree parent c at)
+  pub reads : (values : List V) → ReadsEach R (from_found tree parent c at) values → ReadsEach R whole (list ++ values)
+
+pub going-first : {V : Type 0} (R : Item → V → Type 0) (tree : Item) (parent c : Class) (item : Item) (list : List V) (at : Option ℕ) → IsSound parent item → list ≡ [] →
+    IsFound tree parent c (those parent c (arguments item)) at → Going R tree parent c (those parent c (arguments item)) list at
+going-first {V = V} R tree parent c item list at sound empty found =
+    let e = found-is tree parent c (those parent c (arguments item)) at found in
+    record {
+      holds = found-holds tree parent c (those parent c (arguments item)) at found;
+      sound = subst (AllSound c) e (arguments-sound parent c item sound);
+      reads = λ values h.
+          let P : List Item → Type 0 = λ xs. ReadsEach R xs values in
+          let Q : List V → Type 0 = λ vs. ReadsEach R (those parent c (arguments item)) (vs ++ values) in
+          subst Q (sym empty) (subst P (sym e) h);
+    }
+
+pub going-end : {V : Type 0} (R : Item → V → Type 0) (tree : Item) (parent c : Class) (whole : List Item) (list : List V) →
+    Going R tree parent c whole list None → ReadsEach R whole list
+going-end {V = V} R tree parent c whole list going =
+    let Q : List V → Type 0 = λ vs. ReadsEach R whole vs in subst Q (append-nil list) (going.reads [] tt)
+
+-- ---- the value in an option
+
+pub some-there : {V : Type 0} (o : Option V) → (o ≡ None → ⊥) → IsSome o
+some-there None none = absurd (none refl)
+some-there (Some value) none = refl
+
+pub reads-first : {V : Type 0} (R : Item → V → Type 0) (item : Item) (items more : List Item) (value : V) → items ≡ item ∷ more → R item value → ReadsFirst R items value
+reads-first {V = V} R item items more value e h = let P : List Item → Type 0 = λ xs. ReadsFirst R xs value in subst P (sym e) h
+
+pub read-some : {V : Type 0} (R : Item → V → Type 0) (items : List Item) (o : Option V) (value : V) → ReadsOptional R items o → o ≡ Some value → ReadsFirst R items value
+read-some R items None value reads e = cc
+read-some R [] (Some other) value reads e = absurd reads
+read-some {V = V} R (item ∷ items) (Some other) value reads e =
+    let h : other ≡ value = cc in
+    let P : V → Type 0 = λ v. R item v in subst P h reads
+
+-- ---- number k of a list
+
+pub drop-more : (xs : List Item) (k : ℕ) (x : Item) (ys : List Item) → drop k xs ≡ x ∷ ys → drop (suc k) xs ≡ ys
+drop-more [] zero x ys e = cc
+drop-more [] (suc k) x ys e = cc
+drop-more (i ∷ xs) zero x ys e = cc
+drop-more (i ∷ xs) (suc k) x ys e = drop-more xs k x ys e
+
+pub drop-short : (xs : List Item) (k : ℕ) → drop k xs ≡ [] → length xs ≤ k
+drop-short [] k e = omega arith
+drop-short (i ∷ xs) zero e = cc
+drop-short (i ∷ xs) (suc k) e = omega (arith, drop-short xs k e)
+
+pub number-shaped : (tree : Item) (parent c : Class) (item : Item) (k id : ℕ) → Shaped parent item → IsFound tree parent c (drop k (those parent c (arguments item))) (Some id) →
+    Shaped c (item_at tree id)
+number-shaped tree parent c item k id shaped found =
+    (all-shaped c _ _ found.0 (each-drop (Shaped c) k (those parent c (arguments item)) (arguments-shaped parent c item shaped))).0
+
+pub number-there : SlotsCount → (tree : Item) (parent c : Class) (item : Item) (k n : ℕ) → Shaped parent item → n < least (is_same c) (slots_of parent) → k ≤ n →
+    drop k (those parent c (arguments item)) ≡ [] → ⊥
+number-there law tree parent c item k n shaped enough less none =
+    let many = arguments-many law parent c item shaped (omega arith) in
+    let short = drop-short (those parent c (arguments item)) k none in
+    omega (arith, many, short)
+
+pub number-next : (tree : Item) (parent c : Class) (xs : List Item) (k id : ℕ) (at : Option ℕ) → IsFound tree parent c (drop k xs) (Some id) →
+    IsFound tree parent c (those parent c (rest_of (here tree id))) at → IsFound tree parent c (drop (k + 1) xs) at
+number-next tree parent c xs k id at found next =
+    let P : List Item → Type 0 = λ ys. IsFound tree parent c ys at in
+    rw add-one (subst P (sym (drop-more xs k (item_at tree id) (those parent c (rest_of (here tree id))) found.0)) next)
+
+pub none-empty : {V : Type 0} (R : Item → V → Type 0) (items : List Item) → ReadsOptional R items None → items ≡ []
+none-empty R [] h = refl
+none-empty R (item ∷ items) h = absurd h
+
+-- ---- a node whose slots require an argument of one of some classes has one
+
+-- the node has no argument of these classes
+abbrev pub HasNone : Class → List Class → Item → Type 0
+HasNone c [] item = Unit {0}
+HasNone c (d ∷ ds) item = (those c d (arguments item) ≡ []) × HasNone c ds item
+
+abbrev is_one_of : List Class → Class → Bool
+is_one_of ds d = list_any (λ e. is_same e d) ds
+
+either : (a b : Bool) → one_if (a || b) ≤ one_if a + one_if b
+either true b = omega arith
+either false b = omega arith
+
+no-classes : (xs : List Class) → how_many (is_one_of []) xs ≡ 0
+no-classes [] = refl
+no-classes (x ∷ xs) = omega (arith, no-classes xs)
+
+one-more : (d : Class) (ds xs : List Class) → how_many (is_one_of (d ∷ ds)) xs ≤ how_many (is_same d) xs + how_many (is_one_of ds) xs
+one-more d ds [] = omega arith
+one-more d ds (x ∷ xs) = omega (arith, one-more d ds xs, either (is_same d x) (is_one_of ds x))
+
+kind-none : (kind : Kind) (ds : List Class) → RequiresOneOf (class_of_kind kind) ds → ⊥
+kind-none number ds some = omega arith
+kind-none other ds some = omega arith
+
+none-many : (c : Class) (xs : List Class) (item : Item) → ((d : Class) → length (those c d (arguments item)) ≡ how_many (is_same d) xs) → (ds : List Class) → HasNone c ds item →
+    how_many (is_one_of ds) xs ≡ 0
+none-many c xs item many [] none = no-classes xs
+none-many c xs item many (d ∷ ds) none =
+    let a : length (those c d (arguments item)) ≡ 0 = ap length none.0 in
+    omega (arith, a, many d, none-many c xs item many ds none.1, one-more d ds xs)
+
+pub one-there : SlotsCount → (c : Class) (ds : List Class) (item : Item) → Shaped c item → RequiresOneOf c ds → HasNone c ds item → ⊥
+one-there law c ds (leaf kind place raw) shaped some none =
+    let P : Class → Type 0 = λ x. RequiresOneOf x ds in
+    kind-none kind ds (subst P (sym (same_class (class_of_kind kind) c shaped)) some)
+one-there law c ds (node place keyword square first others close) shaped some none =
+    let shape = shaped.1 in
+    let enough = law (is_one_of ds) (slots_of c) (shape.0 ∷ shape.1.0) shape.1.1.1.1.1 in
+    let many : (d : Class) → length (those c d (More first others)) ≡ how_many (is_same d) (shape.0 ∷ shape.1.0) =
+    λ d. those-many c d (shape.0 ∷ shape.1.0) (More first others) (shape.1.1.0, (shape.1.1.1.0, shape.1.1.1.1.0)) in
+    let empty = none-many c (shape.0 ∷ shape.1.0) (node place keyword square first others close) many ds none in
+    omega (arith, enough, empty, some)

@@ -10,7 +10,7 @@ use Rattle.crs_value.specs.Reading.{those, ReadsFirst}
 use Rattle.crs_value.specs.Reads.{HasType, ReadsHead}
 use Rattle.crs_value.specs.ReadsCrs.{IsGeodeticClass, ReadsCrs, kind_by, kind_of}
 use Rattle.crs_value.specs.Values.{SystemParts}
-use Rattle.crs_value.proofs.checked.SystemLemmas.{type-is-one}
+use Rattle.crs_value.proofs.checked.CheckLemmas.{type-is-one}
 
 -- the type that the first node `CS` has is that of the system
 type-of-system : (heads : List Item) (found : SystemType) (system : SystemParts) → ReadsFirst HasType heads found → ReadsFirst ReadsHead heads system → found ≡ system.system_type

@@ -9,8 +9,7 @@ use Rattle.crs_value.specs.declared.values.frame.Frame.TheVariants as frames
 use Rattle.crs_value.specs.Reading.{those, ReadsElse, ReadsOne, ReadsOneElse, ReadsNamed}
 use Rattle.crs_value.specs.Reads.{ReadsNumberOf, ReadsUnit, ReadsMeridian, ReadsAsUnit, ReadsUnitOf, parameter_units, ReadsParameter, ReadsConversion, ReadsDynamic}
 use Rattle.crs_value.specs.ReadsCrs.{IsGeodeticClass, ReadsAsDatum, ReadsAsEnsemble, ReadsFrame, ReadsGeodetic, ReadsBase, ReadsProjected, ReadsVertical, ReadsAsHorizontal, ReadsHorizontal, ReadsCompound, ReadsCrs}
-use Rattle.crs_value.proofs.checked.CheckLemmas.{DenotesOne}
-use Rattle.crs_value.proofs.checked.SystemLemmas.{first-one}
+use Rattle.crs_value.proofs.checked.CheckLemmas.{DenotesOne, first-one}
 use Rattle.crs_value.proofs.one.ValueLemmas.{IsOne, one-optional, one-each, text-of-one, number-of-one, identifiers-one, named-one, unit-one, meridian-one, datum-one, ensemble-one, tail-one, system-one}
 
 one-else : {V : Type 0} (R : Item → V → Type 0) (Other : V → Type 0) → IsOne R → ((a b : V) → Other a → Other b → a ≡ b) → (items : List Item) (a b : V) →

@@ -7,8 +7,7 @@ use Rattle.crs_value.specs.Checks.{IsLeast}
 use Rattle.crs_value.specs.Reading.{those, ReadsFirst, ReadsOptional, ReadsEach, ReadsText, ReadsTextOf, single_of, ReadsIdent, ReadsIds, ReadsNamed}
 use Rattle.crs_value.specs.Reads.{ReadsNumber, ReadsType, ReadsDirection, ReadsNumberOf, ReadsNumberAt, ReadsUnit, ReadsAxisMeridian, ReadsAxis, ReadsHead, ReadsSystem, ReadsEllipsoid, ReadsMeridian, ReadsDatum, ReadsEnsemble, ReadsBox, ReadsExtent, ReadsUsage, LacksUsage, ReadsBare, ReadsTail}
 use Rattle.crs_value.specs.Values.{SystemParts, UsageParts, SaysSome}
-use Rattle.crs_value.proofs.checked.SystemLemmas.{first-one}
-use Rattle.crs_value.proofs.checked.CheckLemmas.{DenotesOne, number-one}
+use Rattle.crs_value.proofs.checked.CheckLemmas.{first-one, DenotesOne, number-one}
 use Rattle.crs_value.proofs.checked.LeastLemmas.{first-both}
 use Rattle.crs_value.proofs.one.WordLemmas.{direction-one, type-one, kind-one}
 

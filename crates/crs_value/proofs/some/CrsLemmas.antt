@@ -13,8 +13,7 @@ use Rattle.crs_value.specs.inner.Arguments.{IsAmong, Requires, RequiresOneOf}
 use Rattle.crs_value.specs.Reading.{Each, those, ReadsFirst, ReadsElse, ReadsNamed}
 use Rattle.crs_value.specs.Reads.{ReadsNumberOf, ReadsUnit, ReadsMeridian, ReadsAsUnit, ReadsUnitOf, parameter_units, ReadsParameter, ReadsConversion, ReadsDynamic}
 use Rattle.crs_value.specs.ReadsCrs.{IsGeodeticClass, ReadsAsDatum, ReadsAsEnsemble, ReadsFrame, ReadsGeodetic, ReadsBase, ReadsProjected, ReadsVertical, ReadsAsHorizontal, ReadsHorizontal, ReadsCompound, ReadsCrs}
-use Rattle.crs_value.proofs.found.ArgumentLemmas.{SlotsCount, arguments-sound}
-use Rattle.crs_value.proofs.found.FrameLemmas.{one-there}
+use Rattle.crs_value.proofs.found.ArgumentLemmas.{SlotsCount, arguments-sound, one-there}
 use Rattle.crs_value.proofs.some.FormedLemmas.{Numbers}
 use Rattle.crs_value.proofs.some.ValueLemmas.{Exists, first-of, else-of, text-some, number-of-some, identifiers-some, named-some, unit-some, first-some, optional-some, each-some, system-some, meridian-some, datum-some, ensemble-some, tail-some}
 

@@ -13,15 +13,13 @@ use Rattle.crs_value.specs.Checks.{IsAboveZero, NotAbove, IsNegative, AxisCount,
 use Rattle.crs_value.specs.inner.Arguments.{lesser}
 use Rattle.crs_value.specs.Reading.{Each, those, ReadsFirst}
 use Rattle.crs_value.specs.Reads.{HasType, HasDimension, ReadsNumber, ReadsType, ReadsDirection}
-use Rattle.crs_value.proofs.checked.CheckLemmas.{DenotesOne, number-one}
+use Rattle.crs_value.proofs.checked.CheckLemmas.{DenotesOne, number-one, order-one, first-one, type-is-one, dimension-is-one}
 use Rattle.crs_value.proofs.some.DecisionLemmas.{Decided, Known, decided-as, decided-both, decided-either, decided-not, decided-some, decided-this, decided-word, type-known, direction-known, decided-kind, decided-kinds, decided-none, whether-ellipsoidal, decided-bool, decided-same, decided-value, decided-one, decided-one-of, decided-each, decided-position, decided-above}
 use Rattle.crs_value.specs.Spells.{IsFrom}
 use Rattle.crs_value.proofs.checked.LeastLemmas.{least-same, least-either, least-one, least-is}
 use Rattle.crs_value.proofs.checked.PlaceLemmas.{Within, AreWithin, Fine, fine-as, place-within, arguments-within}
 use Rattle.crs_value.proofs.some.FormedLemmas.{Numbers, Ready, AllReady, those-ready, those-within, number-some, first-known}
-use Rattle.crs_value.proofs.checked.OrderLemmas.{order-one}
 use Rattle.crs_value.proofs.found.ArgumentLemmas.{each-drop, each-first, each-on}
-use Rattle.crs_value.proofs.checked.SystemLemmas.{first-one, type-is-one, dimension-is-one}
 use Rattle.crs_value.proofs.checked.UnitLemmas.{asks-one}
 
 -- one fault is the first, or there is none; and each has the number of a check and a place within a text of this length

@@ -12,12 +12,11 @@ use Rattle.crs_value.specs.inner.Arguments.{Requires}
 use Rattle.crs_value.specs.Reads.{ReadsNumber, ReadsType, ReadsDirection, ReadsKind, ReadsNumberOf, ReadsNumberAt, ReadsUnit, ReadsAxisMeridian, ReadsAxis, ReadsHead, ReadsSystem, ReadsEllipsoid, ReadsMeridian, ReadsDatum, ReadsEnsemble, ReadsBox, ReadsExtent, ReadsUsage, ReadsBare, ReadsTail}
 use Rattle.crs_value.specs.NamedValues.{IdentParts}
 use Rattle.crs_value.specs.Values.{AxisParts, UnitParts, SystemParts, BoxParts, ExtentParts}
-use Rattle.crs_value.proofs.found.ArgumentLemmas.{AllSound, SlotsCount, arguments-sound, each-drop, not-none}
+use Rattle.crs_value.proofs.found.ArgumentLemmas.{AllSound, SlotsCount, arguments-sound, each-drop, not-none, number-there}
 use Rattle.crs_value.proofs.some.DecisionLemmas.{Known, decided-word, decided-kinds, type-known, direction-known}
 use Rattle.crs_value.proofs.found.IdentLemmas.{code-there}
 use Rattle.crs_value.proofs.sound.KnownWordLemmas.{known-direction, known-type, known-kind}
-use Rattle.crs_value.proofs.found.NodeLemmas.{number-there}
-use Rattle.crs_value.proofs.sound.UsageLemmas.{bare-none}
+use Rattle.crs_value.proofs.sound.CrsLemmas.{bare-none}
 use Rattle.crs_value.proofs.some.FormedLemmas.{Numbers, number-some}
 
 -- some value reads so

@@ -20,10 +20,9 @@ use Rattle.crs_value.specs.Spells.{SpellsCrs}
 use Rattle.crs_value.specs.Values.{SystemParts}
 use Rattle.crs_value.proofs.found.ArgumentLemmas.{SlotsBound, SlotsCount, arguments-sound}
 use Rattle.crs_value.proofs.some.DecisionLemmas.{stable, decided-same, whether-ellipsoidal}
-use Rattle.crs_value.proofs.sound.CrsLemmas.{geodetic-tells, projected-tells, vertical-tells}
+use Rattle.crs_value.proofs.sound.CrsLemmas.{geodetic-tells, projected-tells, vertical-tells, tail-tells}
 use Rattle.crs_value.proofs.sound.KnownWordLemmas.{own-free}
 use Rattle.crs_value.proofs.sound.PartLemmas.{Tells, tells-as, each-free, first-of, else-of, first-tells, text-of-tells}
-use Rattle.crs_value.proofs.sound.UsageLemmas.{tail-tells}
 use Rattle.crs_value.proofs.one.RootLemmas.{NoFaultIsShape, root-shaped}
 
 -- ---- the horizontal part's system

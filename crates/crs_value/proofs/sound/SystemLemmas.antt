@@ -16,9 +16,8 @@ use Rattle.crs_value.specs.Reads.{HasType, ReadsKind, ReadsNumberOf, ReadsUnit, 
 use Rattle.crs_value.specs.Sound.{Each, IsIdent, Suits, IsAxisUnit, IsAxis, AreOrders, AreDistinct, HasOrders, SuitsAxis, SuitsAll, HasUnits, IsSystem}
 use Rattle.crs_value.specs.Values.{UnitParts, AxisParts, SystemParts}
 use Rattle.crs_value.proofs.checked.OwnLemmas.{own-of-crs}
-use Rattle.crs_value.proofs.found.NodeLemmas.{read-some}
+use Rattle.crs_value.proofs.found.ArgumentLemmas.{read-some, SlotsCount, not-none}
 use Rattle.crs_value.proofs.sound.FrameLemmas.{none-read}
-use Rattle.crs_value.proofs.found.ArgumentLemmas.{SlotsCount, not-none}
 use Rattle.crs_value.proofs.some.DecisionLemmas.{stable, decided-both, decided-each, decided-kind, decided-kinds, decided-none, decided-one-of, decided-position, decided-same, decided-suits}
 use Rattle.crs_value.proofs.sound.AxisLemmas.{axis-tells}
 use Rattle.crs_value.proofs.sound.KnownWordLemmas.{own-free}

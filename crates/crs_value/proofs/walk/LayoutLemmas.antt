@@ -1,29 +1,72 @@
--- A CRS whose parts were found by the walk for its shape: what is seen of its coordinate system.
-use Rattle.std.proofs.Common.{◌≡◌, ℕ, Bool, true, false, not, length, Option, Some, None, List, [], ◌∷◌, ◌++◌, refl, sym, ◌∙◌, ap, subst, append_assoc}
+-- Axes one after another, with what is seen of them.
+use Rattle.std.proofs.Common.{◌≡◌, ℕ, ◌+◌, length, true, false, Option, Some, None, List, [], ◌∷◌, ◌++◌, refl, sym, ◌∙◌, ap, subst, length-append, arith, Bool, not, append_assoc, ◌≤◌, IsTrue}
+use Rattle.crs_text.specs.inner.Prelude.{Item, Siblings, End, More, arguments, rest_of, here, HasId, IsAt, RefusedAt}
+use Rattle.crs_shape.specs.declared.system_type.SystemType.{SystemType}
+use Rattle.crs_value.specs.declared.judging.quick_checks.AxesFacts.{AxesFacts}
+use Rattle.crs_value.specs.declared.judging.quick_checks.AxisFacts.{AxisFacts}
+use Rattle.crs_value.specs.Checks.{orders_in, units_in, Asks, BadOwnUnit, IsLeast, once, BreaksAmong, OfHead, RepeatsAny}
+use Rattle.crs_value.specs.inner.Arguments.{AreInOrder, HasPlace, AllShaped, item_at, ahead, Holds, IsFound}
+use Rattle.crs_value.specs.Reading.{Each, is_a, those, is_same}
+use Rattle.crs_value.specs.inner.QuickChecks.{the_one, HasFacts, IsNoted, HaveFacts, are_free, is_head, is_tail, AreOrdered, IsLaid, PassesButDynamic, UnitsFit, IsBehindName, IsShaped}
+use Rattle.crs_value.proofs.found.ArgumentLemmas.{each-on, ahead_at, all-shaped, arguments-shaped, each-both, holds_at, those-first, SlotsBound, arguments-few, nothing, first-shaped, class-is, those-later}
 use Rattle.std.specs.List.{list_any}
 use Rattle.std.proofs.lemmas.Bool.{and_parts, not-true, or_parts}
 use Rattle.std.proofs.lemmas.List.{append-nil}
 use Rattle.std.proofs.Math.Bool.{or-false}
-use Rattle.crs_text.specs.inner.Prelude.{Item, Siblings, End, More, arguments, rest_of, here, HasId, IsAt, RefusedAt}
 use Rattle.crs_shape.specs.declared.class.Class.{Class}
-use Rattle.crs_shape.specs.declared.class.Class.TheVariants as class
-use Rattle.crs_shape.specs.declared.system_type.SystemType.{SystemType}
-use Rattle.crs_shape.specs.inner.Prelude.{dimensions_of, first_in_arguments, Shaped, SlotParts, takes, one, some, optional}
+use Rattle.crs_shape.specs.inner.Prelude.{dimensions_of, first_in_arguments, Shaped, SlotParts, takes, one, some, optional, is_bounded, most, class_in, slots_of, is_class}
 use Rattle.crs_value.specs.declared.judging.quick_checks.Layout.{Layout}
-use Rattle.crs_value.specs.declared.judging.quick_checks.AxesFacts.{AxesFacts}
-use Rattle.crs_value.specs.declared.judging.quick_checks.AxisFacts.{AxisFacts}
-use Rattle.crs_value.specs.Checks.{IsLeast, once, BreaksAmong, OfHead, RepeatsAny}
-use Rattle.crs_value.specs.inner.Arguments.{AllShaped, item_at, ahead, Holds}
 use Rattle.crs_value.specs.inner.Judged.{AllLeave, Gives, Leaves, Walked}
-use Rattle.crs_value.specs.Reading.{Each, is_a, those}
-use Rattle.crs_value.specs.Reads.{HasType}
-use Rattle.crs_value.specs.inner.QuickChecks.{are_free, is_head, is_tail, the_one, AreOrdered, HasFacts, IsLaid, IsNoted, PassesButDynamic, HaveFacts, UnitsFit}
-use Rattle.crs_value.proofs.found.ArgumentLemmas.{ahead_at, all-shaped, arguments-shaped, each-both, holds_at, those-first}
+use Rattle.crs_value.specs.Reads.{HasType, ReadsDirection}
 use Rattle.crs_value.proofs.checked.CheckLemmas.{DenotesOne}
 use Rattle.crs_value.proofs.walk.JudgedLemmas.{end-first, gives-true}
 use Rattle.crs_value.proofs.checked.PlacedLemmas.{Symmetric, Transitive}
 use Rattle.crs_value.proofs.walk.RestLemmas.{ordered-none, repeats-back, systems-none, units-none}
-use Rattle.crs_value.proofs.walk.RunLemmas.{seen-on}
+use Rattle.crs_shape.specs.declared.unit_kind.UnitKind.TheVariants as kinds
+use Rattle.crs_shape.specs.declared.class.Class.TheVariants as class
+
+-- ---- orders
+
+in-order-on : (n : ℕ) (xs : List Item) (x : Item) → AreInOrder n xs → HasPlace (n + length xs) x → AreInOrder n (xs ++ x ∷ [])
+in-order-on n [] x h p = let e : n + 0 ≡ n = omega arith in (subst (λ k. HasPlace k x) e p, tt)
+in-order-on n (y ∷ ys) x h p =
+    let e : n + length (y ∷ ys) ≡ n + 1 + length ys = omega arith in (h.0, in-order-on (n + 1) ys x h.1 (subst (λ k. HasPlace k x) e p))
+
+-- ---- what is seen
+
+pub seen-on : (tree : Item) (of : SystemType) (seen : AxisFacts) (old new : AxesFacts) (before : List Item) (x : Item) → IsNoted tree of seen old new → HasFacts tree x seen → HaveFacts of old before →
+    HaveFacts of new (before ++ x ∷ [])
+seen-on tree of seen old new before x noted has s = record {
+  count = counted;
+  placed = λ e. in-order-on 1 before x (s.placed (noted.placed e).0) (subst (λ k. HasPlace k x) next ((noted.placed e).1 x has.orders));
+  none = λ e. each-on (λ a. orders_in a ≡ []) before x (s.none (noted.none e).0) (has.orders ∙ ap (the_one tree) (noted.none e).1);
+  fit = λ e cs t. each-on (λ a. IsLeast (BadOwnUnit cs a) None) before x (s.fit (noted.fit e).0 cs t)
+      ((noted.fit e).1 cs x (of, (seen.direction, (t, has.direction, refl))) has.units);
+  free = λ e. each-on (λ a. units_in a ≡ []) before x (s.free (noted.free e).0) (has.units ∙ ap (the_one tree) (noted.free e).1);
+  long = λ e cs t. each-on (λ a. Asks cs a kinds.Length) before x (s.long (noted.long e).0 cs t)
+      (of, (seen.direction, (t, has.direction, sym (noted.long e).1)));
+  turned = λ e cs t. each-on (λ a. Asks cs a kinds.Angle) before x (s.turned (noted.turned e).0 cs t)
+      (of, (seen.direction, (t, has.direction, sym (noted.turned e).1)));
+}
+  where
+    counted : new.count ≡ length (before ++ x ∷ [])
+    counted = let e = length-append before (x ∷ []) in let k = noted.counted in let n = s.count in omega (arith, e, k, n)
+
+    next : new.count ≡ 1 + length before
+    next = let k = noted.counted in let n = s.count in omega (arith, k, n)
+
+pub nothing-seen : (of : SystemType) → HaveFacts of (record {
+  count = 0;
+  orders_are_places = true;
+  no_orders = true;
+  own_units_fit = true;
+  no_own_units = true;
+  all_lengths = true;
+  all_angles = true;
+}) []
+nothing-seen of = record { count = refl; placed = λ e. tt; none = λ e. tt; fit = λ e cs t. tt; free = λ e. tt; long = λ e cs t. tt; turned = λ e cs t. tt }
+
+-- ---- a CRS whose parts were found by the walk for its shape: what is seen of its coordinate system
 
 -- ---- where the parts of a CRS begin
 
@@ -164,3 +207,52 @@ laid-passes law symmetric transitive tree c items layout cs of axes shared laid 
   where
     seen : HaveFacts of axes (those c class.Axis items)
     seen = subst (HaveFacts of axes) (sym laid.axes) noted
+
+-- ---- what is seen of an axis: its direction, its order and its unit
+
+-- the only argument of a class, which was looked for
+only-found : SlotsBound → (tree : Item) (parent c : Class) (item : Item) (at : Option ℕ) → IsTrue (is_bounded (is_same c) (slots_of parent)) →
+    most (is_same c) (slots_of parent) ≤ 1 → Shaped parent item → IsFound tree parent c (those parent c (arguments item)) at → those parent c (arguments item) ≡ the_one tree at
+only-found law tree parent c item None bounded once shaped found = found
+only-found law tree parent c item (Some id) bounded once shaped found =
+    let few = arguments-few law parent c item bounded shaped in
+    let none = nothing (those parent c (rest_of (here tree id))) (omega (arith, few, once, ap length found.0)) in
+    found.0 ∙ ap (λ xs. item_at tree id ∷ xs) none
+
+is-shaped : (tree : Item) (parent c : Class) (item : Item) (at : Option ℕ) → Shaped parent item → IsFound tree parent c (those parent c (arguments item)) at → IsShaped tree c at
+is-shaped tree parent c item None shaped found = tt
+is-shaped tree parent c item (Some id) shaped found = (found.1, first-shaped tree parent c item id shaped found)
+
+pub axis-has : SlotsBound → (tree axis : Item) (word : ℕ) (seen : AxisFacts) → Shaped class.Axis axis → IsBehindName tree axis word →
+    ReadsDirection (item_at tree word) seen.direction → IsFound tree class.Axis class.Order (those class.Axis class.Order (rest_of (here tree word))) seen.order →
+    IsFound tree class.Axis class.AxisUnit (those class.Axis class.AxisUnit (rest_of (here tree word))) seen.unit → HasFacts tree axis seen
+axis-has law tree axis word seen shaped behind reads order unit =
+    let order-is : IsFound tree class.Axis class.Order (orders_in axis) seen.order = rw behind.orders order in
+    let unit-is : IsFound tree class.Axis class.AxisUnit (units_in axis) seen.unit = rw behind.units unit in
+    record {
+      direction = rw behind.words reads;
+      orders = only-found law tree class.Axis class.Order axis seen.order refl (omega arith) shaped order-is;
+      order = is-shaped tree class.Axis class.Order axis seen.order shaped order-is;
+      units = only-found law tree class.Axis class.AxisUnit axis seen.unit refl (omega arith) shaped unit-is;
+      unit = is-shaped tree class.Axis class.AxisUnit axis seen.unit shaped unit-is;
+    }
+
+-- ---- the word behind the name
+
+-- what is of one class isn't of another
+other-class : (c d : Class) (item : Item) → is_a class.Axis c item ≡ true → is_class d (Some c) ≡ false → is_a class.Axis d item ≡ false
+other-class c d item is other = ap (is_class d) (class-is c (class_in class.Axis item) is) ∙ other
+
+pub behind-name : (tree axis : Item) (name word : ℕ) → IsAt tree (arguments axis) (Some name) → is_a class.Axis class.Text (item_at tree name) ≡ true →
+    IsAt tree (rest_of (here tree name)) (Some word) → is_a class.Axis class.Word (item_at tree word) ≡ true → IsBehindName tree axis word
+behind-name tree axis name word at text next is = record {
+  has = next.1;
+  words = past class.Word refl ∙ those-first class.Axis class.Word (here tree word) next.1 is;
+  orders = past class.Order refl ∙ those-later class.Axis class.Order (here tree word) next.1 (other-class class.Word class.Order (item_at tree word) is refl);
+  units = past class.AxisUnit refl ∙ those-later class.Axis class.AxisUnit (here tree word) next.1 (other-class class.Word class.AxisUnit (item_at tree word) is refl);
+}
+  where
+    past : (d : Class) → is_class d (Some class.Text) ≡ false → those class.Axis d (arguments axis) ≡ those class.Axis d (here tree word)
+    past d other =
+        ap (those class.Axis d) (sym at.0) ∙ those-later class.Axis d (here tree name) at.1 (other-class class.Text d (item_at tree name) text other)
+        ∙ ap (those class.Axis d) (sym next.0)

@@ -20,10 +20,9 @@ use Rattle.crs_value.specs.inner.WholeNumbers.{IsWholeOf}
 use Rattle.crs_value.proofs.checked.OwnLemmas.{crs-of-own, own-of-crs}
 use Rattle.crs_value.proofs.found.FirstArgumentsLemmas.{one-more}
 use Rattle.crs_value.proofs.found.ArgumentLemmas.{class-is, each-as}
-use Rattle.crs_value.proofs.checked.CheckLemmas.{DenotesOne}
+use Rattle.crs_value.proofs.checked.CheckLemmas.{DenotesOne, system-none, count-none}
 use Rattle.crs_value.proofs.checked.LeastLemmas.{either-is, least-beside}
 use Rattle.crs_value.proofs.checked.PlacedLemmas.{Symmetric, Transitive, placed-none}
-use Rattle.crs_value.proofs.checked.SystemLemmas.{system-none, count-none}
 
 -- ---- the node `CS`
 

@@ -2,8 +2,7 @@ use Rattle.std.proofs.Common.{None, refl}
 use Rattle.crs_shape.specs.declared.class.Class.TheVariants as class
 use Rattle.crs_value.specs.Checks.{LacksOrder}
 use Rattle.crs_value.proofs.found.ArgumentLemmas.{found-is, found-holds, found-shaped}
-use Rattle.crs_value.proofs.checked.CheckLemmas.{found-any}
-use Rattle.crs_value.proofs.checked.OrderLemmas.{order-all, order-none, order-some}
+use Rattle.crs_value.proofs.checked.CheckLemmas.{found-any, order-all, order-none, order-some}
 use Rattle.crs_value.proofs.checks.axes.bad_order.Goals as goal
 
 pub any_from-requires-clause-shaped : goal.any_from-requires-clause-shaped

@@ -2,8 +2,7 @@ use Rattle.std.proofs.Common.{arith}
 use Rattle.crs_text.specs.inner.Prelude.{arguments}
 use Rattle.crs_shape.specs.declared.class.Class.TheVariants as class
 use Rattle.crs_value.specs.inner.Cursor.{item}
-use Rattle.crs_value.proofs.checked.OrderLemmas.{more-are-left, ordering-first, ordering-on}
-use Rattle.crs_value.proofs.checked.SystemLemmas.{those-few}
+use Rattle.crs_value.proofs.checked.CheckLemmas.{more-are-left, ordering-first, ordering-on, those-few}
 use Rattle.crs_value.proofs.checks.axes.bad_orders.Goals as goal
 
 pub loop-at-init : goal.loop-at-init

@@ -4,7 +4,7 @@ use Rattle.crs_shape.specs.declared.class.Class.TheVariants as class
 use Rattle.crs_value.specs.inner.Cursor.{item}
 use Rattle.crs_value.specs.inner.Arguments.{from_found}
 use Rattle.crs_value.specs.Reading.{those}
-use Rattle.crs_value.proofs.checked.OrderLemmas.{Ordering}
+use Rattle.crs_value.proofs.checked.CheckLemmas.{Ordering}
 use Rattle.crs_value.proofs.checks.axes.bad_orders.Given as goal
 
 abbrev pub invariant-loop-at : goal.invariant-loop-at

@@ -1,7 +1,7 @@
 use Rattle.crs_shape.specs.declared.class.Class.TheVariants as class
 use Rattle.crs_value.specs.inner.Arguments.{item_at}
 use Rattle.crs_value.proofs.found.ArgumentLemmas.{first-shaped}
-use Rattle.crs_value.proofs.checked.OrderLemmas.{this-test}
+use Rattle.crs_value.proofs.checked.CheckLemmas.{this-test}
 use Rattle.crs_value.proofs.checks.axes.has_this.Goals as goal
 
 pub number-requires-clause-shaped : goal.number-requires-clause-shaped

@@ -1,4 +1,4 @@
-use Rattle.crs_value.proofs.checked.OrderLemmas.{position-test}
+use Rattle.crs_value.proofs.checked.CheckLemmas.{position-test}
 use Rattle.crs_value.proofs.checks.axes.is_position.Goals as goal
 
 pub returns-in-Some : goal.returns-in-Some

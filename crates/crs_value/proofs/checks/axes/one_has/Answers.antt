@@ -1,5 +1,5 @@
 use Rattle.std.proofs.Common.{refl}
-use Rattle.crs_value.proofs.checked.OrderLemmas.{seek-first, seek-on, seek-here, seek-there}
+use Rattle.crs_value.proofs.checked.CheckLemmas.{seek-first, seek-on, seek-here, seek-there}
 use Rattle.crs_value.proofs.checks.axes.one_has.Goals as goal
 
 pub loop-step-init : goal.loop-step-init

@@ -1,6 +1,6 @@
 use Rattle.crs_shape.specs.declared.class.Class.TheVariants as class
 use Rattle.crs_value.specs.inner.Arguments.{from_found}
-use Rattle.crs_value.proofs.checked.OrderLemmas.{Seeking}
+use Rattle.crs_value.proofs.checked.CheckLemmas.{Seeking}
 use Rattle.crs_value.proofs.checks.axes.one_has.Given as goal
 
 abbrev pub invariant-loop-step : goal.invariant-loop-step

@@ -1,4 +1,4 @@
-use Rattle.crs_value.proofs.checked.OrderLemmas.{some-on}
+use Rattle.crs_value.proofs.checked.CheckLemmas.{some-on}
 use Rattle.crs_value.proofs.checks.axes.some_has_order.Goals as goal
 
 pub loop-at-preserved : goal.loop-at-preserved

@@ -1,7 +1,7 @@
 use Rattle.std.proofs.Common.{length}
 use Rattle.crs_shape.specs.declared.class.Class.TheVariants as class
 use Rattle.crs_value.specs.inner.Arguments.{from_found}
-use Rattle.crs_value.proofs.checked.OrderLemmas.{Some-left}
+use Rattle.crs_value.proofs.checked.CheckLemmas.{Some-left}
 use Rattle.crs_value.proofs.checks.axes.some_has_order.Given as goal
 
 abbrev pub invariant-loop-at : goal.invariant-loop-at

@@ -4,9 +4,8 @@ use Rattle.crs_value.specs.Checks.{IsBadOrder, IsWrongOrder, at}
 use Rattle.crs_value.specs.inner.Cursor.{args}
 use Rattle.crs_value.specs.inner.Arguments.{item_at}
 use Rattle.crs_value.proofs.found.ArgumentLemmas.{first-shaped, found-holds, found-is, found-shaped}
-use Rattle.crs_value.proofs.checked.CheckLemmas.{none-of, only-of}
+use Rattle.crs_value.proofs.checked.CheckLemmas.{none-of, only-of, wrong-again, wrong-none}
 use Rattle.crs_value.proofs.checked.LeastLemmas.{least-at}
-use Rattle.crs_value.proofs.checked.OrderLemmas.{wrong-again, wrong-none}
 use Rattle.crs_value.proofs.checks.axes.wrong_order.Goals as goal
 
 pub returns-in_err-order : goal.returns-in_err-order

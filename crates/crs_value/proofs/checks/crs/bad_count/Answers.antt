@@ -1,6 +1,6 @@
 use Rattle.std.proofs.Common.{refl}
 use Rattle.crs_value.specs.inner.Arguments.{item_at}
-use Rattle.crs_value.proofs.checked.SystemLemmas.{count-none}
+use Rattle.crs_value.proofs.checked.CheckLemmas.{count-none}
 use Rattle.crs_value.proofs.checks.crs.bad_count.Goals as goal
 
 pub returns-then-is_whole : goal.returns-then-is_whole

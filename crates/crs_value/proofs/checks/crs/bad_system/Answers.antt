@@ -1,7 +1,7 @@
 use Rattle.std.proofs.Common.{refl}
 use Rattle.crs_shape.specs.inner.Prelude.{dimensions_of}
 use Rattle.crs_value.specs.inner.Arguments.{item_at}
-use Rattle.crs_value.proofs.checked.SystemLemmas.{system-none}
+use Rattle.crs_value.proofs.checked.CheckLemmas.{system-none}
 use Rattle.crs_value.proofs.checks.crs.bad_system.Goals as goal
 
 pub returns-then-is_allowed : goal.returns-then-is_allowed

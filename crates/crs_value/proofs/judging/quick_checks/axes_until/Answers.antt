@@ -3,8 +3,7 @@ use Rattle.crs_shape.specs.declared.class.Class.TheVariants as class
 use Rattle.crs_value.specs.Reading.{those}
 use Rattle.crs_value.specs.inner.Arguments.{ahead}
 use Rattle.crs_value.proofs.found.ArgumentLemmas.{has-some}
-use Rattle.crs_value.proofs.walk.LayoutLemmas.{noted-end, noted-first, noted-on, noted-shaped}
-use Rattle.crs_value.proofs.walk.RunLemmas.{nothing-seen}
+use Rattle.crs_value.proofs.walk.LayoutLemmas.{noted-end, noted-first, noted-on, noted-shaped, nothing-seen}
 use Rattle.crs_value.proofs.judging.quick_checks.axes_until.Goals as goal
 
 pub loop-at-init : goal.loop-at-init

@@ -1,5 +1,5 @@
 use Rattle.crs_value.specs.inner.Arguments.{item_at}
-use Rattle.crs_value.proofs.walk.AxesLemmas.{axis-has}
+use Rattle.crs_value.proofs.walk.LayoutLemmas.{axis-has}
 use Rattle.crs_value.proofs.judging.quick_checks.facts_of.Goals as goal
 
 pub returns : goal.returns

@@ -1,6 +1,6 @@
 use Rattle.std.proofs.Common.{sym, ◌∙◌}
 use Rattle.crs_value.specs.inner.Arguments.{item_at}
-use Rattle.crs_value.proofs.walk.AxesLemmas.{behind-name}
+use Rattle.crs_value.proofs.walk.LayoutLemmas.{behind-name}
 use Rattle.crs_value.proofs.judging.quick_checks.word_behind_name.Goals as goal
 
 pub returns : goal.returns

@@ -1,12 +1,10 @@
 use Rattle.std.proofs.Common.{refl}
 use Rattle.crs_shape.specs.declared.class.Class.TheVariants as class
 use Rattle.crs_value.proofs.sound.AxisLemmas.{axis-meridian-tells, axis-tells}
-use Rattle.crs_value.proofs.sound.ConversionLemmas.{conversion-tells, parameter-tells}
-use Rattle.crs_value.proofs.sound.CrsLemmas.{base-tells, geodetic-datum-tells, geodetic-ensemble-tells, vertical-datum-tells, vertical-ensemble-tells}
-use Rattle.crs_value.proofs.sound.DynamicLemmas.{dynamic-tells}
+use Rattle.crs_value.proofs.sound.CrsLemmas.{conversion-tells, parameter-tells, base-tells, geodetic-datum-tells, geodetic-ensemble-tells, vertical-datum-tells, vertical-ensemble-tells, dynamic-tells}
 use Rattle.crs_value.proofs.sound.FrameLemmas.{ellipsoid-tells, meridian-tells}
 use Rattle.crs_value.proofs.sound.PartLemmas.{ident-tells, named-tells, unit-tells}
-use Rattle.crs_value.proofs.sound.UsageLemmas.{box-tells, extent-tells, says-some, usage-tells}
+use Rattle.crs_value.proofs.sound.CrsLemmas.{box-tells, extent-tells, says-some, usage-tells}
 use Rattle.crs_value.proofs.laws.parts.parts_are_sound.Goals as goal
 
 pub returns : goal.returns

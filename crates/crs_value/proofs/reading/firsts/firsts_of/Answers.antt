@@ -3,7 +3,7 @@ use Rattle.crs_text.specs.inner.Prelude.{arguments}
 use Rattle.crs_shape.specs.declared.class.Class.TheVariants as class
 use Rattle.crs_value.specs.inner.Arguments.{item_at}
 use Rattle.crs_value.proofs.found.FirstArgumentsLemmas.{axis-among, seen-on, seen-past}
-use Rattle.crs_value.proofs.checked.SystemLemmas.{those-few}
+use Rattle.crs_value.proofs.checked.CheckLemmas.{those-few}
 use Rattle.crs_value.proofs.reading.firsts.firsts_of.Goals as goal
 use Rattle.crs_value.proofs.reading.firsts.firsts_of.Goals.{in-Some-class_in, in_default-class_in}
 

@@ -1,9 +1,7 @@
 use Rattle.std.proofs.Common.{[], ◌∷◌, arith}
 use Rattle.crs_shape.specs.declared.class.Class.TheVariants as class
 use Rattle.crs_value.specs.inner.Cursor.{item}
-use Rattle.crs_value.proofs.found.ArgumentLemmas.{first-sound}
-use Rattle.crs_value.proofs.found.FrameLemmas.{one-there}
-use Rattle.crs_value.proofs.found.NodeLemmas.{some-there}
+use Rattle.crs_value.proofs.found.ArgumentLemmas.{first-sound, one-there, some-there}
 use Rattle.crs_value.proofs.values.compound.read_horizontal.Goals as goal
 
 pub read-requires-clause-sound : goal.read-requires-clause-sound

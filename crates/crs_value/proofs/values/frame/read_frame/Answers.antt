@@ -1,8 +1,6 @@
 use Rattle.std.proofs.Common.{[], ◌∷◌}
 use Rattle.crs_value.specs.inner.Cursor.{item}
-use Rattle.crs_value.proofs.found.ArgumentLemmas.{first-sound}
-use Rattle.crs_value.proofs.found.FrameLemmas.{one-there}
-use Rattle.crs_value.proofs.found.NodeLemmas.{some-there}
+use Rattle.crs_value.proofs.found.ArgumentLemmas.{first-sound, one-there, some-there}
 use Rattle.crs_value.proofs.values.frame.read_frame.Goals as goal
 
 pub read-requires-clause-sound : goal.read-requires-clause-sound

@@ -1,6 +1,6 @@
 use Rattle.std.proofs.Common.{rules}
 use Rattle.crs_value.specs.Reads.{ReadsHead}
-use Rattle.crs_value.proofs.found.NodeLemmas.{reads-first}
+use Rattle.crs_value.proofs.found.ArgumentLemmas.{reads-first}
 use Rattle.crs_value.proofs.sound.SystemLemmas.{system-tells}
 use Rattle.crs_value.proofs.values.system.read_system.Goals as goal
 

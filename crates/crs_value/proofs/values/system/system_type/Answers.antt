@@ -1,4 +1,4 @@
-use Rattle.crs_value.proofs.found.NodeLemmas.{some-there}
+use Rattle.crs_value.proofs.found.ArgumentLemmas.{some-there}
 use Rattle.crs_value.proofs.sound.KnownWordLemmas.{known-type}
 use Rattle.crs_value.proofs.values.system.system_type.Goals as goal
 

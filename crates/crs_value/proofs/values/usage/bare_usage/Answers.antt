@@ -1,5 +1,5 @@
 use Rattle.std.proofs.Common.{inl, inr, rules}
-use Rattle.crs_value.proofs.sound.UsageLemmas.{usage-tells}
+use Rattle.crs_value.proofs.sound.CrsLemmas.{usage-tells}
 use Rattle.crs_value.proofs.values.usage.bare_usage.Goals as goal
 use Rattle.crs_value.proofs.values.usage.bare_usage.Goals.{else-is_none-via-then-is_none+then-is_none-2+then-is_none-3+else-is_none-4, else-is_none-via-then-is_none+then-is_none-2+else-is_none-3, else-is_none-via-then-is_none+else-is_none-2, else-is_none-via-else-is_none}
 

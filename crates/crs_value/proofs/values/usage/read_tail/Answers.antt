@@ -1,5 +1,5 @@
 use Rattle.std.proofs.Common.{rules}
-use Rattle.crs_value.proofs.sound.UsageLemmas.{tail-tells}
+use Rattle.crs_value.proofs.sound.CrsLemmas.{tail-tells}
 use Rattle.crs_value.proofs.values.usage.read_tail.Goals as goal
 
 pub invariant_of-result : goal.invariant_of-result

@@ -1,5 +1,5 @@
 use Rattle.std.proofs.lemmas.Result.{IfOk-weaker}
-use Rattle.crs_value.proofs.found.NodeLemmas.{going-first, going-end}
+use Rattle.crs_value.proofs.found.ArgumentLemmas.{going-first, going-end}
 use Rattle.crs_value.proofs.reading.cursor.Cursor.many_from.Goals as goal
 
 pub loop-at-init : goal.loop-at-init

@@ -3,7 +3,7 @@ use Rattle.crs_text.specs.inner.Prelude.{arguments}
 use Rattle.crs_value.specs.inner.Cursor.{item}
 use Rattle.crs_value.specs.Reading.{those}
 use Rattle.crs_value.specs.inner.Arguments.{from_found}
-use Rattle.crs_value.proofs.found.NodeLemmas.{Going}
+use Rattle.crs_value.proofs.found.ArgumentLemmas.{Going}
 use Rattle.crs_value.proofs.reading.cursor.Cursor.many_from.Given as goal
 
 abbrev pub invariant-loop-at : goal.invariant-loop-at

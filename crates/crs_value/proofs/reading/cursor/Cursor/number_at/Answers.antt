@@ -1,7 +1,7 @@
 use Rattle.std.proofs.Common.{◌≡◌, arith}
 use Rattle.crs_shape.specs.declared.class.Class.TheVariants as class
 use Rattle.crs_value.specs.Reads.{ReadsNumber}
-use Rattle.crs_value.proofs.found.NodeLemmas.{number-shaped, number-there, number-next, reads-first}
+use Rattle.crs_value.proofs.found.ArgumentLemmas.{number-shaped, number-there, number-next, reads-first}
 use Rattle.crs_value.proofs.reading.cursor.Cursor.number_at.Goals as goal
 
 pub unreachable-requires : goal.unreachable-requires

@@ -1,5 +1,5 @@
 use Rattle.std.proofs.Common.{rules}
-use Rattle.crs_value.proofs.sound.ConversionLemmas.{conversion-tells}
+use Rattle.crs_value.proofs.sound.CrsLemmas.{conversion-tells}
 use Rattle.crs_value.proofs.values.conversion.ConversionNode.read.Goals as goal
 
 pub invariant_of-result : goal.invariant_of-result

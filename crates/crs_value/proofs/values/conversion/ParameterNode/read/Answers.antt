@@ -1,5 +1,5 @@
 use Rattle.std.proofs.Common.{rules}
-use Rattle.crs_value.proofs.sound.ConversionLemmas.{parameter-tells}
+use Rattle.crs_value.proofs.sound.CrsLemmas.{parameter-tells}
 use Rattle.crs_value.proofs.values.conversion.ParameterNode.read.Goals as goal
 
 pub invariant_of-result : goal.invariant_of-result

@@ -1,7 +1,7 @@
 use Rattle.std.proofs.Common.{rules}
 use Rattle.crs_value.specs.Reads.{ReadsText}
 use Rattle.crs_value.proofs.found.IdentLemmas.{code-there}
-use Rattle.crs_value.proofs.found.NodeLemmas.{none-empty, some-there}
+use Rattle.crs_value.proofs.found.ArgumentLemmas.{none-empty, some-there}
 use Rattle.crs_value.proofs.sound.PartLemmas.{ident-tells}
 use Rattle.crs_value.proofs.values.ident.IdentNode.read.Goals as goal
 

@@ -1,5 +1,5 @@
 use Rattle.std.proofs.Common.{rules}
-use Rattle.crs_value.proofs.found.NodeLemmas.{some-there}
+use Rattle.crs_value.proofs.found.ArgumentLemmas.{some-there}
 use Rattle.crs_value.proofs.sound.KnownWordLemmas.{known-kind}
 use Rattle.crs_value.proofs.sound.PartLemmas.{unit-tells}
 use Rattle.crs_value.proofs.values.system.UnitNode.read.Goals as goal

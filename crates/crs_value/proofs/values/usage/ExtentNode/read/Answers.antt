@@ -1,5 +1,5 @@
 use Rattle.std.proofs.Common.{rules}
-use Rattle.crs_value.proofs.sound.UsageLemmas.{extent-tells}
+use Rattle.crs_value.proofs.sound.CrsLemmas.{extent-tells}
 use Rattle.crs_value.proofs.values.usage.ExtentNode.read.Goals as goal
 
 pub invariant_of-result : goal.invariant_of-result

@@ -1,5 +1,5 @@
 use Rattle.std.proofs.Common.{rules}
-use Rattle.crs_value.proofs.sound.UsageLemmas.{node-tells}
+use Rattle.crs_value.proofs.sound.CrsLemmas.{node-tells}
 use Rattle.crs_value.proofs.values.usage.UsageNode.read.Goals as goal
 
 pub invariant_of-result : goal.invariant_of-result
