@@ -16,7 +16,7 @@ use Rattle.crs_text.specs.inner.Prelude.{item_text}
 use Rattle.crs_rules.specs.inner.LowerLaws.{SetLaws}
 use Rattle.crs_rules.specs.Rewritten.{axis, axis_meridian, counted, counted_frame, counted_name, datum, dynamic, ellipsoid, ensemble, frame_or_ensemble, meridian, named, parameter, system, units}
 use Rattle.crs_rules.specs.Rules.{Meaning, without_ensemble}
-use Rattle.crs_rules.proofs.AliasLemmas.{choice}
+use Rattle.crs_rules.proofs.PartLemmas.{choice}
 use Rattle.crs_rules.proofs.SteadyLemmas.{IsSteady}
 
 pub kind-twice : (asked kind : UnitKind) → kind_as asked (kind_as asked kind) ≡ kind_as asked kind

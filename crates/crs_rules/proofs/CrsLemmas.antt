@@ -15,7 +15,7 @@ use Rattle.std.proofs.lemmas.List.{length-map, nil_from_length}
 use Rattle.crs_rules.specs.inner.Sinking.{IsOrderless, IsOrderlessAcross, IsOrderlessCrs}
 use Rattle.crs_rules.specs.Rewritten.{across, among, arranged, arranged_across, arranged_compound, arranged_crs, arranged_geodetic, arranged_projected, arranged_vertical, ascending, axis, axis_meridian, renamed, base, compound, geodetic, geoid_models, projected, rewritten, system, units, vertical}
 use Rattle.crs_rules.specs.Rules.{Meaning, RulesParts, meaning, AreRules}
-use Rattle.crs_rules.proofs.AliasLemmas.{IsSoundMeaning, axis-unit, choice, counted-name, sound-meaning, unit-of}
+use Rattle.crs_rules.proofs.PartLemmas.{IsSoundMeaning, axis-unit, choice, counted-name, sound-meaning, unit-of}
 use Rattle.crs_rules.proofs.PartLemmas.{conversion-sound, counted-sound, dynamics-sound, each-map, frame-sound, meridian-sound, named-sound, none-stays, some-map, some-stays, tail-sound}
 
 -- ---- systems

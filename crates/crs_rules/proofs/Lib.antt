@@ -1,5 +1,4 @@
 pub mod AgainLemmas
-pub mod AliasLemmas
 pub mod ArrangedLemmas
 pub mod CrsLemmas
 pub mod FactorLemmas

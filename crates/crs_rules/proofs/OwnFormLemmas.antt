@@ -13,7 +13,7 @@ use Rattle.crs_rules.specs.inner.LowerLaws.{FormLaws, SetLaws}
 use Rattle.crs_rules.specs.ReorderedAxes.{IsCrsReordered}
 use Rattle.crs_rules.specs.Rewritten.{rewritten, AreTextsOfAxes, IsForm}
 use Rattle.crs_rules.specs.Rules.{Meaning, RulesParts, meaning, AreRules, AreSteady}
-use Rattle.crs_rules.proofs.AliasLemmas.{sound-meaning}
+use Rattle.crs_rules.proofs.PartLemmas.{sound-meaning}
 use Rattle.crs_rules.proofs.CrsLemmas.{crs-sound}
 use Rattle.crs_rules.proofs.TextLemmas.{AxesAreWritten, one-text, texts-of-axes}
 use Rattle.crs_rules.proofs.ReorderedLemmas.{crs-one}

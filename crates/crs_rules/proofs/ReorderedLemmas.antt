@@ -23,7 +23,7 @@ use Rattle.crs_rules.specs.ReorderedAxes.{AreAxesReordered, IsAcrossReordered, I
 use Rattle.crs_rules.specs.Rewritten.{across, among, arranged, arranged_across, arranged_compound, arranged_crs, arranged_geodetic, arranged_projected, arranged_vertical, ascending, axis, axis_meridian, compound, geodetic, projected, renamed, system, units, vertical}
 use Rattle.crs_rules.specs.Rules.{Meaning}
 use Rattle.crs_rules.proofs.AgainLemmas.{any-axis, kind-twice, plain-kind}
-use Rattle.crs_rules.proofs.AliasLemmas.{IsSoundMeaning}
+use Rattle.crs_rules.proofs.PartLemmas.{IsSoundMeaning}
 use Rattle.crs_rules.proofs.ArrangedLemmas.{Before, before-among, idents-kept, in-front, unit-kept}
 use Rattle.crs_rules.proofs.CrsLemmas.{axis-sound, each-both}
 use Rattle.crs_rules.proofs.SteadyLemmas.{KeepsKinds}

@@ -12,7 +12,7 @@ use Rattle.crs_same.specs.inner.Prelude.{SameAxisAlone}
 use Rattle.crs_normal.specs.inner.Prelude.{IsSpelledAxis, axis_text, IsWrittenForm}
 use Rattle.crs_rules.specs.Rewritten.{among, arranged, arranged_across, arranged_crs, ascending, renamed, rewritten, AreTextsOfAxes}
 use Rattle.crs_rules.specs.Rules.{Meaning}
-use Rattle.crs_rules.proofs.AliasLemmas.{IsSoundMeaning}
+use Rattle.crs_rules.proofs.PartLemmas.{IsSoundMeaning}
 use Rattle.crs_rules.proofs.CrsLemmas.{each-ascending, renamed-sound}
 
 -- what is known of axes by themselves

@@ -19,9 +19,8 @@ use Rattle.crs_rules.specs.inner.LowerLaws.{SetLaws}
 use Rattle.crs_rules.specs.Rewritten.{across, arranged, arranged_across, arranged_crs, compound, counted, extent, geodetic, has_own_unit, meridian, named, parameter, projected, renamed, rewritten, system, units, usage, vertical}
 use Rattle.crs_rules.specs.Rules.{Meaning}
 use Rattle.crs_rules.proofs.AgainLemmas.{IsAgain, IsLeft, counted-name-twice, dynamics-again, each-all, each-fixed, frame-again, length-kind, mapped, member-fixed, meridian-again, parameters-again, set-again, some-again, system-again, unit-again, units-again}
-use Rattle.crs_rules.proofs.AliasLemmas.{IsSoundMeaning}
+use Rattle.crs_rules.proofs.PartLemmas.{IsSoundMeaning, each-map, parameter-sound}
 use Rattle.crs_rules.proofs.ArrangedLemmas.{arranged-again}
-use Rattle.crs_rules.proofs.PartLemmas.{each-map, parameter-sound}
 use Rattle.crs_rules.proofs.SteadyLemmas.{IsSteady}
 
 abbrev usage-text : UsageParts → List ℕ

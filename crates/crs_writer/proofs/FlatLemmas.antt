@@ -16,9 +16,8 @@ use Rattle.crs_writer.specs.inner.FromItems.{Writes}
 use Rattle.crs_writer.specs.inner.Openings.{named_node}
 use Rattle.crs_writer.specs.inner.Found.{SaysIfAny}
 use Rattle.crs_writer.specs.inner.Parts.{number_behind, opt_text}
-use Rattle.crs_writer.proofs.NodeTextLemmas.{closed, keyworded, last-more, then-text}
+use Rattle.crs_writer.proofs.NodeTextLemmas.{closed, keyworded, last-more, then-text, then-system}
 use Rattle.crs_writer.proofs.PieceLemmas.{then-each, then-more, then-opt, three, two}
-use Rattle.crs_writer.proofs.SystemLemmas.{then-system}
 
 -- ---- parts that may be missing, and then the rest
 

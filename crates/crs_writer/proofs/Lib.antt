@@ -1,8 +1,6 @@
 pub mod AnswerLemmas
 pub mod AxisLemmas
 pub mod ChainLemmas
-pub mod CopiedAxisLemmas
-pub mod CopiedDatumLemmas
 pub mod CopiedLemmas
 pub mod CopiedUsageLemmas
 pub mod CopyLemmas
@@ -18,6 +16,5 @@ pub mod NumberLemmas
 pub mod PieceLemmas
 pub mod SetLemmas
 pub mod SpanLemmas
-pub mod SystemLemmas
 pub mod TextLemmas
 pub mod WrittenLemmas

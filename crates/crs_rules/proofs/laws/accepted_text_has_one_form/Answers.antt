@@ -3,7 +3,7 @@ use Rattle.crs_value.specs.declared.values.level.Level.TheVariants as levels
 use Rattle.crs_normal.specs.inner.Prelude.{axis_text}
 use Rattle.crs_rules.specs.Rewritten.{rewritten}
 use Rattle.crs_rules.specs.Rules.{meaning}
-use Rattle.crs_rules.proofs.AliasLemmas.{sound-meaning}
+use Rattle.crs_rules.proofs.PartLemmas.{sound-meaning}
 use Rattle.crs_rules.proofs.TextLemmas.{one-text, rewritten-by, texts-of-axes}
 use Rattle.crs_rules.proofs.laws.accepted_text_has_one_form.Goals as goal
 

@@ -1,5 +1,5 @@
 use Rattle.crs_rules.proofs.CrsLemmas.{vertical-sound}
-use Rattle.crs_rules.proofs.AliasLemmas.{sound-meaning}
+use Rattle.crs_rules.proofs.PartLemmas.{sound-meaning}
 use Rattle.crs_rules.proofs.rewriting.crs.vertical.Goals as goal
 
 pub invariant_of-value : goal.invariant_of-value

@@ -1,5 +1,4 @@
-use Rattle.crs_rules.proofs.PartLemmas.{ensemble-sound}
-use Rattle.crs_rules.proofs.AliasLemmas.{sound-meaning}
+use Rattle.crs_rules.proofs.PartLemmas.{ensemble-sound, sound-meaning}
 use Rattle.crs_rules.proofs.rewriting.frames.ensemble.Goals as goal
 
 pub invariant_of-value : goal.invariant_of-value

@@ -1,5 +1,4 @@
-use Rattle.crs_rules.proofs.PartLemmas.{conversion-sound}
-use Rattle.crs_rules.proofs.AliasLemmas.{sound-meaning}
+use Rattle.crs_rules.proofs.PartLemmas.{conversion-sound, sound-meaning}
 use Rattle.crs_rules.proofs.rewriting.parts.conversion.Goals as goal
 
 pub invariant_of-value : goal.invariant_of-value

@@ -1,5 +1,4 @@
-use Rattle.crs_rules.proofs.PartLemmas.{tail-sound}
-use Rattle.crs_rules.proofs.AliasLemmas.{sound-meaning}
+use Rattle.crs_rules.proofs.PartLemmas.{tail-sound, sound-meaning}
 use Rattle.crs_rules.proofs.rewriting.parts.tail.Goals as goal
 
 pub invariant_of-value : goal.invariant_of-value

@@ -3,7 +3,7 @@ use Rattle.crs_text.specs.declared.items.ItemKind.TheVariants as items
 use Rattle.crs_value.specs.inner.Prelude.{ahead, item_at}
 use Rattle.crs_writer.specs.inner.Copied.{IsNext}
 use Rattle.crs_writer.specs.inner.Node.{item}
-use Rattle.crs_writer.proofs.CopiedAxisLemmas.{IsPlainAxis, axis-copied}
+use Rattle.crs_writer.proofs.CopiedLemmas.{IsPlainAxis, axis-copied}
 use Rattle.crs_writer.proofs.nodes.copied.axis.Goals as goal
 
 pub returns : goal.returns

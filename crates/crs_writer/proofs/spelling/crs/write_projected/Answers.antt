@@ -3,10 +3,9 @@ use Rattle.std.proofs.lemmas.Result.{on_ok_weaker}
 use Rattle.crs_text.specs.inner.Prelude.{More, Siblings}
 use Rattle.crs_normal.specs.inner.Prelude.{item_base, item_conversion, norm_base, norm_conversion, norm_system, norm_tail, system_items, tail_items}
 use Rattle.crs_writer.specs.inner.Openings.{opened}
-use Rattle.crs_writer.proofs.NodeTextLemmas.{closed}
+use Rattle.crs_writer.proofs.NodeTextLemmas.{closed, then-system}
 use Rattle.crs_writer.proofs.FlatLemmas.{told}
 use Rattle.crs_writer.proofs.PieceLemmas.{then-more}
-use Rattle.crs_writer.proofs.SystemLemmas.{then-system}
 use Rattle.crs_writer.proofs.spelling.crs.write_projected.Goals as goal
 
 pub returns : goal.returns

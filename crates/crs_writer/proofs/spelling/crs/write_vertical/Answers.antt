@@ -4,10 +4,9 @@ use Rattle.std.specs.Option.{option_map}
 use Rattle.crs_text.specs.inner.Prelude.{More, Siblings}
 use Rattle.crs_writer.specs.inner.Openings.{opened}
 use Rattle.crs_normal.specs.inner.Prelude.{each, item_dynamic, item_frame, item_geoid_model, norm_dynamic, norm_frame, norm_system, norm_tail, opt, set_geoid_models, system_items, tail_items}
-use Rattle.crs_writer.proofs.NodeTextLemmas.{closed}
+use Rattle.crs_writer.proofs.NodeTextLemmas.{closed, then-system}
 use Rattle.crs_writer.proofs.FlatLemmas.{then-part, then-set, told}
 use Rattle.crs_writer.proofs.PieceLemmas.{then-more}
-use Rattle.crs_writer.proofs.SystemLemmas.{then-system}
 use Rattle.crs_writer.proofs.WrittenLemmas.{geoid_models-written}
 use Rattle.crs_writer.proofs.spelling.crs.write_vertical.Goals as goal
 

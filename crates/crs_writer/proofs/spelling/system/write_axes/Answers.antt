@@ -1,6 +1,6 @@
 use Rattle.std.proofs.Common.{◌+◌, ◌-◌, length, arith}
 use Rattle.crs_writer.proofs.AxisLemmas.{axes-ended}
-use Rattle.crs_writer.proofs.SystemLemmas.{next-axis}
+use Rattle.crs_writer.proofs.NodeTextLemmas.{next-axis}
 use Rattle.crs_writer.proofs.spelling.system.write_axes.Goals as goal
 
 pub loop-index-preserved : goal.loop-index-preserved

@@ -4,7 +4,7 @@ use Rattle.crs_shape.specs.inner.Prelude.{asked_kind}
 use Rattle.crs_value.specs.inner.Prelude.{AxisParts, SystemParts}
 use Rattle.crs_normal.specs.inner.Prelude.{whole_value}
 use Rattle.crs_writer.proofs.FlatLemmas.{copied}
-use Rattle.crs_writer.proofs.SystemLemmas.{placed}
+use Rattle.crs_writer.proofs.NodeTextLemmas.{placed}
 use Rattle.crs_writer.proofs.spelling.system.write_axis_in.Goals as goal
 
 pub returns : goal.returns

@@ -8,7 +8,7 @@ use Rattle.crs_writer.specs.inner.Node.{item}
 use Rattle.crs_writer.specs.declared.nodes.node.Node.{Node}
 use Rattle.crs_writer.proofs.FoundLemmas.{first-said}
 use Rattle.crs_writer.proofs.FlatLemmas.{through}
-use Rattle.crs_writer.proofs.SystemLemmas.{placed}
+use Rattle.crs_writer.proofs.NodeTextLemmas.{placed}
 use Rattle.crs_writer.proofs.spelling.system.write_axis_of.Goals as goal
 
 pub returns-in-Some : goal.returns-in-Some

@@ -1,5 +1,4 @@
-use Rattle.crs_rules.proofs.PartLemmas.{ellipsoid-sound}
-use Rattle.crs_rules.proofs.AliasLemmas.{sound-meaning}
+use Rattle.crs_rules.proofs.PartLemmas.{ellipsoid-sound, sound-meaning}
 use Rattle.crs_rules.proofs.rewriting.frames.EllipsoidPart.rewrite.Goals as goal
 
 pub invariant_of-self : goal.invariant_of-self

@@ -1,5 +1,5 @@
 use Rattle.crs_rules.proofs.CrsLemmas.{along-sound}
-use Rattle.crs_rules.proofs.AliasLemmas.{sound-meaning}
+use Rattle.crs_rules.proofs.PartLemmas.{sound-meaning}
 use Rattle.crs_rules.proofs.rewriting.parts.AxisMeridianPart.rewrite.Goals as goal
 
 pub invariant_of-self : goal.invariant_of-self
