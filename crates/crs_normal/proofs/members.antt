@@ -1,9 +1,5 @@
 pub mod AgreeLemmas
-pub mod ExtentLemmas
 pub mod IdentLemmas
 pub mod MemberLemmas
-pub mod MemberUnitLemmas
-pub mod PairLemmas
 pub mod ParameterLemmas
 pub mod SetLemmas
-pub mod UsageLemmas

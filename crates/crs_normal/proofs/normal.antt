@@ -1,11 +1,6 @@
-pub mod AnchorLemmas
-pub mod AxisLemmas
 pub mod CheckedLemmas
 pub mod CompoundLemmas
 pub mod DimensionLemmas
-pub mod DynamicLemmas
-pub mod EllipsoidLemmas
-pub mod EnsembleLemmas
 pub mod FormLemmas
 pub mod FrameLemmas
 pub mod GeodeticLemmas
@@ -13,11 +8,6 @@ pub mod HeadLemmas
 pub mod IdentLemmas
 pub mod LeafLemmas
 pub mod LevelLemmas
-pub mod NamedLemmas
-pub mod ProjectedLemmas
-pub mod RankLemmas
-pub mod SystemLemmas
 pub mod TailLemmas
 pub mod TextLemmas
 pub mod UnitLemmas
-pub mod UsageLemmas

@@ -1,9 +1,5 @@
 pub mod CompoundLemmas
 pub mod CrsLemmas
 pub mod DatumLemmas
-pub mod DynamicLemmas
-pub mod EndLemmas
 pub mod FrameLemmas
-pub mod NameLemmas
-pub mod SystemLemmas
 pub mod ViewLemmas

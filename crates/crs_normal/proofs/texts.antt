@@ -1,4 +1,3 @@
-pub mod AcceptedLemmas
 pub mod ClosedLemmas
 pub mod ItemLemmas
 pub mod RootLemmas

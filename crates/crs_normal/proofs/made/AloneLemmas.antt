@@ -15,16 +15,13 @@ use Rattle.crs_normal.specs.inner.LowerLaws.{LowerLaws}
 use Rattle.crs_normal.specs.Normal.{IsNormalIn}
 use Rattle.crs_normal.specs.inner.Prelude.{norm_axis_alone, number_node, item_axis, item_axis_meridian, norm_axis_meridians, item_unit, norm_units}
 use Rattle.crs_normal.proofs.made.AxisLemmas.{axis-meridians-made, known-direction, order-argument, axis-names, direction-letters}
-use Rattle.crs_normal.proofs.made.IdentLemmas.{ids-orderly, ids-of}
+use Rattle.crs_normal.proofs.made.IdentLemmas.{ids-orderly, ids-of, unit-arguments, unit-made, unit-unbroken, unit_as, IsKindIn}
 use Rattle.crs_normal.proofs.made.LeafLemmas.{word-made}
 use Rattle.crs_normal.proofs.made.NodeLemmas.{Stands, node-stands, Made, MadeBy, as-argument, AreNormalBy, fine-as}
-use Rattle.crs_normal.proofs.made.UnitLemmas.{unit-arguments, unit-made, unit-unbroken, unit_as}
 use Rattle.crs_normal.proofs.parts.PartLemmas.{IsStanding}
-use Rattle.crs_normal.proofs.read.NameLemmas.{keyword-names}
+use Rattle.crs_normal.proofs.read.ViewLemmas.{keyword-names, each-so}
 use Rattle.crs_normal.proofs.made.ArgumentLemmas.{ArgumentBy, as_runs, fits, laid, may-of, one-of, runs-made, node-made, Argument, text-of}
 use Rattle.crs_normal.proofs.texts.SegmentLemmas.{some-imp}
-use Rattle.crs_normal.proofs.read.ViewLemmas.{each-so}
-use Rattle.crs_normal.proofs.made.ClassLemmas.{IsKindIn}
 
 -- ---- the arguments of an axis by itself
 

@@ -16,15 +16,14 @@ use Rattle.crs_same.specs.inner.Prelude.{own_or}
 use Rattle.crs_normal.specs.inner.LowerLaws.{LowerLaws}
 use Rattle.crs_normal.specs.inner.Prelude.{number_node, word_item, each, opt, text_item, item_unit, norm_unit, whole_value, item_ident, norm_units, set_idents}
 use Rattle.crs_normal.specs.inner.SpelledCrs.{item_axis, item_axis_meridian, norm_axis, norm_axis_meridian, norm_axis_meridians}
-use Rattle.crs_normal.proofs.made.EllipsoidLemmas.{unit-argument}
-use Rattle.crs_normal.proofs.made.IdentLemmas.{ids-of, ids-orderly}
+use Rattle.crs_normal.proofs.made.NamedLemmas.{unit-argument}
+use Rattle.crs_normal.proofs.made.IdentLemmas.{ids-of, ids-orderly, IsKindIn}
 use Rattle.crs_normal.proofs.made.LeafLemmas.{word-made}
 use Rattle.crs_normal.proofs.made.NodeLemmas.{IsAcceptedNormal, Made, as-argument, none-orderly}
 use Rattle.crs_normal.proofs.made.PlaceLemmas.{ArePlaced, none-of}
 use Rattle.crs_normal.proofs.made.ArgumentLemmas.{made-of, number-of, one-of, Argument, arguments-seen, may-of, text-of, a-number, lay}
-use Rattle.crs_normal.proofs.read.NameLemmas.{keyword-names}
+use Rattle.crs_normal.proofs.read.ViewLemmas.{keyword-names}
 use Rattle.crs_normal.proofs.same.UnitLemmas.{suits-kind}
-use Rattle.crs_normal.proofs.made.ClassLemmas.{IsKindIn}
 
 -- ---- positions
 

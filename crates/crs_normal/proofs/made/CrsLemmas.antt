@@ -8,13 +8,10 @@ use Rattle.crs_value.specs.declared.values.level.Level.{Level}
 use Rattle.crs_value.specs.inner.Prelude.{IsCrs}
 use Rattle.crs_normal.specs.inner.LowerLaws.{LowerLaws}
 use Rattle.crs_normal.specs.inner.Prelude.{IsNormalText, item_crs, norm_crs}
-use Rattle.crs_normal.proofs.made.CompoundLemmas.{compound-made}
-use Rattle.crs_normal.proofs.made.GeodeticLemmas.{geodetic-made}
+use Rattle.crs_normal.proofs.made.CompoundLemmas.{compound-made, geodetic-made}
 use Rattle.crs_normal.proofs.made.PlaceLemmas.{text-at}
-use Rattle.crs_normal.proofs.made.ProjectedLemmas.{projected-made}
-use Rattle.crs_normal.proofs.made.VerticalLemmas.{vertical-made}
-use Rattle.crs_normal.proofs.texts.RootLemmas.{crs_class, crs-rooted}
-use Rattle.crs_normal.proofs.texts.AcceptedLemmas.{made-stands}
+use Rattle.crs_normal.proofs.made.VerticalLemmas.{projected-made, vertical-made}
+use Rattle.crs_normal.proofs.texts.RootLemmas.{crs_class, crs-rooted, made-stands}
 use Rattle.crs_normal.proofs.made.NodeLemmas.{IsAcceptedNormal, fine-as}
 
 deeper : {level : Level} {c : Class} {n : ℕ} {item : Item} → n ≤ 8 → IsAcceptedNormal level c n item →

@@ -15,15 +15,13 @@ use Rattle.crs_normal.specs.Normal.{HasAxes, HasOwnForm, HasTail, IsFirstKeyword
 use Rattle.crs_normal.specs.inner.SpelledFrames.{greenwich, item_frame, item_meridian, norm_frame, norm_given, norm_meridian}
 use Rattle.crs_normal.specs.inner.SpelledItems.{node_of}
 use Rattle.crs_normal.proofs.made.SystemLemmas.{IsFew}
-use Rattle.crs_normal.proofs.made.BehindLemmas.{Shows, behind, crs_classes, system-seen, tail-seen}
-use Rattle.crs_normal.proofs.made.EllipsoidLemmas.{placed-some}
-use Rattle.crs_normal.proofs.made.DynamicLemmas.{IsSteady, dynamic_classes, dynamic_run, no-bad-dynamic}
+use Rattle.crs_normal.proofs.made.TailLemmas.{Shows, behind, crs_classes, system-seen, tail-seen, has-tail, no-repeats}
+use Rattle.crs_normal.proofs.made.NamedLemmas.{placed-some, IsSteady, dynamic_classes, dynamic_run, no-bad-dynamic}
 use Rattle.crs_normal.proofs.made.NodeLemmas.{IsAcceptedNormal, IsOrderly, Run, Sees, alone, given, items_in, none-shown, views, IsFree}
 use Rattle.crs_normal.proofs.made.ArgumentLemmas.{Argument, as_runs, fit, lay, made-of}
 use Rattle.crs_normal.proofs.made.PlaceLemmas.{ArePlaced}
 use Rattle.crs_normal.proofs.made.CheckLemmas.{IsSystemIn, has-axes, no-bad-systems}
-use Rattle.crs_normal.proofs.made.TailLemmas.{has-tail, no-repeats}
-use Rattle.crs_normal.proofs.made.ClassLemmas.{geodetic_frame_class, vertical_frame_class}
+use Rattle.crs_normal.proofs.made.IdentLemmas.{geodetic_frame_class, vertical_frame_class}
 
 -- ---- the frame as an argument, of one class or the other
 

@@ -23,8 +23,7 @@ use Rattle.crs_normal.proofs.made.IdentLemmas.{ids-of, ids-orderly}
 use Rattle.crs_normal.proofs.made.LeafLemmas.{word-made}
 use Rattle.crs_normal.proofs.made.NodeLemmas.{IsAcceptedNormal, Made, as-argument}
 use Rattle.crs_normal.proofs.made.PlaceLemmas.{ArePlaced, none-of}
-use Rattle.crs_normal.proofs.read.ViewLemmas.{both}
-use Rattle.crs_normal.proofs.read.NameLemmas.{keyword-names}
+use Rattle.crs_normal.proofs.read.ViewLemmas.{both, keyword-names}
 
 -- ---- each axis has a unit that fits
 

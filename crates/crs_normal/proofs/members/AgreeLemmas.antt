@@ -11,17 +11,16 @@ use Rattle.crs_value.specs.declared.values.level.Level.TheVariants as levels
 use Rattle.crs_same.specs.inner.Prelude.{SameIdent, SameIdents, SameNamed, SameParameter, SameSet, SameUsage}
 use Rattle.crs_normal.specs.inner.LowerLaws.{LowerLaws}
 use Rattle.crs_normal.specs.inner.Prelude.{item_geoid_model, item_ident, item_member, item_parameter, item_usage, norm_geoid_model, norm_member, norm_parameter, norm_usage, set_geoid_models, set_idents, set_members, set_parameters, set_usages}
-use Rattle.crs_normal.proofs.made.ConversionLemmas.{parameter-made}
+use Rattle.crs_normal.proofs.made.FrameLemmas.{parameter-made}
 use Rattle.crs_normal.proofs.made.IdentLemmas.{ident-made}
 use Rattle.crs_normal.proofs.made.NamedLemmas.{geoid-model-made, member-made}
-use Rattle.crs_normal.proofs.made.UsageLemmas.{usage-made}
+use Rattle.crs_normal.proofs.made.TailLemmas.{usage-made}
 use Rattle.crs_normal.proofs.members.IdentLemmas.{ident-agrees, ident-read}
-use Rattle.crs_normal.proofs.members.MemberLemmas.{named-kept, named-read}
+use Rattle.crs_normal.proofs.members.MemberLemmas.{named-kept, named-read, usage-kept, usage-read}
 use Rattle.crs_normal.proofs.members.ParameterLemmas.{parameter-kept, parameter-read}
 use Rattle.crs_normal.proofs.members.SetLemmas.{set-agrees}
-use Rattle.crs_normal.proofs.members.UsageLemmas.{usage-kept, usage-read}
 use Rattle.crs_normal.proofs.parts.PartLemmas.{told-of}
-use Rattle.crs_normal.proofs.read.NameLemmas.{keyword-names}
+use Rattle.crs_normal.proofs.read.ViewLemmas.{keyword-names}
 use Rattle.crs_normal.proofs.same.ConversionLemmas.{parameter-agrees}
 use Rattle.crs_normal.proofs.same.UnitLemmas.{IdentsDecide, named-agrees}
 use Rattle.crs_normal.proofs.same.UsageLemmas.{usage-agrees}

@@ -9,7 +9,7 @@ use Rattle.crs_value.specs.Values.{IdentParts}
 use Rattle.crs_same.specs.inner.Prelude.{SameIdent}
 use Rattle.crs_normal.specs.inner.Prelude.{in_order, code_item, is_short, node_of, opt, text_item, text_node, item_ident, set_idents}
 use Rattle.crs_normal.proofs.texts.SegmentLemmas.{IsIn, Segment, a-text, either-item, may-be, seen, text-field}
-use Rattle.crs_normal.proofs.read.NameLemmas.{keyword-names}
+use Rattle.crs_normal.proofs.read.ViewLemmas.{keyword-names}
 
 -- ---- a code: a number or a text
 

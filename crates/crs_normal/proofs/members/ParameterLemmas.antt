@@ -15,8 +15,8 @@ use Rattle.crs_value.specs.Values.{IdentParts}
 use Rattle.crs_normal.specs.inner.Prelude.{unit_class, item_parameter, norm_parameter, each, node_of, number_item, opt, text_item, item_ident, item_unit, norm_units}
 use Rattle.crs_normal.specs.inner.LowerLaws.{LowerLaws}
 use Rattle.crs_normal.proofs.texts.SegmentLemmas.{IsIn, MayIn, Seen, Segment, a-number, a-text, if-any, items_of, lacks, placed-at, seen}
-use Rattle.crs_normal.proofs.members.MemberUnitLemmas.{NamesId, identifiers-back, identifiers-of, number-read, unit-kept, unit-read}
-use Rattle.crs_normal.proofs.read.NameLemmas.{keyword-names}
+use Rattle.crs_normal.proofs.members.MemberLemmas.{NamesId, identifiers-back, identifiers-of, number-read, unit-kept, unit-read}
+use Rattle.crs_normal.proofs.read.ViewLemmas.{keyword-names}
 use Rattle.crs_normal.proofs.made.IdentLemmas.{idents-sound}
 
 -- the class of a unit in a parameter is that of its keyword

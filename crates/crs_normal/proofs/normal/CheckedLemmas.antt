@@ -7,7 +7,7 @@ use Rattle.crs_value.specs.inner.Prelude.{AnyOf, AtClass, Breaks, BreaksAmong, O
 use Rattle.crs_value.specs.Sound.{Each}
 use Rattle.crs_value.specs.declared.values.level.Level.{Level}
 use Rattle.crs_normal.proofs.WithoutPlaces.{without_places}
-use Rattle.crs_normal.proofs.members.PairLemmas.{Alone}
+use Rattle.crs_normal.proofs.members.MemberLemmas.{Alone}
 use Rattle.crs_normal.proofs.normal.FormLemmas.{Form, Looked, Opened, by-slots, found-in}
 use Rattle.crs_normal.proofs.read.ViewLemmas.{onto, those-at}
 

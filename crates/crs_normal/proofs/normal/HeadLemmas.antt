@@ -13,7 +13,7 @@ use Rattle.crs_value.specs.declared.values.level.Level.{Level}
 use Rattle.crs_normal.specs.Normal.{words_in}
 use Rattle.crs_value.specs.Sound.{Each}
 use Rattle.crs_normal.specs.inner.LowerLaws.{LowerLaws}
-use Rattle.crs_normal.proofs.normal.AxisLemmas.{type-form}
+use Rattle.crs_normal.proofs.normal.UnitLemmas.{type-form}
 use Rattle.crs_normal.proofs.normal.DimensionLemmas.{AreSmall, few-axes as count-small}
 use Rattle.crs_normal.proofs.normal.FormLemmas.{IsGood, opened, raws-in}
 

@@ -13,12 +13,10 @@ use Rattle.crs_normal.specs.inner.SpelledItems.{in_order, each, opt, text_node, 
 use Rattle.crs_normal.specs.inner.SpelledCrs.{item_geoid_model, norm_geoid_model, set_geoid_models}
 use Rattle.crs_normal.proofs.normal.CheckedLemmas.{once-only}
 use Rattle.crs_normal.proofs.normal.FormLemmas.{Looked, Opened, found-in, front-in, front_in, good-in, optional-spelled, reads-kept, set-spelled}
-use Rattle.crs_normal.proofs.normal.FrameLemmas.{none-read}
+use Rattle.crs_normal.proofs.normal.FrameLemmas.{none-read, usage-form}
 use Rattle.crs_normal.proofs.normal.LeafLemmas.{PlainIsOne, text-node-form}
-use Rattle.crs_normal.proofs.normal.NamedLemmas.{geoid_model-form}
-use Rattle.crs_normal.proofs.normal.RankLemmas.{IsOneOf, by-rank, end-as, end_classes, in-slot, none-of, rise-at}
-use Rattle.crs_normal.proofs.normal.UnitLemmas.{idents-found-spelled}
-use Rattle.crs_normal.proofs.normal.UsageLemmas.{usage-form}
+use Rattle.crs_normal.proofs.normal.UnitLemmas.{geoid_model-form, idents-found-spelled}
+use Rattle.crs_normal.proofs.normal.IdentLemmas.{IsOneOf, by-rank, end-as, end_classes, in-slot, none-of, rise-at}
 use Rattle.crs_normal.proofs.read.ViewLemmas.{Front, both, slot-lacks, slot_at, without_places_onto, onto}
 
 -- ---- no part of a usage is bare

@@ -12,11 +12,10 @@ use Rattle.crs_normal.proofs.WithoutPlaces.{without_places}
 use Rattle.crs_normal.specs.Normal.{IsNormalIn}
 use Rattle.crs_value.specs.Sound.{Each}
 use Rattle.crs_normal.specs.inner.Prelude.{norm_axis_alone, item_axis, item_unit, norm_unit}
-use Rattle.crs_normal.proofs.normal.AxisLemmas.{axis_meridian-form, direction-form, opt-meridians}
+use Rattle.crs_normal.proofs.normal.UnitLemmas.{axis_meridian-form, direction-form, opt-meridians, idents-found-spelled, in-axis, in-plain, unit-form}
 use Rattle.crs_normal.proofs.normal.FormLemmas.{IsGood, node-spelled, one-spelled, optional-spelled, optional-by}
 use Rattle.crs_normal.proofs.normal.LeafLemmas.{PlainIsOne, number-node-form, text-form}
-use Rattle.crs_normal.proofs.normal.UnitLemmas.{idents-found-spelled, in-axis, in-plain, unit-form}
-use Rattle.crs_normal.proofs.members.PairLemmas.{opt-units}
+use Rattle.crs_normal.proofs.members.MemberLemmas.{opt-units}
 use Rattle.crs_normal.proofs.read.ViewLemmas.{each-so, without_places-spread, those-looked, view, those-at}
 
 -- ---- a unit of an axis as a plain unit

@@ -13,14 +13,14 @@ use Rattle.crs_normal.specs.PartSpellings.{IsFrame, IsSpelledDatum, IsSpelledEns
 use Rattle.crs_normal.specs.inner.PartTexts.{datum_keyword, datum_text, ensemble_text, frame_text, item_own_datum}
 use Rattle.crs_normal.specs.inner.LowerLaws.{LowerLaws}
 use Rattle.crs_normal.proofs.made.FrameLemmas.{geodetic-frame-made, vertical-frame-made}
-use Rattle.crs_normal.proofs.normal.EnsembleLemmas.{geodetic_ensemble-form, vertical_ensemble-form}
+use Rattle.crs_normal.proofs.normal.GeodeticLemmas.{geodetic_ensemble-form, vertical_ensemble-form}
 use Rattle.crs_normal.proofs.normal.FrameLemmas.{geodetic_datum-form, vertical_datum-form}
 use Rattle.crs_normal.proofs.normal.LeafLemmas.{PlainIsOne}
 use Rattle.crs_normal.proofs.parts.PartLemmas.{IsItsFormSound, good-of}
 use Rattle.crs_normal.proofs.read.DatumLemmas.{ellipsoid-in, geodetic-back, vertical-back}
 use Rattle.crs_normal.proofs.read.FrameLemmas.{datum-read, ensemble-read}
 use Rattle.crs_normal.proofs.texts.WrittenFormLemmas.{IsOneText, written-form}
-use Rattle.crs_normal.proofs.read.NameLemmas.{keyword-names}
+use Rattle.crs_normal.proofs.read.ViewLemmas.{keyword-names}
 use Rattle.crs_normal.proofs.made.NodeLemmas.{IsAcceptedNormal}
 
 -- ---- with an ellipsoid or without

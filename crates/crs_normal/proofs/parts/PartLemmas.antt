@@ -18,7 +18,7 @@ use Rattle.crs_normal.proofs.texts.ItemLemmas.{IsWritable, one-by-text}
 use Rattle.crs_normal.proofs.made.PlaceLemmas.{text-at, placed-twice}
 use Rattle.crs_normal.proofs.texts.WrittenFormLemmas.{written-form}
 use Rattle.crs_normal.proofs.made.NodeLemmas.{IsAcceptedNormal, Stands, fine-as}
-use Rattle.crs_normal.proofs.texts.AcceptedLemmas.{written-at}
+use Rattle.crs_normal.proofs.texts.RootLemmas.{written-at}
 
 -- an item that is accepted as one of its class, and normal in this sense
 abbrev pub IsStanding : Class → (Item → Type 0) → Item → Type 0

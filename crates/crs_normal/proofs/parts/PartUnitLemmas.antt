@@ -11,7 +11,7 @@ use Rattle.crs_normal.specs.inner.Prelude.{unit_class, item_unit, norm_unit}
 use Rattle.crs_normal.proofs.normal.FormLemmas.{Form}
 use Rattle.crs_normal.proofs.normal.LeafLemmas.{PlainIsOne}
 use Rattle.crs_normal.proofs.normal.UnitLemmas.{in-angle, in-length, in-plain, in-scale, unit-form}
-use Rattle.crs_normal.proofs.made.ClassLemmas.{IsKindIn}
+use Rattle.crs_normal.proofs.made.IdentLemmas.{IsKindIn}
 
 pub kind-in : (kind : UnitKind) → IsKindIn (unit_class kind) (kind_as kinds.Plain kind)
 kind-in kinds.Length = refl

@@ -14,13 +14,12 @@ use Rattle.crs_value.specs.declared.values.level.Level.{Level}
 use Rattle.crs_normal.specs.inner.LowerLaws.{LowerLaws}
 use Rattle.crs_normal.specs.PartSpellings.{geodetic_class}
 use Rattle.crs_normal.specs.inner.SpelledCrs.{geodetic_keyword, item_compound, item_crs, item_geodetic, item_horizontal, item_projected, item_vertical, norm_compound, norm_crs, norm_geodetic, norm_horizontal, norm_projected, norm_vertical}
-use Rattle.crs_normal.proofs.read.CrsLemmas.{geodetic-read, projected-read, vertical-read}
+use Rattle.crs_normal.proofs.read.CrsLemmas.{geodetic-read, projected-read, vertical-read, of-tail, tail-read}
 use Rattle.crs_normal.proofs.made.TailLemmas.{compound-names}
-use Rattle.crs_normal.proofs.read.EndLemmas.{of-tail, tail-read}
 use Rattle.crs_normal.proofs.texts.SegmentLemmas.{IsIn, ReadsBack, Seen, Segment, a-text, either-item, if_left, if_right, items_of, lacks, one-field, one-item, placed-at, seen}
-use Rattle.crs_normal.proofs.read.NameLemmas.{keyword-names}
+use Rattle.crs_normal.proofs.read.ViewLemmas.{keyword-names}
 use Rattle.crs_normal.proofs.texts.RootLemmas.{crs_class, is-geodetic}
-use Rattle.crs_normal.proofs.made.GeodeticLemmas.{names-of}
+use Rattle.crs_normal.proofs.made.CompoundLemmas.{names-of}
 
 abbrev compound : Class
 compound = class.CompoundCrs

@@ -13,7 +13,7 @@ use Rattle.crs_normal.specs.inner.SpelledFrames.{item_datum, item_ellipsoid, ite
 use Rattle.crs_normal.specs.inner.LowerLaws.{LowerLaws}
 use Rattle.crs_normal.proofs.read.FrameLemmas.{datum-read, ensemble-read}
 use Rattle.crs_normal.proofs.texts.SegmentLemmas.{IsIn, MayIn, ReadsBack, Seen, Segment, either-item, if_left, if_right, items_of, lacks, placed-at, some-all}
-use Rattle.crs_normal.proofs.read.NameLemmas.{keyword-names}
+use Rattle.crs_normal.proofs.read.ViewLemmas.{keyword-names}
 
 -- the frame is read from its item by the node that is there
 abbrev pub FrameBack : Class → Class → List ℕ → Frame → Type 0

@@ -1,11 +1,11 @@
 -- A shaped node slot by slot: the arguments in each slot, and how those of a class are found among them.
-use Rattle.std.proofs.Common.{◌≡◌, ℕ, zero, suc, ◌≤◌, ◌||◌, length, Bool, true, false, true≢false, IsTrue, IsFalse, Some, List, [], ◌∷◌, ◌++◌, if◌then◌else◌, refl, sym, ◌∙◌, ap, subst, arith, rules}
+use Rattle.std.proofs.Common.{◌≡◌, ℕ, zero, suc, ◌≤◌, ◌||◌, length, Bool, true, false, true≢false, IsTrue, IsFalse, Some, List, [], ◌∷◌, ◌++◌, if◌then◌else◌, refl, sym, ◌∙◌, ap, subst, arith, rules, Option, None}
 use Rattle.std.proofs.lemmas.List.{append-nil}
 use denote.Enum.Bare.{sameb, same_true}
 use Rattle.crs_text.specs.inner.Prelude.{Item, Siblings, End, More}
 use Rattle.crs_shape.specs.contracts.class.Class.{the_type}
 use Rattle.crs_shape.specs.declared.class.Class.{Class}
-use Rattle.crs_shape.specs.inner.Prelude.{AllTaken, Fills, AllFilled, joined, Allowed, Shaped, AreShaped, class_in, SlotParts, optional_of, slots_of, takes, is_class}
+use Rattle.crs_shape.specs.inner.Prelude.{AllTaken, Fills, AllFilled, joined, Allowed, Shaped, AreShaped, class_in, SlotParts, optional_of, slots_of, takes, is_class, first_named, is_keyword, is_one_of, keywords_of, class_named, named_in}
 use Rattle.crs_value.specs.inner.Prelude.{is_a, those}
 use Rattle.crs_normal.proofs.WithoutPlaces.{without_places, all_without_places}
 use Rattle.crs_value.specs.Sound.{Each}
@@ -262,3 +262,39 @@ pub alone : {c : Class} {slot : SlotParts} (front : List Item) → Front c slot 
 alone [] f required single = let h = f.enough required in absurd (omega arith)
 alone (item ∷ []) f required single = (item, refl)
 alone (item ∷ other ∷ others) f required single = let h = f.not_more single in absurd (omega arith)
+
+-- ---- the class that a keyword names among the arguments of another, by computing
+
+-- the first of these classes that has the word among its keywords
+abbrev first_found : List Class → List ℕ → Option Class
+first_found [] word = None
+first_found (c ∷ cs) word = if is_one_of (keywords_of c) word then Some c else first_found cs word
+
+first-named : (cs : List Class) (word : List ℕ) → first_named cs word ≡ first_found cs word
+unfolding is_keyword
+first-named [] word = refl
+first-named (c ∷ cs) word = ap (λ o. if is_one_of (keywords_of c) word then Some c else o) (first-named cs word)
+
+-- the class that is found among the slots
+abbrev or_later : Option Class → Option Class → Option Class
+or_later (Some c) later = Some c
+or_later None later = later
+
+abbrev found_in : List SlotParts → List ℕ → Option Class
+found_in [] word = None
+found_in (s ∷ ss) word = or_later (first_found s.classes word) (found_in ss word)
+
+named-in : (ss : List SlotParts) (word : List ℕ) → named_in ss word ≡ found_in ss word
+named-in [] word = refl
+named-in (s ∷ ss) word =
+    by (named-in ss word) (first_named s.classes word) refl
+    ∙ ap (λ o. or_later o (found_in ss word)) (first-named s.classes word)
+  where
+    by : named_in ss word ≡ found_in ss word → (o : Option Class) → first_named s.classes word ≡ o →
+        named_in (s ∷ ss) word ≡ or_later (first_named s.classes word) (found_in ss word)
+    by rest (Some c) e = rw e refl
+    by rest None e = rw e rest
+
+pub keyword-names : (c : Class) (word : List ℕ) → class_named c word ≡ found_in (slots_of c) word
+unfolding class_named
+keyword-names c word = named-in (slots_of c) word

@@ -6,7 +6,7 @@ use Rattle.crs_normal.specs.inner.SpelledCrs.{item_axis}
 use Rattle.crs_normal.proofs.made.AloneLemmas.{axis-stands}
 use Rattle.crs_normal.proofs.parts.AxisAloneLemmas.{axis-alone-form}
 use Rattle.crs_normal.proofs.parts.PartLemmas.{canonical-by, told-by}
-use Rattle.crs_normal.proofs.read.SystemLemmas.{axis-alone-read}
+use Rattle.crs_normal.proofs.read.FrameLemmas.{axis-alone-read}
 use Rattle.crs_normal.proofs.same.AxisLemmas.{axis-alone-agrees}
 use Rattle.crs_normal.proofs.laws.parts.axes_are_canonical.Goals as goal
 

@@ -1,12 +1,11 @@
 use Rattle.std.proofs.Common.{arith}
 use Rattle.crs_shape.specs.declared.class.Class.TheVariants as class
 use Rattle.crs_normal.specs.inner.SpelledCrs.{item_deformation_model, item_dynamic}
-use Rattle.crs_normal.proofs.made.DynamicLemmas.{dynamic-made}
-use Rattle.crs_normal.proofs.made.NamedLemmas.{deformation-model-made}
-use Rattle.crs_normal.proofs.normal.DynamicLemmas.{dynamic-form}
-use Rattle.crs_normal.proofs.normal.NamedLemmas.{deformation_model-form}
+use Rattle.crs_normal.proofs.made.NamedLemmas.{dynamic-made, deformation-model-made}
+use Rattle.crs_normal.proofs.normal.GeodeticLemmas.{dynamic-form}
+use Rattle.crs_normal.proofs.normal.UnitLemmas.{deformation_model-form}
 use Rattle.crs_normal.proofs.parts.PartLemmas.{canonical-of, unchecked}
-use Rattle.crs_normal.proofs.read.DynamicLemmas.{deformation-model-read, dynamic-read}
+use Rattle.crs_normal.proofs.read.CrsLemmas.{deformation-model-read, dynamic-read}
 use Rattle.crs_normal.proofs.same.DynamicLemmas.{dynamic-agrees}
 use Rattle.crs_normal.proofs.same.PartLemmas.{decides-parts}
 use Rattle.crs_normal.proofs.same.UnitLemmas.{named-agrees}

@@ -1,9 +1,9 @@
 use Rattle.std.proofs.Common.{arith}
 use Rattle.crs_shape.specs.declared.class.Class.TheVariants as class
 use Rattle.crs_normal.specs.inner.SpelledItems.{item_box, item_extent, norm_extent}
-use Rattle.crs_normal.proofs.made.UsageLemmas.{box-made, extent-made}
-use Rattle.crs_normal.proofs.members.ExtentLemmas.{box-read, extent-kept, extent-read}
-use Rattle.crs_normal.proofs.normal.UsageLemmas.{box-form, extent-form}
+use Rattle.crs_normal.proofs.made.TailLemmas.{box-made, extent-made}
+use Rattle.crs_normal.proofs.members.MemberLemmas.{box-read, extent-kept, extent-read}
+use Rattle.crs_normal.proofs.normal.FrameLemmas.{box-form, extent-form}
 use Rattle.crs_normal.proofs.parts.PartLemmas.{canonical-of, unchecked}
 use Rattle.crs_normal.proofs.same.UsageLemmas.{box-agrees, extent-agrees}
 use Rattle.crs_normal.proofs.laws.parts.extents_are_canonical.Goals as goal

@@ -3,17 +3,14 @@ use Rattle.crs_shape.specs.declared.class.Class.TheVariants as class
 use Rattle.crs_normal.specs.inner.SpelledFrames.{item_ellipsoid, item_member, item_meridian, norm_member}
 use Rattle.crs_normal.specs.inner.SpelledCrs.{item_axis_meridian}
 use Rattle.crs_normal.proofs.made.AxisLemmas.{axis-meridian-made}
-use Rattle.crs_normal.proofs.made.EllipsoidLemmas.{ellipsoid-made}
-use Rattle.crs_normal.proofs.made.MeridianLemmas.{meridian-made}
-use Rattle.crs_normal.proofs.made.NamedLemmas.{member-made}
+use Rattle.crs_normal.proofs.made.NamedLemmas.{ellipsoid-made, member-made}
+use Rattle.crs_normal.proofs.made.FrameLemmas.{meridian-made}
 use Rattle.crs_normal.proofs.members.MemberLemmas.{named-kept, named-read}
-use Rattle.crs_normal.proofs.normal.AxisLemmas.{axis_meridian-form}
-use Rattle.crs_normal.proofs.normal.EllipsoidLemmas.{ellipsoid-form, meridian-form}
-use Rattle.crs_normal.proofs.normal.NamedLemmas.{member-form}
+use Rattle.crs_normal.proofs.normal.UnitLemmas.{axis_meridian-form, member-form}
+use Rattle.crs_normal.proofs.normal.FrameLemmas.{ellipsoid-form, meridian-form}
 use Rattle.crs_normal.proofs.parts.PartLemmas.{canonical-of, unchecked}
-use Rattle.crs_normal.proofs.read.FrameLemmas.{ellipsoid-read, given-read}
-use Rattle.crs_normal.proofs.read.NameLemmas.{keyword-names}
-use Rattle.crs_normal.proofs.read.SystemLemmas.{axis-meridian-read}
+use Rattle.crs_normal.proofs.read.FrameLemmas.{ellipsoid-read, given-read, axis-meridian-read}
+use Rattle.crs_normal.proofs.read.ViewLemmas.{keyword-names}
 use Rattle.crs_normal.proofs.same.AxisLemmas.{axis-meridian-agrees}
 use Rattle.crs_normal.proofs.same.FrameLemmas.{ellipsoid-agrees, given-agrees}
 use Rattle.crs_normal.proofs.same.PartLemmas.{decides-parts}

@@ -5,11 +5,11 @@ use Rattle.crs_value.specs.inner.Prelude.{ReadsUnit}
 use Rattle.crs_same.specs.inner.Prelude.{kind_as}
 use Rattle.crs_normal.specs.PartSpellings.{unit_class}
 use Rattle.crs_normal.specs.inner.SpelledItems.{item_unit, norm_unit}
-use Rattle.crs_normal.proofs.made.UnitLemmas.{unit-made}
-use Rattle.crs_normal.proofs.members.MemberUnitLemmas.{unit-kept, unit-read}
+use Rattle.crs_normal.proofs.made.IdentLemmas.{unit-made}
+use Rattle.crs_normal.proofs.members.MemberLemmas.{unit-kept, unit-read}
 use Rattle.crs_normal.proofs.parts.PartLemmas.{canonical-by, good-of, made-stands, told-by}
 use Rattle.crs_normal.proofs.parts.PartUnitLemmas.{is-unit_class, kind-in, names-id, own-unit}
-use Rattle.crs_normal.proofs.read.NameLemmas.{keyword-names}
+use Rattle.crs_normal.proofs.read.ViewLemmas.{keyword-names}
 use Rattle.crs_normal.proofs.same.UnitLemmas.{unit-agrees}
 use Rattle.crs_normal.proofs.laws.parts.units_are_canonical.Goals as goal
 

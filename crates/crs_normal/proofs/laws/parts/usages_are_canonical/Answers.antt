@@ -2,9 +2,9 @@ use Rattle.std.proofs.Common.{arith}
 use Rattle.crs_shape.specs.declared.class.Class.TheVariants as class
 use Rattle.crs_value.specs.declared.values.level.Level.TheVariants as levels
 use Rattle.crs_normal.specs.inner.SpelledItems.{item_usage, norm_usage}
-use Rattle.crs_normal.proofs.made.UsageLemmas.{usage-made}
-use Rattle.crs_normal.proofs.members.UsageLemmas.{usage-kept, usage-read}
-use Rattle.crs_normal.proofs.normal.UsageLemmas.{usage-form}
+use Rattle.crs_normal.proofs.made.TailLemmas.{usage-made}
+use Rattle.crs_normal.proofs.members.MemberLemmas.{usage-kept, usage-read}
+use Rattle.crs_normal.proofs.normal.FrameLemmas.{usage-form}
 use Rattle.crs_normal.proofs.parts.PartLemmas.{canonical-of, unchecked}
 use Rattle.crs_normal.proofs.same.UsageLemmas.{usage-agrees}
 use Rattle.crs_normal.proofs.laws.parts.usages_are_canonical.Goals as goal

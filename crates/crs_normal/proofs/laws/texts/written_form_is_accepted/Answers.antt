@@ -1,6 +1,6 @@
 use Rattle.crs_normal.proofs.made.CrsLemmas.{crs-made}
 use Rattle.crs_normal.proofs.read.CompoundLemmas.{crs-read}
-use Rattle.crs_normal.proofs.texts.AcceptedLemmas.{form-spells}
+use Rattle.crs_normal.proofs.texts.RootLemmas.{form-spells}
 use Rattle.crs_normal.proofs.laws.texts.written_form_is_accepted.Goals as goal
 
 pub returns : goal.returns
