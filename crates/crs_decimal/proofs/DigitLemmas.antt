@@ -1,4 +1,4 @@
--- What the mantissa that is kept shows of the digits that were read.
+-- The number that digits spell, and what the mantissa that is kept shows of those that were read.
 use Rattle.std.proofs.Common.{◌≡◌, ◌≢◌, ℕ, ◌+◌, ◌-◌, ◌*◌, ◌%◌, ◌^◌, ◌<◌, ◌≤◌, ◌⊎◌, inl, inr, Bool, true, false, List, [], ◌∷◌, fold, refl, sym, ap, ◌∙◌, arith, zero, suc, nat_le, ◌++◌, length, replicate, Option, None, subst, zero-add}
 use Rattle.std.specs.List.{list_all}
 use Rattle.std.proofs.lemmas.Bool.{and_parts, cases_eq, leb-true}

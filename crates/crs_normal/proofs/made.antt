@@ -10,9 +10,9 @@ pub mod FrameLemmas
 pub mod FrontLemmas
 pub mod IdentLemmas
 pub mod LeafLemmas
-pub mod NamedLemmas
 pub mod NodeLemmas
+pub mod PartLemmas
 pub mod PlaceLemmas
+pub mod SingleLemmas
 pub mod SystemLemmas
 pub mod TailLemmas
-pub mod VerticalLemmas

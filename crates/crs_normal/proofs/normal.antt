@@ -3,11 +3,11 @@ pub mod CompoundLemmas
 pub mod DimensionLemmas
 pub mod FormLemmas
 pub mod FrameLemmas
-pub mod GeodeticLemmas
 pub mod HeadLemmas
 pub mod IdentLemmas
 pub mod LeafLemmas
 pub mod LevelLemmas
+pub mod SingleLemmas
 pub mod TailLemmas
 pub mod TextLemmas
 pub mod UnitLemmas

@@ -1,4 +1,4 @@
--- Names and units that are written by rules are accepted.
+-- Names, units and parts of CRSs that are written by rules are accepted.
 use Rattle.std.proofs.Common.{◌≡◌, ℕ, Bool, true, false, Option, Some, None, List, [], ◌∷◌, IfSome, refl, if◌then◌else◌, arith, ◌≢◌, IsSome, IsNone, map}
 use Rattle.crs_shape.specs.declared.class.Class.{Class}
 use Rattle.crs_shape.specs.declared.unit_kind.UnitKind.{UnitKind}

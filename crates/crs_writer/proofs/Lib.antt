@@ -2,14 +2,14 @@ pub mod AnswerLemmas
 pub mod AxisLemmas
 pub mod ChainLemmas
 pub mod CopiedLemmas
-pub mod CopiedUsageLemmas
+pub mod CopiedPartLemmas
 pub mod CopyLemmas
+pub mod CountedAxisLemmas
 pub mod EncloseLemmas
 pub mod FlatLemmas
 pub mod FlatNodeLemmas
 pub mod FoundLemmas
 pub mod GatherLemmas
-pub mod CountedAxisLemmas
 pub mod NodeTextLemmas
 pub mod NothingWrittenLemmas
 pub mod NumberLemmas

@@ -1,4 +1,4 @@
--- Axes as they are looked up and written.
+-- Axes as they are looked up and written, and what is written of nodes straight from their items.
 use Rattle.std.proofs.Common.{◌≡◌, ℕ, suc, ◌+◌, List, [], ◌∷◌, ◌++◌, Option, Some, None, codes, refl, sym, ap, ◌∙◌, subst, append_assoc}
 use Rattle.crs_text.specs.inner.Prelude.{Siblings, End, More, item_text, others_text, Item}
 use Rattle.crs_shape.specs.inner.Prelude.{asked_kind, direction_word}

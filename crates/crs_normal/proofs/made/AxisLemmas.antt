@@ -16,7 +16,7 @@ use Rattle.crs_same.specs.inner.Prelude.{own_or}
 use Rattle.crs_normal.specs.inner.LowerLaws.{LowerLaws}
 use Rattle.crs_normal.specs.inner.Prelude.{number_node, word_item, each, opt, text_item, item_unit, norm_unit, whole_value, item_ident, norm_units, set_idents}
 use Rattle.crs_normal.specs.inner.SpelledCrs.{item_axis, item_axis_meridian, norm_axis, norm_axis_meridian, norm_axis_meridians}
-use Rattle.crs_normal.proofs.made.NamedLemmas.{unit-argument}
+use Rattle.crs_normal.proofs.made.PartLemmas.{unit-argument}
 use Rattle.crs_normal.proofs.made.IdentLemmas.{ids-of, ids-orderly, IsKindIn}
 use Rattle.crs_normal.proofs.made.LeafLemmas.{word-made}
 use Rattle.crs_normal.proofs.made.NodeLemmas.{IsAcceptedNormal, Made, as-argument, none-orderly}

@@ -16,7 +16,7 @@ use Rattle.crs_normal.specs.Normal.{AreOrdered, Has, HasAxes, numbers_in}
 use Rattle.crs_normal.specs.inner.Prelude.{number_item, number_node, word_item, item_unit, whole_value}
 use Rattle.crs_normal.proofs.read.ViewLemmas.{each-so}
 use Rattle.crs_normal.proofs.made.AxisLemmas.{IsAxisItem, whole-normal}
-use Rattle.crs_normal.proofs.made.NamedLemmas.{placed-some}
+use Rattle.crs_normal.proofs.made.PartLemmas.{placed-some}
 use Rattle.crs_normal.proofs.made.PlaceLemmas.{ArePlaced, none-of, same-of}
 use Rattle.crs_normal.proofs.made.SystemLemmas.{AreAxisItems, IsHeadItem}
 use Rattle.crs_normal.proofs.made.IdentLemmas.{reads-one}

@@ -1,4 +1,4 @@
--- Geodetic and geographic CRSs are made.
+-- Geodetic, geographic and compound CRSs are made, and with them all CRSs.
 use Rattle.std.proofs.Common.{◌≡◌, ◌≢◌, ℕ, IsTrue, Some, List, [], ◌∷◌, codes, refl, sym, subst, ◌∙◌, arith, true, drop, Bool, false}
 use Rattle.crs_decimal.specs.inner.Prelude.{Value, SameNumber, whole_number, IsNormal, exact}
 use Rattle.crs_text.specs.inner.Prelude.{Item, arguments, raw_of, RefusedAt, IsWord, at_place, More}
@@ -17,7 +17,7 @@ use Rattle.crs_normal.proofs.made.SystemLemmas.{IsFew, IsHeadItem}
 use Rattle.crs_normal.proofs.made.TailLemmas.{NamesSystem, few-system, system-seen, behind_arguments, Shows, tail-seen, tail_classes, NamesTail, tail_arguments, tail-orderly, IsTailSeen, has-tail, no-repeats, tail_runs, compound-names}
 use Rattle.crs_normal.proofs.read.ViewLemmas.{each-so, keyword-names}
 use Rattle.crs_normal.proofs.made.CheckLemmas.{IsSystemSeen, IsSystemIn, first-number, word-type}
-use Rattle.crs_normal.proofs.made.NamedLemmas.{dynamic-of}
+use Rattle.crs_normal.proofs.made.PartLemmas.{dynamic-of}
 use Rattle.crs_normal.proofs.made.FrameLemmas.{geodetic-frame-made, meridian-of}
 use Rattle.crs_normal.proofs.made.FrontLemmas.{NamesFrame, meridian-there, crs-node-made, frame-named, frame-fits, frame-seen}
 use Rattle.crs_normal.proofs.made.NodeLemmas.{IsAcceptedNormal, Sees, Made, Run, alone, as-argument, views, IsFree}
@@ -26,7 +26,7 @@ use Rattle.crs_normal.proofs.normal.DimensionLemmas.{small-geodetic}
 use Rattle.crs_normal.proofs.made.ArgumentLemmas.{Argument, arguments-seen, text-of, node-of, as_runs, one-of, made-of}
 use Rattle.std.proofs.Math.Logic.{⊎_elim}
 use Rattle.crs_value.specs.declared.values.compound.Horizontal.{Horizontal}
-use Rattle.crs_normal.proofs.made.VerticalLemmas.{projected-made, projected-seen, vertical-made}
+use Rattle.crs_normal.proofs.made.SingleLemmas.{projected-made, projected-seen, vertical-made}
 use Rattle.crs_shape.specs.declared.class.Class.TheVariants as class
 use Rattle.crs_shape.specs.declared.system_type.SystemType.TheVariants as types
 use Rattle.crs_value.specs.declared.values.compound.Horizontal.TheVariants as horizontal

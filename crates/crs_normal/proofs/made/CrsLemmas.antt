@@ -10,7 +10,7 @@ use Rattle.crs_normal.specs.inner.LowerLaws.{LowerLaws}
 use Rattle.crs_normal.specs.inner.Prelude.{IsNormalText, item_crs, norm_crs}
 use Rattle.crs_normal.proofs.made.CompoundLemmas.{compound-made, geodetic-made}
 use Rattle.crs_normal.proofs.made.PlaceLemmas.{text-at}
-use Rattle.crs_normal.proofs.made.VerticalLemmas.{projected-made, vertical-made}
+use Rattle.crs_normal.proofs.made.SingleLemmas.{projected-made, vertical-made}
 use Rattle.crs_normal.proofs.texts.RootLemmas.{crs_class, crs-rooted, made-stands}
 use Rattle.crs_normal.proofs.made.NodeLemmas.{IsAcceptedNormal, fine-as}
 

@@ -1,4 +1,4 @@
--- Datums, ensembles, and so frames of either sort, are made.
+-- Datums, ensembles, frames of either sort, prime meridians and conversions are made.
 use Rattle.std.proofs.Common.{ℕ, Option, Some, None, [], ◌∷◌, map, codes, IfSome, IsNone, IsSome, refl, arith, ◌++◌, List, drop, inl, inr, ◌≡◌, subst, ◌<◌, ◌≤◌, Bool, true, false, if◌then◌else◌, sym, ap, ◌∙◌, IsUtf8}
 use Rattle.crs_text.specs.inner.Prelude.{at_place, Item, Siblings, arguments, RefusedAt, raw_of}
 use Rattle.crs_shape.specs.inner.Prelude.{is_keyword, class_named, optional_of, takes}
@@ -8,7 +8,7 @@ use Rattle.crs_value.specs.inner.Prelude.{IsEllipsoid, IsEnsemble, IsGeodeticFra
 use Rattle.crs_normal.specs.inner.LowerLaws.{LowerLaws}
 use Rattle.crs_normal.specs.inner.SpelledFrames.{item_ellipsoid, item_ensemble, item_frame, item_member, norm_ellipsoid, norm_ensemble, norm_frame, norm_member, set_members, greenwich, is_zero, item_meridian, norm_given, norm_meridian}
 use Rattle.crs_normal.proofs.made.AscendLemmas.{set-ascends}
-use Rattle.crs_normal.proofs.made.NamedLemmas.{ellipsoid-made, given-unit, member-made, method-made}
+use Rattle.crs_normal.proofs.made.PartLemmas.{ellipsoid-made, given-unit, member-made, method-made}
 use Rattle.crs_normal.proofs.made.IdentLemmas.{ids-of, ids-orderly, ids_run, geodetic_frame_class, vertical_frame_class, IsKindIn, unit-made}
 use Rattle.crs_normal.proofs.made.NodeLemmas.{IsAcceptedNormal, IsOrderly, given, Made, as-argument, IsFree}
 use Rattle.crs_normal.proofs.made.ArgumentLemmas.{made-of, one-number, text-of, node-of, set-of, may-number, may-text, may-of, number-of, Argument}

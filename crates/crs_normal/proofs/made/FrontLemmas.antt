@@ -16,7 +16,7 @@ use Rattle.crs_normal.specs.inner.SpelledFrames.{greenwich, item_frame, item_mer
 use Rattle.crs_normal.specs.inner.SpelledItems.{node_of}
 use Rattle.crs_normal.proofs.made.SystemLemmas.{IsFew}
 use Rattle.crs_normal.proofs.made.TailLemmas.{Shows, behind, crs_classes, system-seen, tail-seen, has-tail, no-repeats}
-use Rattle.crs_normal.proofs.made.NamedLemmas.{placed-some, IsSteady, dynamic_classes, dynamic_run, no-bad-dynamic}
+use Rattle.crs_normal.proofs.made.PartLemmas.{placed-some, IsSteady, dynamic_classes, dynamic_run, no-bad-dynamic}
 use Rattle.crs_normal.proofs.made.NodeLemmas.{IsAcceptedNormal, IsOrderly, Run, Sees, alone, given, items_in, none-shown, views, IsFree}
 use Rattle.crs_normal.proofs.made.ArgumentLemmas.{Argument, as_runs, fit, lay, made-of}
 use Rattle.crs_normal.proofs.made.PlaceLemmas.{ArePlaced}

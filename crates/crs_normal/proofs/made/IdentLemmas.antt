@@ -1,4 +1,4 @@
--- Identifiers and lists of them are made.
+-- Identifiers and lists of them, and units, are made; the classes as which frames are made.
 use Rattle.std.proofs.Common.{◌≡◌, ℕ, ◌+◌, ◌≤◌, true, Option, Some, None, List, [], ◌∷◌, ◌++◌, map, drop, codes, IfSome, inl, inr, refl, sym, subst, arith, ◌⊎◌}
 use Rattle.std.proofs.lemmas.List.{append-nil}
 use Rattle.crs_text.specs.inner.Prelude.{Item, leaf, End, More, skip, Kind, number, text, word, at_place, at_places, item_text, arguments, RefusedAt, IsWord}

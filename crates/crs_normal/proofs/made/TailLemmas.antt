@@ -1,4 +1,4 @@
--- Boxes, extents and usages are made.
+-- Boxes, extents, usages, and what CRSs have after their other parts, are made.
 use Rattle.std.proofs.Common.{◌≡◌, ◌≢◌, ℕ, suc, Some, List, [], ◌∷◌, codes, refl, arith, IsTrue, true, ◌≤◌, ◌++◌, Option, None, map, drop, IfSome, ap, length, sym, subst, ◌∙◌}
 use Rattle.crs_text.specs.inner.Prelude.{Item, Siblings, End, More, arguments, IsNode, at_place, RefusedAt, IsWord, item_text}
 use Rattle.crs_shape.specs.declared.class.Class.{Class}
@@ -7,7 +7,7 @@ use Rattle.crs_value.specs.declared.values.level.Level.{Level}
 use Rattle.crs_value.specs.inner.Prelude.{those, IsBox, IsExtent, IsUsage, BoxParts, ExtentParts, SaysSome, UsageParts, Own as BreaksOwn, once, kept, kept_one, kept-each, kept-if_some, kept-made, kept-made_one, RepeatsAny, IsText, IsTail, TailParts, IsSystem, SystemParts}
 use Rattle.crs_normal.specs.inner.LowerLaws.{LowerLaws}
 use Rattle.crs_normal.specs.inner.Prelude.{node_from, item_unit, norm_length, item_box, item_extent, item_usage, norm_extent, norm_usage, in_order, text_node, set_usages, axes_from, item_axis, item_head, norm_system}
-use Rattle.crs_normal.proofs.made.NamedLemmas.{length-argument, placed-some}
+use Rattle.crs_normal.proofs.made.PartLemmas.{length-argument, placed-some}
 use Rattle.crs_normal.proofs.made.NodeLemmas.{IsAcceptedNormal, IsOrderly, as-argument, none-orderly, Made, Run, given, alone, items_in}
 use Rattle.crs_normal.proofs.made.ArgumentLemmas.{Argument, as_runs, fit, lay, made-of, may-of, may-text, number-of, one-of, may-node, each-of, a-text, node-of}
 use Rattle.crs_normal.specs.Normal.{IsFirstKeyword, HasOwnForm, Ascend, HasTail, Rise, Lacks, bare_classes}

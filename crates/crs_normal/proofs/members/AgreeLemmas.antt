@@ -13,7 +13,7 @@ use Rattle.crs_normal.specs.inner.LowerLaws.{LowerLaws}
 use Rattle.crs_normal.specs.inner.Prelude.{item_geoid_model, item_ident, item_member, item_parameter, item_usage, norm_geoid_model, norm_member, norm_parameter, norm_usage, set_geoid_models, set_idents, set_members, set_parameters, set_usages}
 use Rattle.crs_normal.proofs.made.FrameLemmas.{parameter-made}
 use Rattle.crs_normal.proofs.made.IdentLemmas.{ident-made}
-use Rattle.crs_normal.proofs.made.NamedLemmas.{geoid-model-made, member-made}
+use Rattle.crs_normal.proofs.made.PartLemmas.{geoid-model-made, member-made}
 use Rattle.crs_normal.proofs.made.TailLemmas.{usage-made}
 use Rattle.crs_normal.proofs.members.IdentLemmas.{ident-agrees, ident-read}
 use Rattle.crs_normal.proofs.members.MemberLemmas.{named-kept, named-read, usage-kept, usage-read}

@@ -1,4 +1,4 @@
--- Units within the members of sets: their items read as them wherever they are.
+-- Members of sets and their units, boxes and extents: their items read as them wherever they are.
 use Rattle.std.proofs.Common.{ap, ◌∙◌, ◌≡◌, ℕ, ◌+◌, codes, Some, List, [], ◌∷◌, length, refl, map, ◌++◌, ◌≢◌, drop, Option, None, subst, IfSome, ◌⊎◌, IsSome, option_map, inl, inr, arith}
 use Rattle.crs_decimal.specs.inner.Prelude.{Value, IsNormal}
 use Rattle.crs_text.specs.inner.Prelude.{Item, at_place, Siblings, More, arguments, End, IsNode}

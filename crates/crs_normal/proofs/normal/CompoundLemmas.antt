@@ -14,7 +14,7 @@ use Rattle.crs_normal.specs.inner.SpelledCrs.{item_compound, item_crs, item_hori
 use Rattle.crs_normal.specs.inner.LowerLaws.{LowerLaws}
 use Rattle.crs_normal.proofs.normal.CheckedLemmas.{Checked, IsUnbroken, by-class, first-checked, first-or-none, unbroken-by-slots, unbroken-in}
 use Rattle.crs_normal.proofs.normal.FormLemmas.{Form, IsGood, Looked, Opened, front_in, good-in, one-in, only-in, spelled-by}
-use Rattle.crs_normal.proofs.normal.GeodeticLemmas.{geodetic-form, geographic-form, projected-form, vertical-form}
+use Rattle.crs_normal.proofs.normal.SingleLemmas.{geodetic-form, geographic-form, projected-form, vertical-form}
 use Rattle.crs_normal.proofs.normal.LeafLemmas.{text-form}
 use Rattle.crs_normal.proofs.members.MemberLemmas.{Alone}
 use Rattle.crs_normal.proofs.normal.TailLemmas.{plain_tail-in}

@@ -1,4 +1,4 @@
--- Normal ellipsoids and prime meridians are the one form of their values.
+-- Normal ellipsoids, prime meridians, reference frames and usages are the one form of their values.
 use Rattle.std.proofs.Common.{◌≡◌, ℕ, Bool, true, Option, None, List, [], ◌∷◌, if◌then◌else◌, codes, refl, ◌∙◌, ap, arith}
 use Rattle.crs_decimal.specs.inner.Prelude.{plain, Value, IsNormal, zero}
 use Rattle.crs_text.specs.inner.Prelude.{Item, Siblings, arguments, End}

@@ -1,4 +1,4 @@
--- Normal units and lists of identifiers are the one form of their values.
+-- Normal units, lists of identifiers, axes and named nodes are the one form of their values.
 use Rattle.std.proofs.Common.{◌≡◌, ℕ, inl, inr, List, refl, sym, ◌∙◌, ap, subst, map-id, map, true, Option, Some, None, [], ◌∷◌, append-nil, codes, decimal, arith, ◌≤◌, length}
 use Rattle.crs_text.specs.inner.Prelude.{Item, Siblings, arguments, item_text, raw_of, leaf, node, End, More, number, word, RefusedAt}
 use Rattle.crs_shape.specs.declared.class.Class.{Class}

@@ -13,7 +13,7 @@ use Rattle.crs_normal.specs.PartSpellings.{IsFrame, IsSpelledDatum, IsSpelledEns
 use Rattle.crs_normal.specs.inner.PartTexts.{datum_keyword, datum_text, ensemble_text, frame_text, item_own_datum}
 use Rattle.crs_normal.specs.inner.LowerLaws.{LowerLaws}
 use Rattle.crs_normal.proofs.made.FrameLemmas.{geodetic-frame-made, vertical-frame-made}
-use Rattle.crs_normal.proofs.normal.GeodeticLemmas.{geodetic_ensemble-form, vertical_ensemble-form}
+use Rattle.crs_normal.proofs.normal.SingleLemmas.{geodetic_ensemble-form, vertical_ensemble-form}
 use Rattle.crs_normal.proofs.normal.FrameLemmas.{geodetic_datum-form, vertical_datum-form}
 use Rattle.crs_normal.proofs.normal.LeafLemmas.{PlainIsOne}
 use Rattle.crs_normal.proofs.parts.PartLemmas.{IsItsFormSound, good-of}

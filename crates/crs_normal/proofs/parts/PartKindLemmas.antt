@@ -19,7 +19,7 @@ use Rattle.crs_normal.specs.inner.PartTexts.{geodetic_text, horizontal_text, pro
 use Rattle.crs_normal.specs.inner.SpelledCrs.{item_crs, item_geodetic, norm_crs, norm_geodetic}
 use Rattle.crs_normal.proofs.normal.CheckedLemmas.{Checked}
 use Rattle.crs_normal.proofs.normal.FormLemmas.{Form}
-use Rattle.crs_normal.proofs.normal.GeodeticLemmas.{geodetic-form, geographic-form}
+use Rattle.crs_normal.proofs.normal.SingleLemmas.{geodetic-form, geographic-form}
 use Rattle.crs_normal.proofs.texts.WrittenFormLemmas.{IsOneText, written-form}
 
 pub own-geodetic : LowerLaws → (level : Level) (t : SystemType) →

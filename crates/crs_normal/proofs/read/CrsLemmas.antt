@@ -1,4 +1,4 @@
--- Frames, systems and ends of CRSs are read back from the arguments of a CRS, and conversions from their items.
+-- CRSs of one kind in their one form, and the parts that they share, are read back from their items.
 use Rattle.std.proofs.Common.{◌≡◌, ◌+◌, codes, List, [], ◌∷◌, length, refl, map, ◌++◌, ◌≤◌, arith, Option, Some, ℕ}
 use Rattle.crs_text.specs.inner.Prelude.{Item, at_place, item_text}
 use Rattle.crs_shape.specs.declared.class.Class.{Class}
@@ -165,7 +165,7 @@ dynamic-field laws look level o f s same =
     opt-field look class.Dynamic item_dynamic _ _ same
     (some-mapped _ _ _ (dynamic-read laws level) o (dynamics-sound o f s))
 
--- ---- cRSs of one kind in their one form are read back from their items
+-- ---- CRSs of one kind in their one form are read back from their items
 
 -- ---- the axes are at most three
 

@@ -1,4 +1,4 @@
--- Ellipsoids, prime meridians, reference frames and ensembles in their one form are read back from their items.
+-- Ellipsoids, prime meridians, reference frames, ensembles and coordinate systems in their one form are read back from their items.
 use Rattle.std.proofs.Common.{◌≡◌, ℕ, ◌+◌, codes, IfSome, Option, Some, None, List, [], ◌∷◌, length, refl, if◌then◌else◌, Bool, true, false, map, ◌++◌, ◌≢◌, suc, zero, ◌≤◌, arith, inl, inr}
 use Rattle.std.specs.Option.{option_map}
 use Rattle.crs_text.specs.inner.Prelude.{Item, at_place, item_text}

@@ -1,4 +1,4 @@
--- By which keyword a CRS is written, and which class that names at the root of a text.
+-- The written form of a CRS is an accepted text; by which keyword it is written, and which class that names at the root.
 use Rattle.std.proofs.Common.{◌≡◌, ℕ, Some, refl, ◌↔◌, ◌∙◌, None, sym, subst, arith, inl, inr}
 use Rattle.crs_text.specs.inner.Prelude.{at_place, Item, RefusedAt, SpellsNode, WrittenSpells, item_text}
 use Rattle.crs_shape.specs.declared.class.Class.{Class}

@@ -1,4 +1,4 @@
--- What is left begins with one token at most, and no flaw beside it.
+-- Tokens from a text's front: one list at most, one fault at most, and no token beside a flaw.
 use Rattle.std.proofs.Common.{◌≡◌, ℕ, ◌+◌, Bool, true, false, ◌==◌, cond, List, [], ◌∷◌, ◌++◌, length, Option, Some, None, refl, sym, ap, ◌∙◌, append_assoc, arith, IsTrue, ◌<◌, subst, inl, inr, ◌⊎◌}
 use Rattle.std.specs.List.{list_all}
 use Rattle.std.proofs.lemmas.Bool.Decides.{nat_tests}

@@ -1,4 +1,4 @@
--- A check over the items of one class, one after another.
+-- Checks over the items of one class, one after another, and of coordinate systems and the orders of axes.
 use Rattle.std.proofs.Common.{◌≡◌, ℕ, length, true, false, Option, Some, None, take, drop, List, [], ◌∷◌, ◌++◌, sym, ◌∙◌, ap, subst, arith, append_assoc, suc, ◌*◌, ◌≤◌, Bool, if◌then◌else◌, ◌≢◌, zero, ◌+◌, ◌<◌, IsTrue, ◌↔◌, inl, inr, ◌⊎◌, ⊎_elim, refl, length-append}
 use Rattle.crs_decimal.specs.inner.Prelude.{Denotes, Value, IsNormal, exact, SameNumber, whole_number, Number}
 use Rattle.crs_text.specs.inner.Prelude.{Item, arguments, rest_of, raw_of, here, RefusedAt, Siblings, End, More, count}

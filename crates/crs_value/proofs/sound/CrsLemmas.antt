@@ -1,4 +1,4 @@
--- What sound usages and ends of CRSs say is sound.
+-- What sound usages, conversions, dynamic parts and CRSs say is sound.
 use Rattle.std.proofs.Common.{◌≡◌, ◌≢◌, ℕ, ◌+◌, ◌≤◌, Bool, true, false, ◌||◌, not, IsTrue, drop, Option, Some, None, List, [], ◌∷◌, refl, ◌∙◌, ap, arith, IfSome, IsSome, inl, inr, IsNone}
 use Rattle.crs_text.specs.inner.Prelude.{Item, leaf, node, More, arguments, RefusedAt}
 use Rattle.crs_shape.specs.declared.class.Class.{Class}

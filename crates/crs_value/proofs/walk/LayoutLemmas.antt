@@ -1,4 +1,4 @@
--- Axes one after another, with what is seen of them.
+-- A CRS whose parts were found by the walk for its shape: what is seen of its axes and of its coordinate system.
 use Rattle.std.proofs.Common.{◌≡◌, ℕ, ◌+◌, length, true, false, Option, Some, None, List, [], ◌∷◌, ◌++◌, refl, sym, ◌∙◌, ap, subst, length-append, arith, Bool, not, append_assoc, ◌≤◌, IsTrue}
 use Rattle.crs_text.specs.inner.Prelude.{Item, Siblings, End, More, arguments, rest_of, here, HasId, IsAt, RefusedAt}
 use Rattle.crs_shape.specs.declared.system_type.SystemType.{SystemType}

@@ -2,7 +2,7 @@ use Rattle.std.proofs.Common.{arith, codes}
 use Rattle.crs_shape.specs.declared.class.Class.TheVariants as class
 use Rattle.crs_normal.specs.inner.SpelledCrs.{item_conversion, item_geoid_model, item_method, item_parameter, norm_geoid_model, norm_parameter}
 use Rattle.crs_normal.proofs.made.FrameLemmas.{conversion-made, parameter-made}
-use Rattle.crs_normal.proofs.made.NamedLemmas.{geoid-model-made, method-made}
+use Rattle.crs_normal.proofs.made.PartLemmas.{geoid-model-made, method-made}
 use Rattle.crs_normal.proofs.members.MemberLemmas.{named-kept, named-read}
 use Rattle.crs_normal.proofs.members.ParameterLemmas.{parameter-kept, parameter-read}
 use Rattle.crs_normal.proofs.normal.UnitLemmas.{conversion-form, geoid_model-form, method-form, parameter-form}

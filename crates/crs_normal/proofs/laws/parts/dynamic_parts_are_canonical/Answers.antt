@@ -1,8 +1,8 @@
 use Rattle.std.proofs.Common.{arith}
 use Rattle.crs_shape.specs.declared.class.Class.TheVariants as class
 use Rattle.crs_normal.specs.inner.SpelledCrs.{item_deformation_model, item_dynamic}
-use Rattle.crs_normal.proofs.made.NamedLemmas.{dynamic-made, deformation-model-made}
-use Rattle.crs_normal.proofs.normal.GeodeticLemmas.{dynamic-form}
+use Rattle.crs_normal.proofs.made.PartLemmas.{dynamic-made, deformation-model-made}
+use Rattle.crs_normal.proofs.normal.SingleLemmas.{dynamic-form}
 use Rattle.crs_normal.proofs.normal.UnitLemmas.{deformation_model-form}
 use Rattle.crs_normal.proofs.parts.PartLemmas.{canonical-of, unchecked}
 use Rattle.crs_normal.proofs.read.CrsLemmas.{deformation-model-read, dynamic-read}

@@ -3,7 +3,7 @@ use Rattle.crs_shape.specs.declared.class.Class.TheVariants as class
 use Rattle.crs_normal.specs.inner.SpelledFrames.{item_ellipsoid, item_member, item_meridian, norm_member}
 use Rattle.crs_normal.specs.inner.SpelledCrs.{item_axis_meridian}
 use Rattle.crs_normal.proofs.made.AxisLemmas.{axis-meridian-made}
-use Rattle.crs_normal.proofs.made.NamedLemmas.{ellipsoid-made, member-made}
+use Rattle.crs_normal.proofs.made.PartLemmas.{ellipsoid-made, member-made}
 use Rattle.crs_normal.proofs.made.FrameLemmas.{meridian-made}
 use Rattle.crs_normal.proofs.members.MemberLemmas.{named-kept, named-read}
 use Rattle.crs_normal.proofs.normal.UnitLemmas.{axis_meridian-form, member-form}

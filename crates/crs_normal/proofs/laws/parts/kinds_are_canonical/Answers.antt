@@ -3,9 +3,9 @@ use Rattle.crs_shape.specs.declared.class.Class.TheVariants as class
 use Rattle.crs_normal.specs.PartSpellings.{geodetic_class}
 use Rattle.crs_normal.specs.inner.SpelledCrs.{item_base, item_compound, item_geodetic, item_projected, item_vertical}
 use Rattle.crs_normal.proofs.made.CompoundLemmas.{compound-made, geodetic-made, names-of}
-use Rattle.crs_normal.proofs.made.VerticalLemmas.{base-made, projected-made, vertical-made}
+use Rattle.crs_normal.proofs.made.SingleLemmas.{base-made, projected-made, vertical-made}
 use Rattle.crs_normal.proofs.normal.CompoundLemmas.{compound-form}
-use Rattle.crs_normal.proofs.normal.GeodeticLemmas.{base-form, projected-form, vertical-form}
+use Rattle.crs_normal.proofs.normal.SingleLemmas.{base-form, projected-form, vertical-form}
 use Rattle.crs_normal.proofs.parts.PartKindLemmas.{geodetic-told, own-geodetic}
 use Rattle.crs_normal.proofs.parts.PartLemmas.{canonical-by, canonical-of, good-of, made-stands}
 use Rattle.crs_normal.proofs.read.CompoundLemmas.{compound-read}

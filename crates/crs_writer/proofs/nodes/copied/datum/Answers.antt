@@ -1,5 +1,5 @@
 use Rattle.std.proofs.Common.{rules}
-use Rattle.crs_writer.proofs.CopiedUsageLemmas.{IsPlainDatum, datum-copied}
+use Rattle.crs_writer.proofs.CopiedPartLemmas.{IsPlainDatum, datum-copied}
 use Rattle.crs_writer.specs.inner.Node.{item}
 use Rattle.crs_writer.proofs.nodes.copied.datum.Goals as goal
 

@@ -1,5 +1,5 @@
 use Rattle.std.proofs.Common.{rules}
-use Rattle.crs_writer.proofs.CopiedUsageLemmas.{IsPlainUsage, usage-copied}
+use Rattle.crs_writer.proofs.CopiedPartLemmas.{IsPlainUsage, usage-copied}
 use Rattle.crs_writer.specs.inner.Node.{item}
 use Rattle.crs_writer.proofs.nodes.copied.usage.Goals as goal
 

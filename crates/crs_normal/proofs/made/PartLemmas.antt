@@ -1,4 +1,4 @@
--- Nodes of a name and identifiers are made: members, methods, geoid models and deformation models.
+-- Nodes of a name and identifiers, dynamic parts and ellipsoids are made.
 use Rattle.std.proofs.Common.{◌≡◌, ℕ, IsTrue, Some, List, [], ◌∷◌, codes, refl, arith, ◌⊎◌, ◌≤◌, Option, inl, inr, ◌≢◌, true, false, None, IfSome, sym, ap, subst, ◌∙◌}
 use Rattle.crs_text.specs.inner.Prelude.{Item, RefusedAt, IsWord, at_place, arguments}
 use Rattle.crs_shape.specs.declared.class.Class.{Class}

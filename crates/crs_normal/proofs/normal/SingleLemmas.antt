@@ -1,4 +1,4 @@
--- A normal coordinate system is the one form of its value: its axes are in order of position.
+-- Normal coordinate systems, dynamic parts, frames of either sort and CRSs of one kind are the one form of their values.
 use Rattle.std.proofs.Common.{IsFalse, ◌≡◌, ℕ, suc, ◌+◌, ◌^◌, ◌≤◌, ◌<◌, length, true, false, Option, Some, List, [], ◌∷◌, if◌then◌else◌, decimal, refl, sym, ◌∙◌, ap, ap₂, arith, codes, inl, inr, ◌≢◌}
 use Rattle.std.specs.Str.{bytes_eq}
 use Rattle.std.proofs.lemmas.Fmt.{decimal_injective}

@@ -1,5 +1,4 @@
--- Ellipsoids and geodetic reference frames that are canonical as they stand are what is written of all that is read from
--- them.
+-- Ellipsoids, geodetic reference frames and usages that are canonical as they stand are what is written of all that is read from them.
 use Rattle.std.proofs.Common.{◌≡◌, List, [], ◌∷◌, codes, refl, ℕ}
 use Rattle.crs_text.specs.inner.Prelude.{Item, End, More, arguments, raw_of, number, text, item_text}
 use Rattle.crs_shape.specs.inner.Prelude.{class_named, is_keyword}

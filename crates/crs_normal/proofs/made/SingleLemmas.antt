@@ -1,4 +1,4 @@
--- Base CRSs and projected CRSs are made.
+-- Base, projected and vertical CRSs are made.
 use Rattle.std.proofs.Common.{ℕ, List, [], ◌∷◌, codes, inl, refl, arith, true, drop, ◌≡◌, Some, map, false, None}
 use Rattle.crs_text.specs.inner.Prelude.{Item, arguments, at_place}
 use Rattle.crs_shape.specs.inner.Prelude.{is_keyword, class_named, dimensions_of, class_in}
@@ -11,7 +11,7 @@ use Rattle.crs_normal.proofs.made.SystemLemmas.{IsFew}
 use Rattle.crs_normal.proofs.made.TailLemmas.{crs_classes, system-seen, few-system, behind_arguments, projected-names, vertical-names, tail_arguments, tail-orderly}
 use Rattle.crs_normal.proofs.made.CheckLemmas.{IsSystemIn}
 use Rattle.crs_normal.proofs.made.FrameLemmas.{conversion-made, geodetic-frame-made, vertical-frame-made, meridian-of}
-use Rattle.crs_normal.proofs.made.NamedLemmas.{no-bad-dynamic, dynamic-of, given-unit, geoid-model-made}
+use Rattle.crs_normal.proofs.made.PartLemmas.{no-bad-dynamic, dynamic-of, given-unit, geoid-model-made}
 use Rattle.crs_normal.proofs.made.FrontLemmas.{meridian-there, crs-node-made, frame-named, frame-fits, frame-seen}
 use Rattle.crs_normal.proofs.made.IdentLemmas.{ids-of, ids-orderly, vertical_frame_class}
 use Rattle.crs_normal.proofs.made.NodeLemmas.{IsAcceptedNormal, Sees, views, none-shown}
