@@ -12,8 +12,7 @@ ghost use Rattle.crs_value.specs.Checks.{at, AnyOf, IsLeast};
 ghost use Rattle.crs_value.specs.inner.Cursor.{args, item};
 ghost use Rattle.crs_value.specs.inner.Arguments.{from_found, AllShaped, lesser, item_at, Holds, TakesOne};
 
-use crate::reading::arguments::{first, later};
-use crate::reading::cursor::Cursor;
+use crate::reading::{Cursor, first, later};
 use crs_shape::{Class, laws};
 use crs_text::{ItemId, Items, Refusal};
 

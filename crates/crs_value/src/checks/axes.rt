@@ -12,10 +12,7 @@ ghost use Rattle.crs_value.specs.Reads.{HasType, ReadsKind};
 
 use crate::checks::crs::{has_some, type_of};
 use crate::checks::{Check, Refused, any_from, lesser, only_of, refusal_at};
-use crate::reading::arguments::{first, later};
-use crate::reading::cursor::Cursor;
-use crate::reading::firsts::Firsts;
-use crate::reading::node::{number, required};
+use crate::reading::{Cursor, Firsts, first, later, number, required};
 use crs_decimal::{Decimal, laws as numbers};
 use crs_shape::{Class, Direction, SystemType, UnitKind, laws};
 use crs_text::{ItemId, Items, Refusal};

@@ -12,10 +12,7 @@ ghost use Rattle.crs_value.specs.Reads.{HasType, HasDimension};
 
 use crate::checks::axes::{bad_order, bad_unit};
 use crate::checks::{Refused, any_from, lesser, refusal_at};
-use crate::reading::arguments::{first, later};
-use crate::reading::cursor::Cursor;
-use crate::reading::firsts::{Firsts, firsts_of};
-use crate::reading::node::{number, required};
+use crate::reading::{Cursor, Firsts, first, firsts_of, later, number, required};
 use crs_decimal::{Decimal, laws as numbers};
 use crs_shape::{Class, SystemType, laws};
 use crs_text::{ItemId, Items, Refusal};

@@ -18,8 +18,7 @@ use crate::judging::slots::{
     Any, Either, End, Found, One, OneOrMore, Optional, Parent, Part, Slot, Slots, Then, chain,
     ends, judge_crs, taken,
 };
-use crate::reading::arguments::first_from;
-use crate::reading::cursor::Cursor;
+use crate::reading::{Cursor, first_from};
 use crs_shape::{Class, classes, laws, row, stands_as};
 use crs_text::{ItemId, Items, Refusal};
 

@@ -13,10 +13,7 @@ ghost use Rattle.crs_value.specs.inner.QuickChecks.{rank, the_one, AreOrdered, C
 
 use crate::checks::axes::{bad_order, fits, same_kind};
 use crate::checks::crs::type_of;
-use crate::reading::arguments::{later, same_place};
-use crate::reading::cursor::Cursor;
-use crate::reading::firsts::firsts_of;
-use crate::reading::node::has_whole;
+use crate::reading::{Cursor, firsts_of, has_whole, later, same_place};
 use crs_decimal::laws;
 use crs_shape::{Class, Direction, SystemType, UnitKind, stands_as};
 use crs_text::{ItemId, Items};

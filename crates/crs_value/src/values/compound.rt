@@ -5,10 +5,7 @@ ghost use Rattle.crs_value.specs.inner.Cursor.{item};
 ghost use Rattle.crs_value.specs.inner.ReadOnce.{IsSound};
 ghost use Rattle.crs_value.specs.ReadsCrs.{ReadsCompound, ReadsHorizontal};
 
-use crate::reading::arguments::first;
-use crate::reading::cursor::Cursor;
-use crate::reading::firsts::firsts_of;
-use crate::reading::node::Node;
+use crate::reading::{Cursor, Node, first, firsts_of};
 use crate::values::usage::read_tail;
 use crate::{Geodetic, Made, Projected, Tail, Vertical};
 use crs_shape::{Class, laws};

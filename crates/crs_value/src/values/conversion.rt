@@ -7,9 +7,7 @@ ghost use Rattle.crs_value.specs.Reads.{ReadsUnitOf, parameter_units, ReadsConve
 ghost use Rattle.crs_value.specs.Values.{ConversionParts, ParameterParts};
 ghost use Rattle.crs_value.specs.SoundParts.{IsConversion, IsParameter};
 
-use crate::reading::arguments::first;
-use crate::reading::cursor::Cursor;
-use crate::reading::node::Node;
+use crate::reading::{Cursor, Node, first};
 use crate::values::key::{Key, Keyed};
 use crate::{Ident, Level, List, Made, Method, Unit};
 use crs_decimal::Decimal;

@@ -8,8 +8,7 @@ ghost use Rattle.crs_value.specs.inner.Arguments.{IsAmong};
 ghost use Rattle.crs_value.specs.Spells.{IsFaultOf};
 ghost use Rattle.crs_value.specs.declared.values.crs.Crs.{Crs};
 
-use crate::reading::cursor::Cursor;
-use crate::reading::node::Node;
+use crate::reading::{Cursor, Node};
 use crate::values::system::system_type_of;
 use crate::{Compound, Geodetic, Projected, Vertical};
 use crs_shape::{Class, SystemType};

@@ -8,9 +8,7 @@ ghost use Rattle.crs_value.specs.Reads.{ReadsDatum, ReadsEnsemble};
 ghost use Rattle.crs_value.specs.ReadsCrs.{ReadsFrame};
 ghost use Rattle.crs_shape.specs.declared.class.Class.TheVariants as classes;
 
-use crate::reading::arguments::first;
-use crate::reading::cursor::Cursor;
-use crate::reading::node::Node;
+use crate::reading::{Cursor, Node, first};
 use crate::{Ellipsoid, Ident, List, Made, Member};
 use crs_decimal::Decimal;
 use crs_shape::{Class, laws};

@@ -6,8 +6,7 @@ ghost use Rattle.crs_value.specs.Reads.{ReadsEllipsoid, ReadsMeridian, ReadsDyna
 ghost use Rattle.crs_value.specs.inner.Arguments.{Requires};
 ghost use Rattle.crs_shape.specs.declared.class.Class.TheVariants as classes;
 
-use crate::reading::cursor::Cursor;
-use crate::reading::node::Node;
+use crate::reading::{Cursor, Node};
 use crate::{DeformationModel, Ident, List, Made, Unit};
 use crs_decimal::Decimal;
 use crs_shape::{Class, laws};

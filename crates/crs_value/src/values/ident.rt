@@ -11,8 +11,7 @@ ghost use Rattle.crs_value.specs.Reads.{ReadsText, single_of, ReadsIdent};
 ghost use Rattle.crs_value.specs.Sound.{IsIdent, IsNamed};
 ghost use Rattle.crs_value.specs.NamedValues.{IdentParts, NamedParts};
 
-use crate::reading::cursor::Cursor;
-use crate::reading::node::Node;
+use crate::reading::{Cursor, Node};
 use crate::values::key::{Key, Keyed, Places};
 use crate::{Level, List, Made};
 use crs_shape::Class;

@@ -3,9 +3,7 @@ ghost use Rattle.std.specs.Prelude.{◌≡◌};
 ghost use Rattle.crs_value.specs.ReadsCrs.{IsGeodeticClass, ReadsBase, ReadsGeodetic, ReadsProjected, ReadsVertical};
 ghost use Rattle.crs_shape.specs.declared.class.Class.TheVariants as classes;
 
-use crate::reading::cursor::Cursor;
-use crate::reading::firsts::firsts_of;
-use crate::reading::node::Node;
+use crate::reading::{Cursor, Node, firsts_of};
 use crate::values::frame::read_frame;
 use crate::values::system::read_system;
 use crate::values::usage::read_tail;

@@ -12,9 +12,7 @@ ghost use Rattle.std.specs.Option.{option_copied};
 ghost use Rattle.crs_value.specs.inner.FirstArguments.{AreFirsts};
 ghost use Rattle.crs_shape.specs.declared.class.Class.TheVariants as classes;
 
-use crate::reading::cursor::Cursor;
-use crate::reading::firsts::Firsts;
-use crate::reading::node::{Node, required};
+use crate::reading::{Cursor, Firsts, Node, required};
 use crate::values::key::Keyed;
 use crate::{Ident, Level, List, Made};
 use crs_decimal::Decimal;

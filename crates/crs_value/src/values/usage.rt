@@ -11,9 +11,7 @@ ghost use Rattle.crs_value.specs.Reads.{ReadsBare, ReadsTail, ReadsBox, ReadsExt
 ghost use Rattle.crs_value.specs.Values.{UsageParts, BoxParts, ExtentParts, TailParts};
 ghost use Rattle.crs_value.specs.Sound.{IsUsage, IsBox, IsExtent, IsTail};
 
-use crate::reading::cursor::Cursor;
-use crate::reading::firsts::Firsts;
-use crate::reading::node::Node;
+use crate::reading::{Cursor, Firsts, Node};
 use crate::values::key::{Key, Keyed};
 use crate::{Ident, Level, List, Made, Unit};
 use crs_decimal::Decimal;
