@@ -40,12 +40,7 @@ impl Model for ExpectedTexts {
 
     ghost Value = { Expectation };
 
-    ghost view = { λ e. record {
-      node = e.node.items;
-      place = e.place;
-      found = e.found.items;
-      names = e.names.items;
-    } };
+    ghost view = { λ e. record { node = e.node.items; place = e.place; found = e.found.items; names = e.names.items } };
 }
 
 impl ExpectedTexts {

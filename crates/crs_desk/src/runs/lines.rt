@@ -142,11 +142,7 @@ impl Model for LineCutter {
 
     ghost Value = { CutterParts };
 
-    ghost view = { λ cutter. record {
-      writer = cutter.writer;
-      partial = cutter.partial.items;
-      lines = cutter.lines;
-    } };
+    ghost view = { λ cutter. record { writer = cutter.writer; partial = cutter.partial.items; lines = cutter.lines } };
 }
 
 impl LineCutter {

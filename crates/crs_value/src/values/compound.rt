@@ -45,12 +45,7 @@ impl<'a> Model for Compound<'a> {
 
     ghost Value = { CompoundParts };
 
-    ghost view = { λ c. record {
-      name = c.name.now;
-      horizontal = c.horizontal;
-      vertical = c.vertical;
-      tail = c.tail;
-    } };
+    ghost view = { λ c. record { name = c.name.now; horizontal = c.horizontal; vertical = c.vertical; tail = c.tail } };
 
     ghost invariant = { λ c. IsCompound (view c) };
 }
