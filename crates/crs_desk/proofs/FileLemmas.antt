@@ -12,9 +12,8 @@ use Rattle.crs_desk.specs.inner.FileAnswers.{Ends, IsAnswerSent, IsFileFault, Is
 use Rattle.crs_desk.specs.FilesRun.{AreFileOutputs, AreFilesAnswered, IsFileFront, IsFileOutput, IsTaskFront, name_prefix}
 use Rattle.crs_desk.specs.declared.runs.files.FileTask.{FileTask}
 use Rattle.crs_desk.specs.inner.LineCutting.{IsHealthy}
-use Rattle.crs_desk.specs.LinesRun.{HasBegun, HasSentAll, IsFrontOutput, IsLinesAnswered, IsLinesFault, IsLinesOutput, Outputs}
+use Rattle.crs_desk.specs.LinesRun.{HasBegun, HasSentAll, IsFrontOutput, IsLinesAnswered, IsLinesFault, IsLinesOutput, Outputs, PrefixParts}
 use Rattle.crs_desk.specs.Whole.{IsReadFault}
-use Rattle.crs_desk.specs.Prefixed.{PrefixParts}
 use Rattle.crs_desk.proofs.LineOutputLemmas.{appends-none, front-none, whole-front}
 use Rattle.crs_desk.proofs.PrefixedLemmas.{PrefixedOutputs, lines-plain}
 

@@ -2,10 +2,9 @@
 use Rattle.std.proofs.Common.{◌≡◌, ◌∙◌, ◌++◌, ◌∷◌, [], ℕ, List, Bool, true, ap, ap₂, append-nil, append_assoc, inl, inr, refl, sym, ◌==◌, codes, if◌then◌else◌}
 use Rattle.crs_value.specs.declared.values.level.Level.{Level}
 use Rattle.crs_desk.specs.inner.FileAnswers.{Ends}
-use Rattle.crs_desk.specs.LinesRun.{AreOutputs, IsLineOutput, IsLinesOutput, Outputs}
+use Rattle.crs_desk.specs.LinesRun.{AreOutputs, IsLineOutput, IsLinesOutput, Outputs, IsPrefixed, PrefixParts, begun, prefixed, prefixed_from}
 use Rattle.crs_text.specs.inner.Prelude.{refused_text}
 use Rattle.crs_desk.specs.Output.{IsCanonOutput, IsCheckOutput, kind_word}
-use Rattle.crs_desk.specs.Prefixed.{IsPrefixed, PrefixParts, begun, prefixed, prefixed_from}
 use Rattle.crs_desk.specs.RulesOutput.{IsFormOutput}
 use Rattle.crs_rules.specs.Rules.{RulesParts}
 

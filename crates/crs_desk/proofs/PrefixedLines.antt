@@ -4,7 +4,7 @@ use Rattle.std.specs.List.{flat_map}
 use Rattle.std.proofs.lemmas.Bool.{cases_Bool}
 use Rattle.bstr.specs.Text.{line_len, lines_of}
 use Rattle.bstr.proofs.lemmas.LineLemmas.{line_len-bounds, lines-nil, lines-step}
-use Rattle.crs_desk.specs.Prefixed.{PrefixParts, begun, prefixed, prefixed_from}
+use Rattle.crs_desk.specs.LinesRun.{PrefixParts, begun, prefixed, prefixed_from}
 
 abbrev pub behind_prefix : PrefixParts → List ℕ → List ℕ
 behind_prefix prefix line = prefix.bytes ++ (if prefix.in_object then drop 1 line else line)

@@ -13,9 +13,8 @@ use Rattle.crs_desk.specs.declared.runs.files.FileTask.TheVariants as task
 use Rattle.crs_desk.specs.declared.runs.manner.Manner.{Manner}
 use Rattle.crs_desk.specs.declared.runs.manner.Manner.TheVariants as manner
 use Rattle.crs_desk.specs.ExplainOutput.{IsExplainOutput}
-use Rattle.crs_desk.specs.LinesRun.{IsFrontOutput, IsLineOutput, IsLinesOutput, Outputs}
+use Rattle.crs_desk.specs.LinesRun.{IsFrontOutput, IsLineOutput, IsLinesOutput, Outputs, IsPrefixed, PrefixParts, prefixed}
 use Rattle.crs_desk.specs.Output.{IsCanonOutput, IsCheckOutput}
-use Rattle.crs_desk.specs.Prefixed.{IsPrefixed, PrefixParts, prefixed}
 use Rattle.crs_desk.specs.RulesOutput.{IsFormOutput}
 
 -- what `group` writes for some bytes, by what its run writes; the status is 1 where a line was

@@ -4,9 +4,7 @@ pub mod ExplainOutput
 pub mod FilesRun
 pub mod LinesRun
 pub mod Output
-pub mod PairOutput
 pub mod PassedOn
-pub mod Prefixed
 pub mod Requests
 pub mod RulesOutput
 pub mod SameOutput

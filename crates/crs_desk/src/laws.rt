@@ -1,6 +1,6 @@
 //! Laws of the definitions, as contracts of functions that do nothing.
 ghost use Rattle.std.specs.Prelude.{◌≡◌, ◌⊎◌, ◌↔◌, ◌++◌, [], ℕ, List, max};
-ghost use Rattle.crs_streams.specs.LongLines.{EndsInFeed};
+ghost use Rattle.crs_streams.specs.Lines.{EndsInFeed};
 ghost use Rattle.crs_desk.specs.LinesRun.{IsLineOutput, IsLinesOutput};
 ghost use Rattle.crs_desk.specs.Output.{IsCanonOutput, IsCheckOutput};
 ghost use Rattle.crs_desk.specs.RulesOutput.{IsFormOutput};

@@ -3,10 +3,9 @@ use Rattle.std.specs.Prelude.{◌≡◌, ℕ, true, false, List}
 use Rattle.std.specs.Io.KnownBytes.{Appends}
 use Rattle.crs_value.specs.declared.values.level.Level.{Level}
 use Rattle.crs_rules.specs.Rules.{RulesParts}
-use Rattle.crs_streams.specs.Given.{GivesLongLine, GivesShortLines, HasGivenAll}
-use Rattle.crs_streams.specs.LongLines.{HasShortLines}
+use Rattle.crs_streams.specs.Streams.{GivesLongLine, GivesShortLines, HasGivenAll, IsAskedFor, SourceState, SinkState}
+use Rattle.crs_streams.specs.Lines.{HasShortLines}
 use Rattle.crs_group.specs.GroupOutput.{IsGroupOutput, IsGroupOutputUnder}
-use Rattle.crs_streams.specs.Streams.{IsAskedFor, SourceState, SinkState}
 use Rattle.crs_streams.specs.declared.fault.RunFault.{RunFault}
 use Rattle.crs_streams.specs.declared.fault.RunFault.TheVariants.{ReadFailed, WriteFailed, TooLong, TooManyReads, Memory}
 use Rattle.crs_group.specs.declared.listing.Listing.{Listing}

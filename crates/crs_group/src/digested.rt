@@ -1,7 +1,7 @@
 //! Canonical texts with their digests: that of a text is computed once, however often it is looked up and kept.
 ghost use Rattle.std.specs.Prelude.{◌≡◌};
 ghost use Rattle.std.specs.Cmp.{partial_equiv_from_equiv};
-ghost use Rattle.crs_writer.specs.Equality.{canon_writes, canons_equal};
+ghost use Rattle.crs_writer.specs.Canonical.{canon_writes, canons_equal};
 ghost use Rattle.crs_writer.specs.inner.EqualityLaws.{canons-equivalence, canons-hash};
 
 use crs_writer::Canon;
@@ -17,8 +17,7 @@ pub struct Digested {
 
 impl Model for Digested {
     ghost use Rattle.std.specs.Prelude.{◌≡◌};
-    ghost use Rattle.crs_writer.specs.Canonical.{CanonicalText};
-    ghost use Rattle.crs_writer.specs.Equality.{digest_of};
+    ghost use Rattle.crs_writer.specs.Canonical.{CanonicalText, digest_of};
 
     ghost Value = { CanonicalText };
 

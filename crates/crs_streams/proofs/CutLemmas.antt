@@ -2,8 +2,7 @@
 use Rattle.std.proofs.Common.{◌≡◌, ◌⊎◌, ◌+◌, ◌<◌, ◌≤◌, ◌++◌, ◌∷◌, [], ℕ, List, length, inl, inr, ap, subst, sym, refl, ◌∙◌, arith, append_assoc, append-nil, length-append, ◌==◌}
 use Rattle.std.proofs.lemmas.List.Sums.{count_by-le-length}
 use Rattle.crs_streams.specs.inner.Cutting.{AreCut, CutsLines}
-use Rattle.crs_streams.specs.Lines.{AreLines, HasNoFeed}
-use Rattle.crs_streams.specs.LongLines.{EndsInFeed, HasShortLines, IsTooLong, feeds}
+use Rattle.crs_streams.specs.Lines.{AreLines, HasNoFeed, EndsInFeed, HasShortLines, IsTooLong, feeds}
 use Rattle.crs_streams.proofs.FeedLemmas.{feeds-append, feeds-none, short-ended, short-line, short-more}
 use Rattle.crs_streams.proofs.SplitLemmas.{plain-append}
 

@@ -2,8 +2,7 @@
 use Rattle.std.proofs.Common.{◌≡◌, ◌⊎◌, ◌+◌, ◌≤◌, ◌++◌, ◌∷◌, [], ℕ, List, length, inl, inr, ap, sym, refl, ◌∙◌, arith, append_assoc, length-append, ◌==◌, cond}
 use Rattle.std.proofs.lemmas.Bool.{false≢true}
 use Rattle.std.proofs.lemmas.List.Sums.{sum_by-append}
-use Rattle.crs_streams.specs.Lines.{HasNoFeed}
-use Rattle.crs_streams.specs.LongLines.{EndsInFeed, HasShortLines, feeds}
+use Rattle.crs_streams.specs.Lines.{HasNoFeed, EndsInFeed, HasShortLines, feeds}
 use Rattle.crs_streams.proofs.LineLemmas.{feed-rest, feed-test, head-tail, head-is, tail-is}
 
 -- how many feeds there are

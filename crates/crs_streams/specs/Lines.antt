@@ -1,7 +1,9 @@
--- The lines of some bytes.
-use Rattle.std.specs.Prelude.{◌≡◌, ◌⊎◌, ◌==◌, ◌++◌, ◌∷◌, [], ℕ, List, IsTrue, count_by, not}
+-- The lines of some bytes, and how long they are.
+use Rattle.std.specs.Prelude.{◌≡◌, ◌⊎◌, ◌==◌, ◌++◌, ◌∷◌, [], ℕ, List, IsTrue, count_by, not, ◌+◌, ◌<◌, ◌≤◌, length}
 use Rattle.std.specs.List.{list_all}
 use Rattle.crs_text.specs.Tokens.{is_white}
+
+-- ---- the lines of some bytes
 
 -- no line feed is among the bytes
 abbrev pub HasNoFeed : List ℕ → Type 0
@@ -32,3 +34,32 @@ AreLines bytes (text ∷ texts) =
 -- how many of the texts are white space alone, or nothing
 abbrev pub blank_in : List (List ℕ) → ℕ
 blank_in texts = count_by (λ text. list_all is_white text) texts
+
+-- ---- how long the lines of some bytes are
+
+-- no line has more than 1048576 bytes before its line feed, or before the end
+unfoldable pub HasShortLines : List ℕ → Type 0
+HasShortLines bytes = (front line rest : List ℕ) → bytes ≡ front ++ (line ++ rest) → HasNoFeed line
+    → length line ≤ 1048576
+
+-- the last byte is a line feed
+abbrev pub EndsInFeed : List ℕ → Type 0
+EndsInFeed bytes = (front : List ℕ) × (bytes ≡ front ++ 10 ∷ [])
+
+-- how many line feeds are among the bytes
+abbrev pub feeds : List ℕ → ℕ
+feeds bytes = count_by (λ b. b == 10) bytes
+
+-- the line of this number, counted from 1, is the first that is too long, and at most 65536 bytes
+-- were read beyond its bound
+pub record IsTooLong (bytes : List ℕ) (number : ℕ) : Type 0 where
+  pub front : List ℕ
+  pub long : List ℕ
+  pub rest : List ℕ
+  pub are_bytes : bytes ≡ front ++ (long ++ rest)
+  pub begins : (front ≡ []) ⊎ EndsInFeed front
+  pub is_one : HasNoFeed long
+  pub is_long : 1048576 < length long
+  pub is_soon : length long + length rest ≤ 1048576 + 65536
+  pub before : HasShortLines front
+  pub is_number : number ≡ feeds front + 1

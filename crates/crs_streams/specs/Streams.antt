@@ -1,6 +1,9 @@
--- A counted reader and writer as callers see them.
-use Rattle.std.specs.Prelude.{◌≡◌, ◌+◌, ◌++◌, ◌==◌, ◌||◌, ◌∷◌, [], ℕ, Bool, true, false, List, Option, Result, MatchResult}
-use Rattle.std.specs.Io.KnownBytes.{Appends}
+-- A counted reader and writer as callers see them, and what a source gave.
+use Rattle.std.specs.Prelude.{◌≡◌, ◌+◌, ◌++◌, ◌==◌, ◌||◌, ◌∷◌, [], ℕ, Bool, true, false, List, Option, Result, MatchResult, IfSome, length}
+use Rattle.std.specs.Io.KnownBytes.{Appends, Consumes}
+use Rattle.crs_streams.specs.Lines.{HasShortLines, IsTooLong}
+
+-- ---- a counted reader and writer as callers see them
 
 -- a reader: the bytes that it has left where they are known, the reads made, the bytes that they
 -- gave, whether a read gave no byte, which shows the end, whether a read was made past the end, and
@@ -65,3 +68,30 @@ pub record CountsWrites {E : Type 0} (old new : SinkState)
   pub is_used : new.used ≡ true
   pub past_failure : old.failed ≡ false → new.past_failure ≡ old.past_failure
   pub failure : MatchResult answer (λ _. new.failed ≡ old.failed) (λ _. new.failed ≡ true)
+
+-- ---- what a source gave
+
+-- the source gave these bytes, which are the first of all that it had, where all are known
+pub record HasGiven (old new : SourceState) (bytes : List ℕ) : Type 0 where
+  pub is_counted : length bytes ≡ new.taken
+  pub is_first : Consumes old.remaining new.remaining bytes
+
+-- the source gave these bytes after all that it had given before
+abbrev pub GivesMore : SourceState → SourceState → List ℕ → Type 0
+GivesMore now new more =
+    (old : SourceState) (bytes : List ℕ) → HasGiven old now bytes → HasGiven old new (bytes ++ more)
+
+-- the source showed its end, and gave these bytes, which are all that it had, where all are known
+pub record HasGivenAll (old new : SourceState) (bytes : List ℕ) : Type 0 where
+  pub is_ended : new.ended ≡ true
+  pub is_healthy : new.failed ≡ false
+  pub is_given : HasGiven old new bytes
+  pub is_all : IfSome old.remaining (λ all. bytes ≡ all)
+
+-- the source gave bytes of which no line is too long
+abbrev pub GivesShortLines : SourceState → SourceState → Type 0
+GivesShortLines old new = (bytes : List ℕ) × HasGiven old new bytes × HasShortLines bytes
+
+-- the source gave bytes whose line of this number is the first that is too long
+abbrev pub GivesLongLine : SourceState → SourceState → ℕ → Type 0
+GivesLongLine old new number = (bytes : List ℕ) × HasGiven old new bytes × IsTooLong bytes number

@@ -1,8 +1,7 @@
 ghost use Rattle.std.specs.Prelude.{◌≡◌, ◌*◌, ◌≤◌, ◌<◌, ◌^◌, [], IfErr, IfOk, length, take, vec_len};
 ghost use Rattle.std.specs.Io.{ReadsAtMost};
 ghost use Rattle.std.specs.Io.KnownBytes.{ReadConsumes};
-ghost use Rattle.crs_streams.specs.Given.{GivesMore};
-ghost use Rattle.crs_streams.specs.Streams.{CountsRead, fresh_source};
+ghost use Rattle.crs_streams.specs.Streams.{GivesMore, CountsRead, fresh_source};
 
 use std::alloc::{AllocError, Global};
 use std::io;

@@ -12,9 +12,8 @@ use Rattle.crs_value.specs.inner.Prelude.{AxisMeridianParts, UnitParts}
 use Rattle.crs_value.specs.Values.{IdentParts}
 use Rattle.crs_value.specs.declared.values.level.Level.{Level}
 use Rattle.crs_normal.specs.inner.Prelude.{axis_meridian_text, each, number_node, opt, item_axis_meridian, norm_axis_meridians, is_zero, item_ident, item_unit, norm_unit, norm_units, number_item, set_idents}
-use Rattle.crs_writer.specs.inner.FromItems.{Writes}
+use Rattle.crs_writer.specs.inner.FromItems.{Writes, SaysIfAny}
 use Rattle.crs_writer.specs.inner.Openings.{named_node}
-use Rattle.crs_writer.specs.inner.Found.{SaysIfAny}
 use Rattle.crs_writer.specs.inner.Parts.{number_behind, opt_text}
 use Rattle.crs_writer.proofs.NodeTextLemmas.{closed, keyworded, last-more, then-text, then-system}
 use Rattle.crs_writer.proofs.PieceLemmas.{then-each, then-more, then-opt, three, two}

@@ -6,7 +6,7 @@ use Rattle.crs_shape.specs.contracts.class.Class.{the_type}
 use Rattle.crs_shape.specs.declared.class.Class.{Class}
 use Rattle.crs_shape.specs.declared.class.Class.TheVariants as class
 use Rattle.crs_value.specs.inner.Prelude.{those}
-use Rattle.crs_writer.specs.inner.Found.{AreLeaves}
+use Rattle.crs_writer.specs.inner.FromItems.{AreLeaves}
 
 some-size : (item : Item) → 1 ≤ size_of item
 some-size (leaf kind place raw) = omega arith

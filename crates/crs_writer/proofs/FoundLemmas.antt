@@ -6,7 +6,7 @@ use Rattle.crs_text.specs.inner.Prelude.{Item}
 use Rattle.crs_shape.specs.declared.class.Class.{Class}
 use Rattle.crs_value.specs.inner.Prelude.{ReadsEach, ReadsFirst, ReadsOptional}
 use Rattle.crs_writer.specs.inner.Node.{IsFirst, args, item}
-use Rattle.crs_writer.specs.inner.Found.{SaysIfAny}
+use Rattle.crs_writer.specs.inner.FromItems.{SaysIfAny}
 use Rattle.crs_writer.specs.declared.nodes.node.Node.{Node}
 use Rattle.crs_writer.proofs.FlatLemmas.{through}
 

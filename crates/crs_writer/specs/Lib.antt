@@ -1,4 +1,3 @@
 pub mod Canonical
-pub mod Equality
 pub mod SetText
 pub mod inner

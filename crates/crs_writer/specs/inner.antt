@@ -1,7 +1,6 @@
 pub mod Copied
 pub mod CrsText
 pub mod EqualityLaws
-pub mod Found
 pub mod FromItems
 pub mod Members
 pub mod Node

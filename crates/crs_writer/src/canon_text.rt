@@ -1,6 +1,6 @@
 ghost use Rattle.std.specs.Prelude.{◌≡◌, ◌↔◌, IsTrue};
 ghost use Rattle.std.specs.Cmp.{partial_equiv_from_equiv};
-ghost use Rattle.crs_writer.specs.Equality.{canon_writes, canons_equal, digest_of};
+ghost use Rattle.crs_writer.specs.Canonical.{canon_writes, canons_equal, digest_of};
 ghost use Rattle.crs_writer.specs.inner.EqualityLaws.{canons-equivalence, canons-hash};
 
 use crs_value::Level;

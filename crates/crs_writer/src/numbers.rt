@@ -2,8 +2,7 @@
 ghost use Rattle.std.specs.Prelude.{◌≡◌, ◌++◌, OnOk, Some};
 ghost use Rattle.crs_decimal.specs.Numbers.{plain, Value};
 ghost use Rattle.crs_normal.specs.inner.SpelledItems.{whole_value};
-ghost use Rattle.crs_writer.specs.inner.Found.{IsNumber};
-ghost use Rattle.crs_writer.specs.inner.FromItems.{Writes};
+ghost use Rattle.crs_writer.specs.inner.FromItems.{IsNumber, Writes};
 
 use crate::texts::{append, write_decimal};
 use crs_decimal::{Decimal, plain_of};

@@ -8,8 +8,7 @@ ghost use Rattle.crs_value.specs.Values.{IdentParts, UnitParts};
 ghost use Rattle.crs_value.specs.declared.values.level.Level.{Level};
 ghost use Rattle.crs_normal.specs.inner.SpelledFrames.{is_zero};
 ghost use Rattle.crs_normal.specs.inner.SpelledItems.{each, item_ident, item_unit, norm_unit, set_idents, whole_value};
-ghost use Rattle.crs_writer.specs.inner.Found.{IsNumber, SaysIfAny};
-ghost use Rattle.crs_writer.specs.inner.FromItems.{Writes};
+ghost use Rattle.crs_writer.specs.inner.FromItems.{IsNumber, SaysIfAny, Writes};
 ghost use Rattle.crs_writer.specs.inner.Parts.{number_behind, opt_text};
 
 use crate::{append, decimal_of, open_number, write_raw, write_whole};

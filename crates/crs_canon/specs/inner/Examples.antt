@@ -1,7 +1,7 @@
 -- The digest on a few texts, under two keys.
 use Rattle.std.specs.Prelude.{◌≡◌, [], ◌∷◌, List, ℕ}
 use Rattle.std.specs.Hash.DefaultHasher.{finish, with_keys, write}
-use Rattle.crs_writer.specs.Equality.{digest_of}
+use Rattle.crs_writer.specs.Canonical.{digest_of}
 
 -- SipHash-1-3 of bytes, with the bytes 0 to 15 as its key
 abbrev pub published_digest_of : List ℕ → ℕ

@@ -1,14 +1,13 @@
 -- A bridge: the answer for one file, or the fault with which it ends.
 use Rattle.std.specs.Prelude.{◌≡◌, [], ℕ, List, Option, true, false}
 use Rattle.std.specs.Io.KnownBytes.{Appends}
-use Rattle.crs_streams.specs.LongLines.{EndsInFeed}
+use Rattle.crs_streams.specs.Lines.{EndsInFeed}
 use Rattle.crs_streams.specs.Streams.{SinkState}
 use Rattle.crs_streams.specs.declared.fault.RunFault.{RunFault}
 use Rattle.crs_streams.specs.declared.fault.RunFault.TheVariants.{ReadFailed, WriteFailed, TooLong, TooManyReads, Memory}
 use Rattle.crs_desk.specs.FilesRun.{IsFileAnswer, IsFileFront, IsFileOutput}
 use Rattle.crs_desk.specs.inner.LineCutting.{IsHealthy}
-use Rattle.crs_desk.specs.LinesRun.{Outputs}
-use Rattle.crs_desk.specs.Prefixed.{PrefixParts}
+use Rattle.crs_desk.specs.LinesRun.{Outputs, PrefixParts}
 use Rattle.crs_desk.specs.declared.runs.files.FileTask.{FileTask}
 
 -- all that is written ends in a line feed

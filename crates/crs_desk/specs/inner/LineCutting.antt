@@ -2,10 +2,8 @@
 use Rattle.std.specs.Prelude.{◌≡◌, ◌+◌, ◌<◌, ◌≤◌, ◌⊎◌, ◌++◌, [], ℕ, List, Bool, true, false, length, max}
 use Rattle.std.specs.Io.KnownBytes.{Appends}
 use Rattle.crs_streams.specs.inner.Cutting.{AreCut}
-use Rattle.crs_streams.specs.Given.{HasGivenAll}
-use Rattle.crs_streams.specs.Lines.{AreLines, IsTextOf}
-use Rattle.crs_streams.specs.LongLines.{EndsInFeed}
-use Rattle.crs_streams.specs.Streams.{AppendsFront, SinkState, SourceState}
+use Rattle.crs_streams.specs.Streams.{HasGivenAll, AppendsFront, SinkState, SourceState}
+use Rattle.crs_streams.specs.Lines.{AreLines, IsTextOf, EndsInFeed}
 use Rattle.crs_streams.specs.declared.fault.RunFault.{RunFault}
 use Rattle.crs_streams.specs.declared.fault.RunFault.TheVariants.{ReadFailed, WriteFailed, TooLong, TooManyReads, Memory}
 use Rattle.crs_desk.specs.LinesRun.{AreOutputs, HasSent, IsFrontOutput, IsLinesOutput, LongLineAfter, Outputs}

@@ -6,8 +6,7 @@ ghost use Rattle.crs_desk.specs.FilesRun.{AreFilesAnswered, IsFilesFault, is_jso
 ghost use Rattle.crs_desk.specs.inner.LineCutting.{IsHealthy};
 ghost use Rattle.std.specs.Io.KnownBytes.{Appends};
 ghost use Rattle.crs_group.specs.GroupOutput.{IsGroupOutputBy};
-ghost use Rattle.crs_desk.specs.LinesRun.{IsFrontOutput, IsLineOutput, IsLinesOutput};
-ghost use Rattle.crs_desk.specs.Prefixed.{prefixed};
+ghost use Rattle.crs_desk.specs.LinesRun.{IsFrontOutput, IsLineOutput, IsLinesOutput, prefixed};
 
 use crate::runs::explain::ExplainText;
 use crate::runs::line_output::{OfLine, Prefix, Prefixed, prefix_lines};

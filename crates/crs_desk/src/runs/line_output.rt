@@ -1,6 +1,6 @@
 //! What commands write for the text of a line, and lines after a prefix.
 ghost use Rattle.std.specs.Prelude.{◌≡◌, ◌++◌, IfOk, OnOk, drop, if◌then◌else◌};
-ghost use Rattle.crs_desk.specs.Prefixed.{prefixed};
+ghost use Rattle.crs_desk.specs.LinesRun.{prefixed};
 
 use crate::TextCommand;
 use bstr::ByteSlice;
@@ -36,7 +36,7 @@ pub(crate) struct Prefixed<'p, C: TextCommand> {
 }
 
 impl<C: TextCommand> TextCommand for Prefixed<'_, C> {
-    ghost use Rattle.crs_desk.specs.Prefixed.{IsPrefixed};
+    ghost use Rattle.crs_desk.specs.LinesRun.{IsPrefixed};
 
     ghost Output = { λ s text written status. IsPrefixed s.prefix.now (C.Output s.command text) written status };
 
@@ -54,7 +54,7 @@ pub(crate) struct Prefix {
 }
 
 impl Model for Prefix {
-    ghost use Rattle.crs_desk.specs.Prefixed.{PrefixParts};
+    ghost use Rattle.crs_desk.specs.LinesRun.{PrefixParts};
 
     ghost Value = { PrefixParts };
 

@@ -3,7 +3,7 @@ ghost use Rattle.std.specs.Prelude.{ℕ, List, IfOk};
 ghost use Rattle.crs_value.specs.declared.values.crs.Crs.{Crs};
 ghost use Rattle.crs_value.specs.declared.values.level.Level.{Level};
 ghost use Rattle.crs_value.specs.Spells.{IsFaultOfText, Refuses};
-ghost use Rattle.crs_desk.specs.PairOutput.{IsPairOutput, IsSecondOutput};
+ghost use Rattle.crs_desk.specs.SameOutput.{IsPairOutput, IsSecondOutput};
 
 use crate::Level;
 use crate::runs::answer::Answer;
@@ -56,7 +56,7 @@ pub struct PairAnswer<'t, T: Telling> {
 }
 
 impl<T: Telling> Answer for PairAnswer<'_, T> {
-    ghost use Rattle.crs_desk.specs.PairOutput.{IsPairOutput};
+    ghost use Rattle.crs_desk.specs.SameOutput.{IsPairOutput};
 
     ghost Output = { λ s written status.
         IsPairOutput (T.Refused s.told) (T.Compared s.told s.level) s.a.now s.b.now written status };

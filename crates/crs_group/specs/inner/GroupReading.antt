@@ -5,16 +5,14 @@ use Rattle.crs_group.specs.Catalogue.{CatalogueParts}
 use Rattle.crs_group.specs.GroupTexts.{IsCatalogueOfBy, PlacedLine}
 use Rattle.crs_group.specs.Names.{name_of, names_in, text_behind, texts_in}
 use Rattle.crs_streams.specs.inner.Cutting.{AreCut}
-use Rattle.crs_streams.specs.Lines.{AreLines, IsTextOf, blank_in}
+use Rattle.crs_streams.specs.Lines.{AreLines, IsTextOf, blank_in, IsTooLong, HasShortLines}
 use Rattle.crs_group.specs.GroupOutput.{numbered, catalogue_text}
-use Rattle.crs_streams.specs.LongLines.{IsTooLong, HasShortLines}
 use Rattle.crs_streams.specs.declared.fault.RunFault.{RunFault}
 use Rattle.crs_group.specs.declared.placed.Placed.{Placed}
 use Rattle.crs_group.specs.declared.placed.Placed.TheVariants.{Blank, Refused, Group}
 use Rattle.crs_streams.specs.declared.fault.RunFault.TheVariants.{ReadFailed, WriteFailed, TooLong, TooManyReads, Memory}
 use Rattle.std.specs.Io.KnownBytes.{Appends}
-use Rattle.crs_streams.specs.Given.{HasGivenAll}
-use Rattle.crs_streams.specs.Streams.{IsAskedFor, SourceState, SinkState}
+use Rattle.crs_streams.specs.Streams.{HasGivenAll, IsAskedFor, SourceState, SinkState}
 use Rattle.crs_group.specs.declared.listing.Listing.{Listing}
 use Rattle.crs_group.specs.declared.summary.Summary.{Summary}
 

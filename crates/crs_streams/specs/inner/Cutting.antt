@@ -1,7 +1,6 @@
 -- A bridge: bytes that are cut into lines piece by piece.
 use Rattle.std.specs.Prelude.{◌≡◌, ◌⊎◌, ◌+◌, ◌<◌, ◌≤◌, ◌++◌, ◌∷◌, [], ℕ, List, length}
-use Rattle.crs_streams.specs.Lines.{AreLines, HasNoFeed}
-use Rattle.crs_streams.specs.LongLines.{EndsInFeed, HasShortLines, IsTooLong, feeds}
+use Rattle.crs_streams.specs.Lines.{AreLines, HasNoFeed, EndsInFeed, HasShortLines, IsTooLong, feeds}
 
 -- the bytes are so many lines that have ended, of which none is too long, and the beginning of one
 -- that has not

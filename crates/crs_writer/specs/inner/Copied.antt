@@ -12,7 +12,7 @@ use Rattle.crs_value.specs.inner.Arguments.{Holds, ahead, item_at}
 use Rattle.crs_value.specs.declared.values.level.Level.{Level}
 use Rattle.crs_value.specs.declared.values.level.Level.TheVariants as levels
 use Rattle.crs_normal.specs.inner.SpelledItems.{is_short, whole_value}
-use Rattle.crs_writer.specs.inner.Found.{IsNumber}
+use Rattle.crs_writer.specs.inner.FromItems.{IsNumber}
 
 -- a node of this keyword, and the number of its first argument
 pub record IsOpened (tree : Item) (id : ℕ) (keyword : List ℕ) (at : Option ℕ) : Type 0 where

@@ -7,8 +7,7 @@ use Rattle.std.specs.Cmp.Lexicographic.{bytes_decides, nat_list_eq_equiv}
 use denote.Enum.Bare.{sameb, same_true}
 use denote.Enum.Declared.{tag_of}
 use Rattle.crs_value.specs.contracts.values.level.Level.{the_type}
-use Rattle.crs_writer.specs.Canonical.{CanonicalText}
-use Rattle.crs_writer.specs.Equality.{canon_writes, canons_equal}
+use Rattle.crs_writer.specs.Canonical.{CanonicalText, canon_writes, canons_equal}
 
 -- the test is an equivalence
 pub canons-equivalence : IsEquivalence canons_equal

@@ -3,7 +3,7 @@ ghost use Rattle.std.specs.Prelude.{◌≡◌, IsTrue, drop};
 ghost use Rattle.crs_text.specs.Items.{arguments, rest_of, here, HasId};
 ghost use Rattle.crs_value.specs.inner.Arguments.{from_found, item_at, ahead, Holds};
 ghost use Rattle.crs_value.specs.Reading.{those};
-ghost use Rattle.crs_writer.specs.inner.Found.{AreLeaves};
+ghost use Rattle.crs_writer.specs.inner.FromItems.{AreLeaves};
 
 use crs_shape::{Class, Sought};
 use crs_text::{ItemId, Items};

@@ -49,7 +49,7 @@ impl<'i, 'a> Node<'i, 'a> {
     ghost use Rattle.crs_value.specs.Reads.{LacksUsage, ReadsDirection, ReadsKind, ReadsNumberOf, ReadsText, ReadsTextOf, ReadsUnit, single_of, ReadsNumberAt, ReadsUnitOf, parameter_units};
     ghost use Rattle.crs_value.specs.Values.{UnitParts};
     ghost use Rattle.crs_writer.specs.inner.Node.{IsFirst, args, item};
-    ghost use Rattle.crs_writer.specs.inner.Found.{IsNumber, SaysIfAny};
+    ghost use Rattle.crs_writer.specs.inner.FromItems.{IsNumber, SaysIfAny};
 
     /// The first argument of this class. Profile.
     #[inline(always)]

@@ -15,8 +15,7 @@ ghost use Rattle.crs_normal.specs.inner.SpelledFrames.{item_frame, item_meridian
 ghost use Rattle.crs_normal.specs.inner.SpelledItems.{each, node_of, opt, text_item, item_ident, item_unit, norm_units, set_idents};
 ghost use Rattle.crs_normal.specs.inner.SpelledItems.{norm_tail, tail_items};
 ghost use Rattle.crs_writer.specs.inner.Node.{item};
-ghost use Rattle.crs_writer.specs.inner.Found.{SaysIfAny};
-ghost use Rattle.crs_writer.specs.inner.FromItems.{IsRead, Writes};
+ghost use Rattle.crs_writer.specs.inner.FromItems.{SaysIfAny, IsRead, Writes};
 ghost use Rattle.crs_writer.specs.inner.Openings.{named_node};
 ghost use Rattle.crs_writer.specs.inner.CrsText.{crs_text};
 

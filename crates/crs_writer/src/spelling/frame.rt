@@ -10,8 +10,7 @@ ghost use Rattle.crs_value.specs.declared.values.frame.Frame.{Frame};
 ghost use Rattle.crs_normal.specs.inner.PartTexts.{datum_text, ensemble_text, frame_text, member_text};
 ghost use Rattle.crs_normal.specs.inner.SpelledFrames.{item_datum, item_frame, norm_datum, norm_frame};
 ghost use Rattle.crs_writer.specs.inner.Node.{item};
-ghost use Rattle.crs_writer.specs.inner.Found.{SaysIfAny};
-ghost use Rattle.crs_writer.specs.inner.FromItems.{Writes};
+ghost use Rattle.crs_writer.specs.inner.FromItems.{SaysIfAny, Writes};
 ghost use Rattle.crs_writer.specs.inner.Parts.{datum_node};
 
 use crate::members::{MembersPart, ReadAs, SetReadAs};

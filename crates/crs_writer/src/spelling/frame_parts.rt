@@ -10,8 +10,7 @@ ghost use Rattle.crs_normal.specs.inner.PartTexts.{deformation_model_text, dynam
 ghost use Rattle.crs_normal.specs.inner.SpelledCrs.{item_deformation_model, norm_deformation_model};
 ghost use Rattle.crs_normal.specs.inner.SpelledFrames.{greenwich, is_zero, item_meridian, norm_meridian};
 ghost use Rattle.crs_normal.specs.inner.SpelledItems.{each, number_item, opt, item_ident, item_unit, norm_length, set_idents};
-ghost use Rattle.crs_writer.specs.inner.Found.{SaysIfAny};
-ghost use Rattle.crs_writer.specs.inner.FromItems.{Writes};
+ghost use Rattle.crs_writer.specs.inner.FromItems.{SaysIfAny, Writes};
 ghost use Rattle.crs_writer.specs.inner.Openings.{named_node};
 
 use crate::members::ReadAs;

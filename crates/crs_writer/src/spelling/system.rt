@@ -18,8 +18,7 @@ ghost use Rattle.crs_normal.specs.inner.SpelledItems.{each, number_node, opt, wo
 ghost use Rattle.crs_normal.specs.inner.SpelledCrs.{axes_from, axis_at, item_axis, item_axis_meridian, item_head, norm_axis};
 ghost use Rattle.crs_normal.specs.inner.SpelledCrs.{norm_axis_meridians, norm_system, system_items, with_axis};
 ghost use Rattle.crs_writer.specs.inner.Node.{args, item};
-ghost use Rattle.crs_writer.specs.inner.Found.{SaysIfAny};
-ghost use Rattle.crs_writer.specs.inner.FromItems.{Writes};
+ghost use Rattle.crs_writer.specs.inner.FromItems.{SaysIfAny, Writes};
 ghost use Rattle.crs_writer.specs.inner.Openings.{named_node, numbered_node};
 
 use crate::members::ReadAs;

@@ -14,8 +14,7 @@ ghost use Rattle.crs_normal.specs.inner.PartTexts.{box_text, extent_text, usage_
 ghost use Rattle.crs_normal.specs.inner.SpelledItems.{node_from, number_item, opt, text_node, each, item_unit, norm_length, item_ident, set_idents};
 ghost use Rattle.crs_normal.specs.inner.SpelledItems.{item_box, item_extent, norm_extent, item_usage, norm_tail, set_usages, tail_items};
 ghost use Rattle.crs_writer.specs.inner.Node.{item};
-ghost use Rattle.crs_writer.specs.inner.Found.{SaysIfAny};
-ghost use Rattle.crs_writer.specs.inner.FromItems.{Writes};
+ghost use Rattle.crs_writer.specs.inner.FromItems.{SaysIfAny, Writes};
 ghost use Rattle.crs_writer.specs.inner.Openings.{enclosed, numbered_node};
 
 use crate::members::{ReadAs, SetReadAs};

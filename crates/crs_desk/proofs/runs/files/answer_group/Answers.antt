@@ -1,6 +1,6 @@
 use Rattle.std.proofs.Common.{refl, rules}
 use Rattle.crs_group.specs.GroupOutput.{IsGroupOutputBy}
-use Rattle.crs_desk.specs.Prefixed.{prefixed}
+use Rattle.crs_desk.specs.LinesRun.{prefixed}
 use Rattle.crs_desk.proofs.FileLemmas.{groups-held, unread-file}
 use Rattle.crs_desk.proofs.runs.files.answer_group.Goals as goal
 

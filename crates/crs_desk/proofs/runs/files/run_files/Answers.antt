@@ -3,7 +3,7 @@ use Rattle.std.specs.Io.KnownBytes.{Appends}
 use Rattle.std.proofs.lemmas.Grind.{common_steps}
 use Rattle.crs_desk.specs.inner.FileAnswers.{IsFileSent}
 use Rattle.crs_desk.specs.FilesRun.{AreFileOutputs, name_prefix}
-use Rattle.crs_desk.specs.Prefixed.{PrefixParts}
+use Rattle.crs_desk.specs.LinesRun.{PrefixParts}
 use Rattle.crs_desk.proofs.FileLemmas.{file-more, files-done}
 use Rattle.crs_desk.proofs.runs.files.run_files.Goals as goal
 

@@ -3,7 +3,7 @@ use Rattle.std.specs.List.{flat_map}
 use Rattle.std.proofs.lemmas.Bool.{eqb-true}
 use Rattle.std.proofs.lemmas.List.{nil_from_length}
 use Rattle.bstr.specs.Text.{lines_of}
-use Rattle.crs_desk.specs.Prefixed.{PrefixParts, prefixed}
+use Rattle.crs_desk.specs.LinesRun.{PrefixParts, prefixed}
 use Rattle.crs_desk.proofs.PrefixedLines.{behind_prefix, prefixed_lines, unprefixed}
 use Rattle.crs_desk.proofs.runs.line_output.prefix_lines.Goals as goal
 

@@ -1,6 +1,6 @@
 use Rattle.std.proofs.Common.{inl, inr}
 use Rattle.std.proofs.lemmas.Result.{IfOk-weaker}
-use Rattle.crs_desk.specs.PairOutput.{IsPairOutput}
+use Rattle.crs_desk.specs.SameOutput.{IsPairOutput}
 use Rattle.crs_desk.proofs.runs.pair.pair_output.Goals as goal
 
 pub returns-in-Ok : goal.returns-in-Ok
