@@ -17,7 +17,6 @@ ghost use Rattle.crs_group.specs.UnderRules.{IsCatalogueUnder};
 use crate::Placed;
 use crate::digested::Digested;
 use crate::groups::Groups;
-use crate::kept::KeptLines;
 use crate::recent::{Recent, place_of};
 use crs_canon::{Canon, canon_in, laws};
 use crs_rules::laws::{accepted_text_has_one_form, rules_are_sound};
@@ -32,7 +31,9 @@ use std::marker::Model;
 pub struct Catalogue {
     alloc: Global,
     level: Level,
-    kept: KeptLines,
+    groups: Groups,
+    // The number of each refused line, and why.
+    refused: Vec<(u64, Refusal)>,
     // Lines that were added by their canonical texts, with their groups.
     recent: Recent,
     // The memory of a canonical text that isn't kept, for that of the next line.
@@ -48,12 +49,12 @@ impl Model for Catalogue {
 
     ghost view = { λ catalogue. record {
       level = catalogue.level;
-      groups = catalogue.kept.groups;
-      refused = catalogue.kept.refused.items;
+      groups = catalogue.groups;
+      refused = catalogue.refused.items;
     } };
 
     ghost invariant = { λ catalogue.
-        AreKnown catalogue.level (canons catalogue.kept.groups) catalogue.recent };
+        AreKnown catalogue.level (canons catalogue.groups) catalogue.recent };
 }
 
 impl Catalogue {
@@ -67,10 +68,8 @@ impl Catalogue {
         Catalogue {
             alloc,
             level,
-            kept: KeptLines {
-                groups: Groups::new(alloc),
-                refused: Vec::new(alloc),
-            },
+            groups: Groups::new(alloc),
+            refused: Vec::new(alloc),
             recent: Recent::new(alloc),
             room: Vec::new(alloc),
         }
@@ -80,7 +79,7 @@ impl Catalogue {
     pub fn groups(&self) -> usize
         ensures { result ≡ length self.now.groups }
     {
-        self.kept.groups.len()
+        self.groups.len()
     }
 
     /// The numbers of a group's lines, in the order in which they were added. `None`: there is no group of this number;
@@ -90,7 +89,7 @@ impl Catalogue {
     {
         match number {
             0 => None,
-            _ => self.kept.groups.lines(number - 1),
+            _ => self.groups.lines(number - 1),
         }
     }
 
@@ -100,7 +99,7 @@ impl Catalogue {
     {
         match number {
             0 => None,
-            _ => self.kept.groups.text(number - 1),
+            _ => self.groups.text(number - 1),
         }
     }
 
@@ -108,7 +107,7 @@ impl Catalogue {
     pub fn refused(&self) -> &[(u64, Refusal)]
         ensures { result.now ≡ self.now.refused }
     {
-        &self.kept.refused
+        &self.refused
     }
 
     /// Adds a line, and answers where it was placed: with the lines whose CRSs are the same, where it spells a CRS.
@@ -226,17 +225,16 @@ impl Catalogue {
         ensures level { self.new.level ≡ self.old.level }
         ensures unchanged { OnErr result (self.new ≡ self.old) }
     {
-        let count = self.kept.groups.len();
+        let count = self.groups.len();
         let canon = Digested::of(canon);
-        match self.kept.groups.position(&canon) {
+        match self.groups.position(&canon) {
             Some(at) => {
                 self.room = canon.into_canon().into_bytes();
                 self.room.clear();
                 self.join(line, at)
             }
             None => {
-                self.kept
-                    .groups
+                self.groups
                     .open(self.alloc, line, canon.without_spare_room())?;
                 Ok(Placed::Group(count + 1))
             }
@@ -253,19 +251,25 @@ impl Catalogue {
         ensures unchanged { OnErr result (self.new ≡ self.old) }
     {
         // Asks their number so that its bound is known.
-        let _count = self.kept.groups.len();
-        self.kept.groups.join(at, line)?;
+        let _count = self.groups.len();
+        self.groups.join(at, line)?;
         Ok(Placed::Group(at + 1))
     }
 
-    // Adds a refused line.
+    // Adds a refused line. Out of memory, the lines are as before.
     fn refuse(&mut self, line: u64, fault: Fault) -> Result<Placed, AllocError>
         ensures groups { self.new.groups ≡ self.old.groups }
         ensures refused { IfOk result (IsRefused fault line self.old.refused self.new.refused) }
         ensures level { self.new.level ≡ self.old.level }
         ensures unchanged { OnErr result (self.new ≡ self.old) }
     {
-        self.kept.refuse(line, fault)
+        match fault {
+            Fault::Refused(refusal) => {
+                self.refused.push((line, refusal))?;
+                Ok(Placed::Refused(refusal))
+            }
+            Fault::Memory(error) => Err(error),
+        }
     }
 }
 

@@ -7,7 +7,6 @@ mod digested;
 mod group_run;
 mod group_text;
 mod groups;
-mod kept;
 pub mod laws;
 mod ledger;
 mod listing;

@@ -6,5 +6,5 @@ invariant_of-self c = rw c.in_err-join.ensures.unchanged c.self.invariant
 
 pub invariant_of-self-2 : goal.invariant_of-self-2
 invariant_of-self-2 c =
-    joined-known c.self.inside.level c.args.at c.args.line c.self.inside.kept.groups c.join.new.self c.self.inside.recent
+    joined-known c.self.inside.level c.args.at c.args.line c.self.inside.groups c.join.new.self c.self.inside.recent
     c.in_ok-join.ensures.groups c.self.invariant

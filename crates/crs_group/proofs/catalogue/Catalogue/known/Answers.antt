@@ -5,7 +5,7 @@ use Rattle.crs_group.proofs.catalogue.Catalogue.known.Goals as goal
 pub returns-clause-group : goal.returns-clause-group
 returns-clause-group c =
     rw (← c.self.view_is)
-    (found-known c.self.inside.level (canons c.self.inside.kept.groups) c.self.inside.recent c.args.text.now
+    (found-known c.self.inside.level (canons c.self.inside.groups) c.self.inside.recent c.args.text.now
     c.group_of.result c.group_of.ensures c.self.invariant)
 
 pub returns-clause-within : goal.returns-clause-within

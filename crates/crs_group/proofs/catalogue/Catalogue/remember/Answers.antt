@@ -9,6 +9,6 @@ overflow_sub-number c =
 
 pub invariant_of-self : goal.invariant_of-self
 invariant_of-self c =
-    c.keep.ensures c.self.inside.level (canons c.self.inside.kept.groups) c.self.invariant
-    (under-has c.self.inside.level (canons c.self.inside.kept.groups) c.args.text.now c.in-Group.number
+    c.keep.ensures c.self.inside.level (canons c.self.inside.groups) c.self.invariant
+    (under-has c.self.inside.level (canons c.self.inside.groups) c.args.text.now c.in-Group.number
     (rw (c.in-Group.is, ← c.self.view_is) at c.requires)).1
