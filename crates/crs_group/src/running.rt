@@ -1,10 +1,9 @@
 //! Reads the lines of a source to its end, and writes their catalogue. Bytes are cut into lines piece by piece: a line
 //! that is whole within a piece is read in place; the bytes of others are kept until their line feed comes.
-ghost use Rattle.std.specs.Prelude.{◌≡◌, ◌≤◌, ◌↔◌, [], IfErr, IfOk, IsErrOf, OnOk, false, length, true, ◌+◌, ◌^◌, ◌<◌};
-ghost use Rattle.std.specs.Prelude.{◌++◌, ◌∷◌, ℕ, List, IsFalse, IsTrue};
+ghost use Rattle.std.specs.Prelude.{◌≡◌, ◌≤◌, ◌+◌, ◌^◌, ◌<◌, ◌++◌, ◌∷◌, [], ℕ, List, IfErr, IfOk, IsFalse, IsTrue, OnOk, false, length};
 ghost use Rattle.crs_group.specs.inner.GroupReading.{IsCutTo, IsCutFault, IsKept, IsLedgerFor, IsNextLine, IsNotKept, no_lines, IsLedgerWhole, IsReadInto, IsWritingFault, WritesLedger};
 ghost use Rattle.crs_group.specs.GroupOutput.{IsGroupOutputBy};
-ghost use Rattle.crs_group.specs.GroupRun.{IsGroupFault, IsGroupedBy, IsReadingFault};
+ghost use Rattle.crs_group.specs.GroupRun.{IsGroupRun, IsReadingFault};
 ghost use Rattle.crs_streams.specs.Streams.{fresh_sink, fresh_source};
 ghost use Rattle.crs_streams.specs.Lines.{HasNoFeed};
 
@@ -32,14 +31,7 @@ pub fn run_adding<A: Adding + Drop, R: Read, W: Write>(
 ) -> Result<Summary, RunFault>
     requires source { r.old ≡ fresh_source r.old.remaining }
     requires sink { w.old ≡ fresh_sink w.old.contents }
-    ensures answered { IfOk result (IsGroupedBy (IsGroupOutputBy (A.Form adding) (A.Share adding) listing level)
-        r.old r.new w.old w.new) }
-    ensures reads { r.new.reads ≤ 1048576 }
-    ensures past_end { r.new.past_end ≡ false }
-    ensures fault { IfErr result (IsGroupFault r.old r.new w.old w.new) }
-    ensures read_failed { IsErrOf result RunFault.ReadFailed ↔ (r.new.failed ≡ true) }
-    ensures write_failed { IsErrOf result RunFault.WriteFailed ↔ (w.new.failed ≡ true) }
-    ensures past_failure { w.new.past_failure ≡ false }
+    ensures { IsGroupRun (IsGroupOutputBy (A.Form adding) (A.Share adding) listing level) r.old r.new w.old w.new result }
 {
     let named = listing.names;
     let ledger = read_ledger(alloc, level, &Way { adding, named }, r)?;
