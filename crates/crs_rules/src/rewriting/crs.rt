@@ -53,13 +53,6 @@ fn have_own_units(parameters: &[Parameter<'_>]) -> bool
     true
 }
 
-// Whether the unit of a base CRS says nothing: its prime meridian and these parameters have their own.
-fn is_idle(meridian: &Option<Meridian<'_>>, parameters: &[Parameter<'_>]) -> bool
-    ensures { result ≡ is_idle meridian.now parameters.now }
-{
-    has_own_unit(meridian) && have_own_units(parameters)
-}
-
 // The unit of a base CRS, unless it doesn't count.
 fn base_unit<'a>(unit_or_none: &mut Option<Unit<'a>>, idle: bool, rules: &'a Rules)
     ensures { unit_or_none.new ≡ counted (rules.now.uncounted.base_units && idle)
@@ -82,11 +75,11 @@ fn base<'a>(alloc: Global, value: &mut Base<'a>, idle: bool, rules: &'a Rules)
     base_unit(&mut value.unit, idle, rules);
 }
 
-// Whether the unit of the base CRS says nothing.
+// Whether the unit of the base CRS says nothing: its prime meridian and all parameters have their own.
 fn has_idle_base(value: &Projected<'_>) -> bool
     ensures { result ≡ is_idle value.now.base.meridian value.now.conversion.parameters }
 {
-    is_idle(&value.base.meridian, value.conversion.parameters.as_slice())
+    has_own_unit(&value.base.meridian) && have_own_units(value.conversion.parameters.as_slice())
 }
 
 fn projected<'a>(alloc: Global, value: &mut Projected<'a>, rules: &'a Rules)
