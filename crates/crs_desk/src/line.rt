@@ -58,15 +58,13 @@ const NAMES_HELP: &str =
 
 const FILES_HELP: &str = "Takes A and B as names of files; `-` is standard input";
 
-// What help says of the option `--level`.
+// What help says of the options `--level`, `--first` and `--rules`.
 const LEVEL_HELP: &str =
     "What counts: full, or definition, without identifiers, usages and remarks [default: full]";
 
-// What help says of the option `--first`.
 const ORDER_HELP: &str =
     "Tells the parts first whose paths have these words, with commas between them: axis,datum";
 
-// What help says of the option `--rules`.
 const RULES_HELP: &str = "Counts as the same what the rules in a file say; repeat for more files";
 
 // What the help of a command says last: its statuses.
@@ -227,7 +225,7 @@ fn needed_word<'a>(alloc: Global, id: &'a str, shown: &'a str, help: &'a str) ->
     spare_word(alloc, id, shown, help).required(true)
 }
 
-// An operand that may be left out, what help calls it, and what help says of it.
+// An operand that may be left out, or the word of an option, what help calls it, and what help says of it.
 fn spare_word<'a>(alloc: Global, id: &'a str, shown: &'a str, help: &'a str) -> Arg<'a>
     ensures rule { rule_of result ≡ spare_operand id.entry.now }
     ensures local { result.global ≡ false }
@@ -258,32 +256,25 @@ fn level_argument<'a>(alloc: Global) -> Arg<'a>
     ensures rule { rule_of result ≡ level_option }
     ensures local { result.global ≡ false }
 {
-    Arg::new(alloc, "level")
-        .long("level")
-        .value_name("LEVEL")
-        .help(LEVEL_HELP)
+    spare_word(alloc, "level", "LEVEL", LEVEL_HELP).long("level")
 }
 
 fn first_argument<'a>(alloc: Global) -> Arg<'a>
     ensures rule { rule_of result ≡ first_option }
     ensures local { result.global ≡ false }
 {
-    Arg::new(alloc, "order")
-        .long("first")
-        .value_name("WORDS")
+    spare_word(alloc, "order", "WORDS", ORDER_HELP)
         .action(ArgAction::Append)
-        .help(ORDER_HELP)
+        .long("first")
 }
 
 fn rules_argument<'a>(alloc: Global) -> Arg<'a>
     ensures rule { rule_of result ≡ rules_option }
     ensures local { result.global ≡ false }
 {
-    Arg::new(alloc, "rules")
-        .long("rules")
-        .value_name("FILE")
+    spare_word(alloc, "rules", "FILE", RULES_HELP)
         .action(ArgAction::Append)
-        .help(RULES_HELP)
+        .long("rules")
 }
 
 fn refusal(error: clap::Error) -> RequestFault
