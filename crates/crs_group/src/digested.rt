@@ -55,10 +55,8 @@ impl Digested {
     pub fn without_spare_room(self) -> Digested
         ensures { result ≡ self }
     {
-        Digested {
-            canon: self.canon.without_spare_room(),
-            digest: self.digest,
-        }
+        let (canon, digest) = (self.canon.without_spare_room(), self.digest);
+        Digested { canon, digest }
     }
 }
 

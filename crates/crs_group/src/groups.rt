@@ -31,9 +31,8 @@ impl Groups {
     pub fn new(alloc: Global) -> Groups
         ensures { result ≡ [] }
     {
-        Groups {
-            lines: IndexMap::new(alloc),
-        }
+        let lines = IndexMap::new(alloc);
+        Groups { lines }
     }
 
     /// How many groups there are.
@@ -48,20 +47,16 @@ impl Groups {
     pub fn lines(&self, at: usize) -> Option<&[u64]>
         ensures { option_copied result ≡ option_map (λ group. group.lines) (slice_get self.now at) }
     {
-        match self.lines.get_index(at) {
-            Some((_, lines)) => Some(lines.as_slice()),
-            None => None,
-        }
+        let (_, lines) = self.lines.get_index(at)?;
+        Some(lines.as_slice())
     }
 
     /// The canonical text of the group at this place.
     pub fn text(&self, at: usize) -> Option<&[u8]>
         ensures { option_copied result ≡ option_map (λ group. group.canon.bytes) (slice_get self.now at) }
     {
-        match self.lines.get_index(at) {
-            Some((canon, _)) => Some(canon.bytes()),
-            None => None,
-        }
+        let (canon, _) = self.lines.get_index(at)?;
+        Some(canon.bytes())
     }
 
     /// The place of the group that has this text.

@@ -28,10 +28,8 @@ impl Names {
     pub(crate) fn new(alloc: Global) -> Names
         ensures { result ≡ [] }
     {
-        Names {
-            alloc,
-            names: Vec::new(alloc),
-        }
+        let names = Vec::new(alloc);
+        Names { alloc, names }
     }
 
     // Keeps the name of the next line, whose number is this one, where lines have names.

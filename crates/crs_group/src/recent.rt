@@ -74,9 +74,8 @@ impl Recent {
     pub(crate) fn new(alloc: Global) -> Recent
         ensures { result ≡ [] }
     {
-        Recent {
-            lines: Vec::new(alloc),
-        }
+        let lines = Vec::new(alloc);
+        Recent { lines }
     }
 
     // The place of the group of a text, where a line that is remembered has the same bytes.

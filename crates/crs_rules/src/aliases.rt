@@ -131,10 +131,8 @@ impl<A: Alias> Aliases<A> {
     pub(crate) fn new(alloc: Global) -> Aliases<A>
         ensures { result ≡ [] }
     {
-        Aliases {
-            aliases: Vec::new(alloc),
-            firsts: IndexMap::new(alloc),
-        }
+        let (aliases, firsts) = (Vec::new(alloc), IndexMap::new(alloc));
+        Aliases { aliases, firsts }
     }
 
     pub(crate) fn len(&self) -> usize

@@ -12,10 +12,8 @@ pub struct Output {
 impl Output {
     /// Standard output, to which nothing was written.
     pub fn new(rt: &HostRuntime) -> Output {
-        Output {
-            stdout: rt.stdout(),
-            failure: None,
-        }
+        let (stdout, failure) = (rt.stdout(), None);
+        Output { stdout, failure }
     }
 
     /// Why the last write that failed did so.

@@ -127,16 +127,11 @@ fn line_of(catalogue: &Catalogue, group: usize, index: usize) -> Numbered
         Some(lines) => lines.get(index),
         None => None,
     };
-    match found {
-        Some(number) => Numbered {
-            number: *number,
-            code: OK,
-        },
-        None => Numbered {
-            number: 0,
-            code: NO_NUMBER,
-        },
-    }
+    let (number, code) = match found {
+        Some(number) => (*number, OK),
+        None => (0, NO_NUMBER),
+    };
+    Numbered { number, code }
 }
 
 /// A piece of a group's text.

@@ -30,10 +30,8 @@ pub(crate) fn no_refusal() -> Refused
 pub(crate) fn place_and_number(refusal: Refusal) -> Refused
     ensures { result ≡ place_and_number refusal }
 {
-    Refused {
-        place: refusal.place(),
-        number: u32::from(refusal.number()),
-    }
+    let (place, number) = (refusal.place(), u32::from(refusal.number()));
+    Refused { place, number }
 }
 
 /// Answers the refusal in a fault, with this code, or out of memory.

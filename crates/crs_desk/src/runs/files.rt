@@ -81,10 +81,8 @@ fn prefix_of(
 {
     let mut bytes = Vec::new(alloc);
     if names.len() == 1 {
-        return Ok(Prefix {
-            bytes,
-            in_object: false,
-        });
+        let in_object = false;
+        return Ok(Prefix { bytes, in_object });
     }
     let in_object = is_json(task);
     if in_object {

@@ -101,9 +101,8 @@ impl Seen {
     pub(crate) fn new(alloc: Global) -> Seen
         ensures { result ≡ [] }
     {
-        Seen {
-            keys: IndexSet::new(alloc),
-        }
+        let keys = IndexSet::new(alloc);
+        Seen { keys }
     }
 
     pub(crate) fn len(&self) -> usize
