@@ -24,10 +24,8 @@ enum Opened {
 impl Input {
     /// Standard input.
     pub fn standard(rt: &HostRuntime) -> Input {
-        Input {
-            opened: Opened::Standard(rt.stdin()),
-            failure: None,
-        }
+        let (opened, failure) = (Opened::Standard(rt.stdin()), None);
+        Input { opened, failure }
     }
 
     /// The file of a name, or standard input for `-`. The error is the system's.
@@ -35,11 +33,8 @@ impl Input {
         if name == STANDARD {
             return Ok(Input::standard(rt));
         }
-        let file = File::open(rt, name)?;
-        Ok(Input {
-            opened: Opened::File(file),
-            failure: None,
-        })
+        let (opened, failure) = (Opened::File(File::open(rt, name)?), None);
+        Ok(Input { opened, failure })
     }
 
     /// Why the last read that failed did so.
@@ -86,14 +81,9 @@ impl Inputs for Opener {
     }
 
     fn tell(&self, name: &str, input: &Input, fault: &RunFault) {
-        tell_fault(&self.rt, name, input, fault);
-    }
-}
-
-/// Tells the user with which fault a file ended: of a read that failed the system's reason.
-pub fn tell_fault(rt: &HostRuntime, name: &str, input: &Input, fault: &RunFault) {
-    match (fault, input.failure()) {
-        (RunFault::ReadFailed, Some(error)) => tell_of(rt, name, error),
-        _ => tell_of(rt, name, fault),
+        match (fault, input.failure()) {
+            (RunFault::ReadFailed, Some(error)) => tell_of(&self.rt, name, error),
+            _ => tell_of(&self.rt, name, fault),
+        }
     }
 }

@@ -1,14 +1,15 @@
 //! The runs of the commands: over standard input and output, over texts and over files, with rules or without. Files of
 //! rules are read before all others.
 use crate::fault::Fault;
-use crate::input::{Input, Opener, tell_fault};
+use crate::input::{Input, Opener};
 use crate::messages::{tell_of, tell_refused};
 use crate::output::Output;
 use crs_desk::{
-    CanonText, CheckText, Comparison, ExplainText, ExplainedForms, FileTask, Filling, ForText, Job,
-    Layout, Level, LinePair, LineWord, LineWords, OfLine, PairAnswer, Rules, RulesFault,
-    RulesReader, RunFault, SameForms, Sink, Source, Stream, Summary, Task, Told, Under, WordKind,
-    Work, read_text, run_canon, run_check, run_files, run_lines, run_same, run_text, write_answer,
+    CanonText, CheckText, Comparison, ExplainText, ExplainedForms, FileTask, Filling, ForText,
+    Inputs, Job, Layout, Level, LinePair, LineWord, LineWords, OfLine, PairAnswer, Rules,
+    RulesFault, RulesReader, RunFault, SameForms, Sink, Source, Stream, Summary, Task, Told, Under,
+    WordKind, Work, read_text, run_canon, run_check, run_files, run_lines, run_same, run_text,
+    write_answer,
 };
 use crs_group::run_group_listing;
 use std::path::Path;
@@ -151,19 +152,16 @@ impl Comparing<'_, '_, '_> {
 
 // The text of a file. Its fault is told.
 fn file_text(rt: &HostRuntime, name: &str) -> Result<Vec<u8>, Fault> {
-    let mut input = match Input::open(rt, name) {
-        Ok(input) => input,
-        Err(error) => {
-            tell_of(rt, name, error);
-            return Err(Fault::Told);
-        }
+    let files = Opener { rt: *rt };
+    let Some(mut input) = files.open(name) else {
+        return Err(Fault::Told);
     };
     let read = read_text(rt.alloc(), &mut Source::new(Filling::new(&mut input)));
     match read {
         Ok(text) => Ok(text),
         Err(RunFault::Memory) => Err(Fault::Run(RunFault::Memory)),
         Err(fault) => {
-            tell_fault(rt, name, &input, &fault);
+            files.tell(name, &input, &fault);
             Err(Fault::Told)
         }
     }
