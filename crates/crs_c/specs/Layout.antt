@@ -43,11 +43,7 @@ abbrev pub marks : Marks
 marks =
     record {
       refusal = marked_refusal;
-      standing = record {
-        group = 3333333333333333333;
-        refused = marked_refusal;
-        code = 4000000004;
-      };
+      standing = record { group = 3333333333333333333; refused = marked_refusal; code = 4000000004 };
       line = record { number = 5555555555555555555; code = 4000000006 };
       piece = record { bytes = replicate 240 7; length = 8888888888888888888; code = 4000000009 };
       rules_standing = record {

@@ -23,19 +23,11 @@ level_option = record (new_rule (codes "level")) { long = Some (codes "level"); 
 
 -- the option `--rules`, which takes one word each time that it stands
 abbrev pub rules_option : Rule
-rules_option = record (new_rule (codes "rules")) {
-  long = Some (codes "rules");
-  value_names = 1;
-  action = Some Append;
-}
+rules_option = record (new_rule (codes "rules")) { long = Some (codes "rules"); value_names = 1; action = Some Append }
 
 -- the option `--first`, which takes one word each time that it stands
 abbrev pub first_option : Rule
-first_option = record (new_rule (codes "order")) {
-  long = Some (codes "first");
-  value_names = 1;
-  action = Some Append;
-}
+first_option = record (new_rule (codes "order")) { long = Some (codes "first"); value_names = 1; action = Some Append }
 
 -- a flag of this name, which takes no word
 abbrev pub flag : Text → Rule

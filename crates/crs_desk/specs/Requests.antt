@@ -96,12 +96,7 @@ over_files asked rows =
 
 -- two operands, and the rules among a command's matches
 abbrev pub pair_of : List Row → Text → Text → LinePair
-pair_of rows first second = record {
-  kind = kind_of_words rows;
-  first = first;
-  second = second;
-  rules = rules_of rows;
-}
+pair_of rows first second = record { kind = kind_of_words rows; first = first; second = second; rules = rules_of rows }
 
 -- both operands of `same` are compared where they are there
 abbrev pub same_operands : List Row → Option Text → Option Text → Option Request

@@ -35,10 +35,7 @@ put_across text (horizontal.Projected p) = horizontal.Projected (put_projected t
 
 -- a compound CRS, the axes of both parts put so
 abbrev pub put_compound : (AxisParts → List ℕ) → CompoundParts → CompoundParts
-put_compound text c = record c {
-  horizontal = put_across text c.horizontal;
-  vertical = put_vertical text c.vertical;
-}
+put_compound text c = record c { horizontal = put_across text c.horizontal; vertical = put_vertical text c.vertical }
 
 -- a CRS, its axes put so
 abbrev pub put_crs : (AxisParts → List ℕ) → Crs → Crs

@@ -137,10 +137,7 @@ usage r u = record u { extent = option_map (extent r) u.extent }
 
 -- the end of a CRS
 abbrev pub tail : Meaning → TailParts → TailParts
-tail r t = record t {
-  usages = map (usage r) t.usages;
-  bare_parts = option_map (usage r) t.bare_parts;
-}
+tail r t = record t { usages = map (usage r) t.usages; bare_parts = option_map (usage r) t.bare_parts }
 
 -- ---- conversions
 

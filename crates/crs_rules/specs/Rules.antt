@@ -77,11 +77,7 @@ pub record Meaning : Type 0 where
 
 -- what these rules do
 abbrev pub meaning : RulesParts → Meaning
-meaning r = record {
-  name = first_name r.names;
-  unit = first_unit r.units;
-  uncounted = r.uncounted;
-}
+meaning r = record { name = first_name r.names; unit = first_unit r.units; uncounted = r.uncounted }
 
 -- a name without one ` ensemble` at its end
 abbrev pub without_ensemble : List ℕ → List ℕ

@@ -8,11 +8,7 @@ use Rattle.crs_group.proofs.running.Cutter.take.Goals as goal
 
 pub loop-line-init : goal.loop-line-init
 loop-line-init g c = record {
-  done = (
-    [],
-    refl,
-    λ bytes cut. rw append-nil cut,
-  );
+  done = ([], refl, λ bytes cut. rw append-nil cut);
   lines = omega arith;
   small = omega arith;
   level = refl;

@@ -8,10 +8,7 @@ returns-in_ok-line_of-in-Ok c =
     inl (
       c.in-Ok.canon.bytes,
       c.in-Ok.ensures.answer,
-      record {
-        line = rw c.into_bytes.ensures at c.in_ok-line_of-in-Ok.ensures;
-        is_status = refl;
-      },
+      record { line = rw c.into_bytes.ensures at c.in_ok-line_of-in-Ok.ensures; is_status = refl },
     )
 
 pub returns-in_ok-refused_line-in-Err : goal.returns-in_ok-refused_line-in-Err
