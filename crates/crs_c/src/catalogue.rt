@@ -25,8 +25,7 @@ pub struct Room {
 #[unsafe(no_mangle)]
 pub unsafe extern "C" fn crsdesk_catalogue_new(alloc: Global, at: *mut Room, level: u32) -> u32
     requires* { sem 𝓛 (has_room at) }
-    ensures* { ∃ₛ (λ (new : CatalogueParts).
-        sem 𝓛 (catalogue_at at new) ∗ ⌜ IsMadeEmpty level new result ⌝) }
+    ensures* { ∃ₛ (λ (new : CatalogueParts). sem 𝓛 (catalogue_at at new) ∗ ⌜ IsMadeEmpty level new result ⌝) }
 {
     let place = at as *mut Catalogue;
     let (new, code) = new_catalogue(alloc, level);

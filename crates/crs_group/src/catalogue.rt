@@ -53,8 +53,7 @@ impl Model for Catalogue {
       refused = catalogue.refused.items;
     } };
 
-    ghost invariant = { λ catalogue.
-        AreKnown catalogue.level (canons catalogue.groups) catalogue.recent };
+    ghost invariant = { λ catalogue. AreKnown catalogue.level (canons catalogue.groups) catalogue.recent };
 }
 
 impl Catalogue {

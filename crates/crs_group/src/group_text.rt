@@ -171,8 +171,7 @@ impl Listed<'_> {
     }
 
     fn write_member(self, out: &mut Vec<u8>, named: bool, number: u64) -> Result<(), AllocError>
-        ensures { OnOk result (out.new.items ≡ out.old.items
-            ++ json_line named self.entry.ledger.now.names number) }
+        ensures { OnOk result (out.new.items ≡ out.old.items ++ json_line named self.entry.ledger.now.names number) }
     {
         if named {
             return append_text(self.ledger.names().at(number), out);

@@ -17,8 +17,7 @@ pub fn catalogue_is_one()
 /// The groups of a catalogue by definition are unions of its groups at the full level. Profile.
 pub fn groups_are_united_by_definition()
     ensures { (placed united : List PlacedLine) (full definition : CatalogueParts) →
-        IsPartition placed full → IsPartition united definition →
-        map (λ p. p.line) placed ≡ map (λ p. p.line) united →
+        IsPartition placed full → IsPartition united definition → map (λ p. p.line) placed ≡ map (λ p. p.line) united →
         full.level ≡ levels.Full → definition.level ≡ levels.Definition → AreUnited placed united }
 {
     crs_value::laws::one_answer();

@@ -133,10 +133,7 @@ impl Rules {
 
     /// Keeps the first `names` names and the first `units` units that count as others, and forgets the rest.
     pub fn truncate(&mut self, names: usize, units: usize)
-        ensures { self.new ≡ record self.old {
-          names = take names self.old.names;
-          units = take units self.old.units;
-        } }
+        ensures { self.new ≡ record self.old { names = take names self.old.names; units = take units self.old.units } }
     {
         self.names.truncate(names);
         self.units.truncate(units);

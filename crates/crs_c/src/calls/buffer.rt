@@ -33,10 +33,8 @@ pub fn give_pieces(
     ends: &mut [usize],
     count: &mut usize,
 ) -> u32
-    ensures { AreGiven pieces.now
-        (buffers_of out.old length.old ends.old count.old)
-        (buffers_of out.new length.new ends.new count.new)
-        result }
+    ensures { AreGiven pieces.now (buffers_of out.old length.old ends.old count.old)
+        (buffers_of out.new length.new ends.new count.new) result }
 {
     let first = give(pieces.bytes(), out, length);
     let second = give(pieces.ends(), ends, count);

@@ -108,8 +108,7 @@ pub fn canon_and_check_have_lines()
 pub fn explain_takes_texts_and_options()
     ensures alone { (program : Text) →
         asked (program ∷ codes "explain" ∷ []) ≡ Some (Other (codes "full") [] (work.Standard (task.Explain manner.Lines))) }
-    ensures one { (program first : Text) → is_plain_word first ≡ true →
-        asked (program ∷ codes "explain" ∷ first ∷ [])
+    ensures one { (program first : Text) → is_plain_word first ≡ true → asked (program ∷ codes "explain" ∷ first ∷ [])
         ≡ Some (Other (codes "full") [] (work.Text manner.Lines first [])) }
     ensures two { (program first second : Text) → is_plain_word first ≡ true → is_plain_word second ≡ true →
         asked (program ∷ codes "explain" ∷ first ∷ second ∷ [])

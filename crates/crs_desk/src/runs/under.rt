@@ -106,8 +106,7 @@ fn second_of<T: Telling, W: Writing>(
     first: Canon,
     second: &[u8],
 ) -> Result<Both, AllocError>
-    ensures { IfOk result (λ found. MatchResult found
-        (λ both. (both.0 ≡ first) × W.Is by second.now both.1.bytes)
+    ensures { IfOk result (λ found. MatchResult found (λ both. (both.0 ≡ first) × W.Is by second.now both.1.bytes)
         (λ output. T.Refused told (codes "second ") second.now output.0.items output.1)) }
 {
     match by.write(alloc, second) {
@@ -231,8 +230,7 @@ fn told_parts(
     before: &Option<Vec<DifferenceTexts>>,
     after: &Option<Vec<DifferenceTexts>>,
 ) -> Result<(Vec<u8>, u8), AllocError>
-    ensures { IfOk result (λ output.
-        let old = option_map (λ texts. texts.items) before.now in
+    ensures { IfOk result (λ output. let old = option_map (λ texts. texts.items) before.now in
         let new = option_map (λ texts. texts.items) after.now in
         (output.0.items ≡ told_parts how new ++ marked how (texts_in new) (texts_in old))
         × (output.1 ≡ status_of new)) }

@@ -260,8 +260,7 @@ impl RulesReader {
     fn add_set(&mut self, alloc: Global, items: &Items<'_>, id: ItemId) -> Result<(), RulesFault>
         requires has { HasId items.now id }
         requires node { IsNode (item_at items.now id) }
-        ensures answer { MatchResult result
-            (λ _. AddsSet self.old (arguments (item_at items.now id)) self.new)
+        ensures answer { MatchResult result (λ _. AddsSet self.old (arguments (item_at items.now id)) self.new)
             (IsRefusedBy (FaultOfSet self.old (arguments (item_at items.now id)))) }
         ensures grown { HasGrown self.old self.new }
     {
@@ -276,8 +275,7 @@ impl RulesReader {
     #[tactic(auto, using(crate::proofs::GrownLemmas::grown_self, crate::proofs::GrownLemmas::grown_dropped))]
     fn drop_word(&mut self, items: &Items<'_>, id: ItemId) -> Result<(), RulesFault>
         requires { HasId items.now id }
-        ensures answer { MatchResult result
-            (λ _. Drops self.old (item_at items.now id) self.new)
+        ensures answer { MatchResult result (λ _. Drops self.old (item_at items.now id) self.new)
             (IsRefusedBy (FaultOfWord self.old (item_at items.now id))) }
         ensures grown { HasGrown self.old self.new }
     {
@@ -293,8 +291,7 @@ impl RulesReader {
     // What the items from this one on name doesn't count.
     fn drop_words(&mut self, items: &Items<'_>, from: Option<ItemId>) -> Result<(), RulesFault>
         requires { Holds items.now from }
-        ensures answer { MatchResult result
-            (λ _. Over Drops self.old (listed (ahead items.now from)) self.new)
+        ensures answer { MatchResult result (λ _. Over Drops self.old (listed (ahead items.now from)) self.new)
             (IsRefusedBy (FaultOver Drops FaultOfWord self.old (listed (ahead items.now from)))) }
         ensures grown { HasGrown self.old self.new }
     {
@@ -309,8 +306,7 @@ impl RulesReader {
     #[tactic(auto, using(crate::proofs::GrownLemmas::grown_self))]
     fn read_statement(&mut self, alloc: Global, items: &Items<'_>) -> Result<(), RulesFault>
         requires { IsNode items.now }
-        ensures answer { MatchResult result
-            (λ _. States self.old items.now self.new)
+        ensures answer { MatchResult result (λ _. States self.old items.now self.new)
             (IsRefusedBy (FaultOfStatement self.old items.now)) }
         ensures grown { HasGrown self.old self.new }
     {
@@ -327,8 +323,7 @@ impl RulesReader {
     #[tactic(auto, using(crate::proofs::GrownLemmas::grown_on, crate::proofs::GrownLemmas::grown_line))]
     fn read_line(&mut self, alloc: Global, line: &[u8]) -> Result<(), RulesFault>
         requires { self.old.line + 1 < 2 ^ 64 }
-        ensures answer { MatchResult result
-            (λ _. Reads self.old line.now self.new)
+        ensures answer { MatchResult result (λ _. Reads self.old line.now self.new)
             (IsRefusedBy (FaultOfLine self.old line.now)) }
         ensures grown { HasGrown self.old self.new }
     {

@@ -104,8 +104,7 @@ fn sink(axes: &mut List<Axis<'_>>, texts: &mut Vec<AxisText>, from: usize)
 // Puts axes in order of their texts.
 fn sort(axes: &mut List<Axis<'_>>, texts: &mut Vec<AxisText>)
     requires { AreKeys texts.old.items axes.old }
-    ensures { (text : AxisParts → List ℕ) → texts.old.items ≡ map text axes.old →
-        axes.new ≡ ascending text axes.old }
+    ensures { (text : AxisParts → List ℕ) → texts.old.items ≡ map text axes.old → axes.new ≡ ascending text axes.old }
 {
     let mut from = axes.as_slice().len();
     while from > 0 {
