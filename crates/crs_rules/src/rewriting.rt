@@ -30,15 +30,13 @@ fn rewrite_part<'a, T: Part<'a>>(part: &mut Option<T>, rules: &'a Rules)
 
 // What rules do to each member of a list.
 #[derive(Drop)]
-struct Rewriting<'a> {
-    rules: &'a Rules,
-}
+struct Rewriting<'a>(&'a Rules);
 
 impl<'a, T: Part<'a>> Change<T> for Rewriting<'a> {
-    ghost changed = { λ c part. T.under (meaning c.rules.now) part };
+    ghost changed = { λ c part. T.under (meaning c.0.now) part };
 
     fn change(&self, value: &mut T) {
-        value.rewrite(self.rules);
+        value.rewrite(self.0);
     }
 }
 
@@ -46,5 +44,5 @@ impl<'a, T: Part<'a>> Change<T> for Rewriting<'a> {
 fn rewrite_each<'a, T: Part<'a>>(members: &mut List<T>, rules: &'a Rules)
     ensures { members.new ≡ map (T.under (meaning rules.now)) members.old }
 {
-    members.change_each(&Rewriting { rules });
+    members.change_each(&Rewriting(rules));
 }

@@ -53,11 +53,10 @@ impl Request {
     {
         let order = Vec::new(alloc);
         match self {
-            Request::Canon(level) => at_level(
-                &level,
-                order,
-                Work::Standard(Task::Canon(Layout::OneText)),
-            ),
+            Request::Canon(level) => {
+                let work = Work::Standard(Task::Canon(Layout::OneText));
+                at_level(&level, order, work)
+            }
             Request::Check => {
                 let work = Work::Standard(Task::Check(Layout::OneText));
                 let level = Level::Full;

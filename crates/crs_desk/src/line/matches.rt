@@ -39,7 +39,7 @@ fn request_named(alloc: Global, name: &str, options: &ArgMatches) -> Result<Requ
         "check" => over_files(alloc, options, Task::Check(layout(options))),
         "same" => same_request(alloc, options),
         "group" => over_files(alloc, options, Task::Group(listing(options))),
-        "explain" => explain_request(alloc, options),
+        "explain" => asked_for(alloc, options, explain_work(alloc, options)?),
         _ => unreachable!(),
     }
 }
@@ -84,13 +84,6 @@ fn same_request(alloc: Global, operands: &ArgMatches) -> Result<Request, AllocEr
         }
         _ => unreachable!(),
     }
-}
-
-fn explain_request(alloc: Global, operands: &ArgMatches) -> Result<Request, AllocError>
-    ensures { IfOk result (λ found. found ≡ asked_for (explain_work (rows_of (found_of operands.now))) (rows_of (found_of operands.now))) }
-{
-    let work = explain_work(alloc, operands)?;
-    asked_for(alloc, operands, work)
 }
 
 // What is explained: standard input or a file, a text, or the difference of two.
