@@ -149,10 +149,8 @@ fn no_lines(alloc: Global) -> Result<Vec<KnownLine>, AllocError>
 {
     let mut lines = Vec::with_capacity(alloc, PLACES)?;
     for place in 0..PLACES {
-        lines.push(KnownLine {
-            text: Vec::new(alloc),
-            group: None,
-        })?;
+        let (text, group) = (Vec::new(alloc), None);
+        lines.push(KnownLine { text, group })?;
     }
     Ok(lines)
 }

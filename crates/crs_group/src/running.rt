@@ -124,10 +124,8 @@ impl Cutter {
         ensures empty { result ≡ record { ledger = no_lines level; partial = [] } }
         ensures level { result.ledger.catalogue.level ≡ level }
     {
-        Cutter {
-            ledger: Ledger::new(alloc, level),
-            partial: Vec::new(alloc),
-        }
+        let (ledger, partial) = (Ledger::new(alloc, level), Vec::new(alloc));
+        Cutter { ledger, partial }
     }
 
     // The next piece of the bytes.

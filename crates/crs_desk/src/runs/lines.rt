@@ -149,10 +149,8 @@ impl LineCutter {
     fn new(alloc: Global) -> LineCutter
         ensures { result ≡ record { writer = record { out = []; status = 0 }; partial = []; lines = 0 } }
     {
-        let writer = LineWriter {
-            out: Vec::new(alloc),
-            status: 0,
-        };
+        let (out, status) = (Vec::new(alloc), 0);
+        let writer = LineWriter { out, status };
         LineCutter {
             writer,
             partial: Vec::new(alloc),
