@@ -1,5 +1,5 @@
 //! Lines on standard error. A failure of standard error itself can't be told.
-use crs_desk::{RulesFault, append_escaped};
+use crs_desk::append_escaped;
 use std::alloc::{AllocError, Global};
 use std::env::{Env, FillError};
 use std::fmt::Display;
@@ -13,13 +13,8 @@ pub fn tell_of<D: Display + Drop>(rt: &HostRuntime, name: &str, what: D) {
     tell(rt, name, ": ", what);
 }
 
-/// `crsdesk: NAME, line N: refused M at P: WHAT`, for the first refused line of a rules file.
-pub fn tell_refused(rt: &HostRuntime, name: &str, refused: RulesFault) {
-    tell(rt, name, ", ", refused);
-}
-
-// What is told of a name, after these words; by itself where there is no memory for the name.
-fn tell<D: Display + Drop>(rt: &HostRuntime, name: &str, words: &str, what: D) {
+/// What is told of a name, after these words; by itself where there is no memory for the name.
+pub fn tell<D: Display + Drop>(rt: &HostRuntime, name: &str, words: &str, what: D) {
     let mut shown = Vec::new(rt.alloc());
     if append_escaped(name.as_bytes(), &mut shown).is_ok() {
         let shown = str::from_utf8(&shown).unwrap_or(name);

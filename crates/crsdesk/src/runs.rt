@@ -2,7 +2,7 @@
 //! rules are read before all others.
 use crate::fault::Fault;
 use crate::input::{Input, Opener};
-use crate::messages::{tell_of, tell_refused};
+use crate::messages::{tell, tell_of};
 use crate::output::Output;
 use crs_desk::{
     CanonText, CheckText, Comparison, ExplainText, ExplainedForms, FileTask, Filling, ForText,
@@ -216,7 +216,7 @@ fn read_rules(rt: &HostRuntime, name: &str, reader: &mut RulesReader) -> Result<
         Ok(()) => Ok(()),
         Err(RulesFault::Memory(_)) => Err(Fault::Run(RunFault::Memory)),
         Err(refused) => {
-            tell_refused(rt, name, refused);
+            tell(rt, name, ", ", refused);
             Err(Fault::Told)
         }
     }
