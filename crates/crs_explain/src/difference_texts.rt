@@ -304,9 +304,7 @@ fn unit_text(at: At<'_>, unit: Option<&Unit<'_>>) -> Made<Vec<u8>>
         IsContentText at.entry.level (given (content.Unit kinds.Plain) (option_copied unit.entry)) text.items) }
 {
     let mut text = Vec::new(at.alloc);
-    let Some(unit) = unit else {
-        return Ok(text);
-    };
+    let Some(unit) = unit else { return Ok(text) };
     append_unit(at.alloc, &mut text, UnitKind::Plain, unit, at.level)?;
     Ok(text)
 }

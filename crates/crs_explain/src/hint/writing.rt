@@ -40,9 +40,7 @@ pub fn hints(alloc: Global, text: &[u8], refusal: Refusal) -> Result<Vec<u8>, Al
 // What to say of the place beside what is said of the whole. For a class that isn't read, only damage is named: in
 // WKT1 a second text may follow.
 fn beside<'a>(whole: Option<Hint<'_>>, there: Option<Hint<'a>>, number: u8) -> Option<Hint<'a>> {
-    let Some(whole) = whole else {
-        return there;
-    };
+    let Some(whole) = whole else { return there };
     let is_of_class = matches!(whole.about, About::Class) && number <= LAST_OF_TEXT;
     let is_of_damage = !matches!(there?.about, About::Behind);
     (is_of_class && is_of_damage).then_some(there?)

@@ -126,9 +126,7 @@ fn ends(items: &Items<'_>, at: Option<ItemId>, level: Level) -> Option<()>
     requires { Holds items.now at }
     ensures { IfSome result (λ _. IsEnd level (ahead items.now at)) }
 {
-    let Some(id) = at else {
-        return Some(());
-    };
+    let Some(id) = at else { return Some(()) };
     if !keeps(level) || items.next(id).is_some() {
         return None;
     }

@@ -65,9 +65,7 @@ pub fn nth(items: &Items<'_>, id: ItemId, parent: Class, class: Class, k: usize)
 {
     let mut at = first(items, id, parent, class);
     for _step in 0..k {
-        let Some(found) = at else {
-            return None;
-        };
+        let Some(found) = at else { return None };
         at = later(items, found, parent, class);
     }
     at
