@@ -26,9 +26,7 @@ pub trait Canonical: Spell {
     fn same(&self, other: &Self, level: Level) -> bool
         ensures { IsTrue result ↔ Same level self.now other.now };
 
-    /// Appends the one spelling of the value.
-    ///
-    /// `AllocError`: there is no memory for it, and `out` is as before.
+    /// Appends the one spelling of the value. `AllocError`: there is no memory for it, and `out` is as before.
     fn write(&self, alloc: Global, level: Level, out: &mut Vec<u8>) -> Result<(), AllocError>
         ensures { AppendsOrNothing result (IsSpelling level self.now) out.old.items out.new.items }
     {

@@ -41,9 +41,8 @@ fn append_number(out: &mut Vec<u8>, number: &Decimal) -> Result<(), AllocError>
     number.write(out)
 }
 
-/// Appends a unit as `write_content` does, where this kind is asked. Profile.
-///
-/// `AllocError`: there is no memory for it, and `out` is as before.
+/// Appends a unit as `write_content` does, where this kind is asked. `AllocError`: there is no memory for it, and `out`
+/// is as before. Profile.
 pub fn append_unit(
     alloc: Global,
     out: &mut Vec<u8>,
@@ -103,9 +102,7 @@ fn append_usages(
 /// Appends the value of a part of a CRS, as the canonical text at a level writes it: nothing; a word; a text in its
 /// quotes; a number in its plain spelling; a node; or, for a set, the members that have no same one in the other CRS,
 /// each once, in ascending order of their bytes, a comma between two. A unit has the keyword of its kind; one written
-/// as `UNIT` has that of the asked kind. Profile.
-///
-/// `AllocError`: there is no memory for it, and `out` is as before.
+/// as `UNIT` has that of the asked kind. `AllocError`: there is no memory for it, and `out` is as before. Profile.
 pub fn write_content(
     content: &Content<'_, '_>,
     alloc: Global,

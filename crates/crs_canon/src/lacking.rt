@@ -34,9 +34,8 @@ pub(crate) fn append_lacking(
     append_members(out, text.as_slice())
 }
 
-/// Appends the members of a set that the others lack, as `write_content` does. Profile.
-///
-/// `AllocError`: there is no memory for them, and `out` is as before.
+/// Appends the members of a set that the others lack, as `write_content` does. `AllocError`: there is no memory for
+/// them, and `out` is as before. Profile.
 pub fn append_lacking_members<T: Canonical>(
     alloc: Global,
     out: &mut Vec<u8>,

@@ -46,9 +46,8 @@ fn is_paired<'a>(these: &[Parameter<'a>], others: &[Parameter<'a>], name: &[u8])
     named_once(these, name).is_some() && named_once(others, name).is_some()
 }
 
-/// The names that stand once on each side, among at most 64, in ascending order of their bytes. Profile.
-///
-/// `AllocError`: there is no memory for them.
+/// The names that stand once on each side, among at most 64, in ascending order of their bytes. `AllocError`: there is
+/// no memory for them. Profile.
 pub fn paired_names<'a>(
     alloc: Global,
     these: &[Parameter<'a>],
@@ -95,9 +94,7 @@ fn gather_unpaired<'a>(
 }
 
 /// Appends those parameters that the others lack, as `write_content` does, without those whose name stands once on each
-/// side, among at most 64. Profile.
-///
-/// `AllocError`: there is no memory for them, and `out` is as before.
+/// side, among at most 64. `AllocError`: there is no memory for them, and `out` is as before. Profile.
 pub fn append_unpaired<'a>(
     alloc: Global,
     out: &mut Vec<u8>,

@@ -46,9 +46,7 @@ impl<'s, T: Canonical> Set<'s, T> {
     }
 
     /// Appends the spellings of the members, each once, in ascending order of their bytes, a comma between two; nothing
-    /// for an empty set.
-    ///
-    /// `AllocError`: there is no memory for it, and `out` is as before.
+    /// for an empty set. `AllocError`: there is no memory for it, and `out` is as before.
     pub fn write(&self, alloc: Global, level: Level, out: &mut Vec<u8>) -> Result<(), AllocError>
         ensures { AppendsOrNothing result (IsSetText (T.IsSpelling level) self.now) out.old.items out.new.items }
     {

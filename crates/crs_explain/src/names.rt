@@ -28,9 +28,7 @@ impl Model for Name {
 }
 
 impl Name {
-    /// The word, or the name, of these bytes. A word that no path has matches no step.
-    ///
-    /// `AllocError`: there is no memory for it.
+    /// The word, or the name, of these bytes. A word that no path has matches no step. `AllocError`: no memory for it.
     pub fn new(alloc: Global, bytes: &[u8]) -> Made<Name>
         ensures { IfOk result (λ name. name ≡ bytes.now) }
     {

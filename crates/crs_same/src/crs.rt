@@ -245,10 +245,8 @@ pub fn first_part<'a>(a: &Crs<'a>, b: &Crs<'a>, level: Level) -> Option<Path>
     Found::first().crs(a, b, level).into_first()
 }
 
-/// All parts in which two CRSs differ, in the order of the canonical text, each with its value in either; none
-/// exactly where they are the same. A set is one part, and so is a unit. Profile.
-///
-/// `AllocError`: there is no memory for them.
+/// All parts in which two CRSs differ, in the order of the canonical text, each with its value in either; none exactly
+/// where they are the same. A set is one part, and so is a unit. `AllocError`: there is no memory for them. Profile.
 pub fn differences<'b, 'a>(
     alloc: Global,
     a: &'b Crs<'a>,

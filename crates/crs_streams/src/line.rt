@@ -28,9 +28,7 @@ pub fn text_of(line: &[u8]) -> &[u8]
     }
 }
 
-/// Appends the bytes of a line that goes on.
-///
-/// `Memory`: there is no memory for them, and `out` is as before.
+/// Appends the bytes of a line that goes on. `Memory`: there is no memory for them, and `out` is as before.
 pub fn append_bytes(out: &mut Vec<u8>, bytes: &[u8]) -> Result<(), RunFault>
     ensures appended { OnOk result (out.new.items ≡ out.old.items ++ bytes.now) }
     ensures unchanged { OnErr result (out.new.items ≡ out.old.items) }

@@ -10,9 +10,7 @@ use itoa::Buffer;
 use std::alloc::AllocError;
 
 /// Appends the number that bytes spell, in its canonical spelling: most are in it already, but for a plus or zeros.
-/// Profile.
-///
-/// `AllocError`: there is no memory for it.
+/// `AllocError`: there is no memory for it. Profile.
 pub fn write_raw(out: &mut Vec<u8>, raw: &[u8]) -> Result<(), AllocError>
     ensures { OnOk result (Writes (IsNumber raw.now) plain out.old.items out.new.items) }
 {
@@ -44,9 +42,7 @@ fn write_read(out: &mut Vec<u8>, raw: &[u8]) -> Result<(), AllocError>
     }
 }
 
-/// Appends a whole number. Profile.
-///
-/// `AllocError`: there is no memory for it.
+/// Appends a whole number. `AllocError`: there is no memory for it. Profile.
 pub fn write_whole(out: &mut Vec<u8>, number: u64) -> Result<(), AllocError>
     ensures { OnOk result (out.new.items ≡ out.old.items ++ plain (whole_value number)) }
 {

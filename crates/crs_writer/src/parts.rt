@@ -24,9 +24,7 @@ pub trait Spell: Sized {
     /// The spelling of a value.
     ghost spelling: { Level → Self → List ℕ };
 
-    /// Appends the spelling of the value.
-    ///
-    /// `AllocError`: there is no memory for it, and nothing is said of `out`.
+    /// Appends the spelling of the value. `AllocError`: there is no memory for it, and nothing is said of `out`.
     fn spell(&self, out: &mut Vec<u8>, level: Level) -> Result<(), AllocError>
         ensures { OnOk result (out.new.items ≡ out.old.items ++ spelling level self.now) };
 }
@@ -36,9 +34,7 @@ pub trait NumberPart: Copy {
     /// The decimals that it may be: one, but where bytes spell none.
     ghost Says: { Self → Value → Type 0 };
 
-    /// Appends an opening, or a comma, and the number.
-    ///
-    /// `AllocError`: there is no memory for them.
+    /// Appends an opening, or a comma, and the number. `AllocError`: there is no memory for them.
     fn open(&self, out: &mut Vec<u8>, opening: &[u8]) -> Appended
         ensures { OnOk result (Writes (Says self.now) (λ v. opening.now ++ plain v) out.old.items out.new.items) };
 
@@ -52,9 +48,7 @@ pub trait IdentsPart: Copy {
     /// What they are.
     ghost Says: { Self → List IdentParts → Type 0 };
 
-    /// Appends those that the level keeps, a comma before each.
-    ///
-    /// `AllocError`: there is no memory for them.
+    /// Appends those that the level keeps, a comma before each. `AllocError`: there is no memory for them.
     fn put(&self, out: &mut Vec<u8>, level: Level) -> Appended
         ensures { OnOk result (Writes (Says self.now) (λ ids. others_text (each item_ident (set_idents level ids) End))
             out.old.items out.new.items) };
@@ -65,9 +59,7 @@ pub trait UnitPart: Copy {
     /// What it is.
     ghost Says: { Self → UnitParts → Type 0 };
 
-    /// Appends it after a comma, where this kind is asked: `UNIT` counts as that kind.
-    ///
-    /// `AllocError`: there is no memory for it.
+    /// Appends it after a comma, where this kind is asked: `UNIT` counts as that kind. `AllocError`: no memory for it.
     fn put(&self, out: &mut Vec<u8>, asked: UnitKind, level: Level) -> Appended
         ensures { OnOk result (Writes (Says self.now) (λ u. 44 ∷ item_text (item_unit (norm_unit level asked u)))
             out.old.items out.new.items) };
@@ -78,9 +70,7 @@ pub trait ValuePart<T: Spell>: Copy {
     /// The values that it may be.
     ghost Says: { Self → T → Type 0 };
 
-    /// Appends it after a comma.
-    ///
-    /// `AllocError`: there is no memory for it.
+    /// Appends it after a comma. `AllocError`: there is no memory for it.
     fn put(&self, out: &mut Vec<u8>, level: Level) -> Appended
         ensures { OnOk result (Writes (Says self.now) (λ v. 44 ∷ T.spelling level v) out.old.items out.new.items) };
 }

@@ -35,9 +35,7 @@ fn write_sorted(out: &mut Vec<u8>, sorted: &BTreeSet<Vec<u8>>) -> Appended
     Ok(())
 }
 
-/// Puts a member's spelling among the others. Profile.
-///
-/// `AllocError`: there is no memory for it.
+/// Puts a member's spelling among the others. `AllocError`: there is no memory for it. Profile.
 pub fn gather<T: Spell, P: MemberPart<T>>(
     alloc: Global,
     sorted: &mut BTreeSet<Vec<u8>>,
@@ -53,9 +51,7 @@ pub fn gather<T: Spell, P: MemberPart<T>>(
     Ok(())
 }
 
-/// Puts the spellings of the members among the others. Profile.
-///
-/// `AllocError`: there is no memory for them.
+/// Puts the spellings of the members among the others. `AllocError`: there is no memory for them. Profile.
 pub fn gather_all<T: Spell, M: MembersPart<T>>(
     alloc: Global,
     sorted: &mut BTreeSet<Vec<u8>>,
@@ -128,9 +124,7 @@ pub(crate) fn write_set_with<T: Spell, P: MemberPart<T>, M: MembersPart<T>>(
     }
 }
 
-/// Appends a set, a comma before each member. Profile.
-///
-/// `AllocError`: there is no memory for it.
+/// Appends a set, a comma before each member. `AllocError`: there is no memory for it. Profile.
 #[tactic(auto, unfolding(crate::specs::inner::Members::set_text))]
 #[inline(always)]
 pub fn write_set<T: Spell, M: MembersPart<T>>(

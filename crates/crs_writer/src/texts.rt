@@ -11,9 +11,7 @@ use crate::is_short;
 use crs_decimal::Decimal;
 use std::alloc::AllocError;
 
-/// Appends bytes. Profile.
-///
-/// `AllocError`: there is no memory for them.
+/// Appends bytes. `AllocError`: there is no memory for them. Profile.
 #[inline(always)]
 pub fn append(out: &mut Vec<u8>, bytes: &[u8]) -> Result<(), AllocError>
     ensures { OnOk result (out.new.items ≡ out.old.items ++ bytes.now) }
@@ -21,9 +19,7 @@ pub fn append(out: &mut Vec<u8>, bytes: &[u8]) -> Result<(), AllocError>
     out.extend_from_slice(bytes)
 }
 
-/// Appends a comma, and the bytes of an item. Profile.
-///
-/// `AllocError`: there is no memory for them.
+/// Appends a comma, and the bytes of an item. `AllocError`: there is no memory for them. Profile.
 pub fn append_item(out: &mut Vec<u8>, bytes: &[u8]) -> Result<(), AllocError>
     ensures { OnOk result (out.new.items ≡ out.old.items ++ 44 ∷ bytes.now) }
 {
@@ -31,9 +27,8 @@ pub fn append_item(out: &mut Vec<u8>, bytes: &[u8]) -> Result<(), AllocError>
     append(out, bytes)
 }
 
-/// Appends a keyword, the opening delimiter and a quoted text; the opening ends with the quote. Profile.
-///
-/// `AllocError`: there is no memory for them.
+/// Appends a keyword, the opening delimiter and a quoted text; the opening ends with the quote. `AllocError`: there is
+/// no memory for them. Profile.
 #[inline(always)]
 pub fn open_text(out: &mut Vec<u8>, opening: &[u8], text: &[u8]) -> Result<(), AllocError>
     ensures { OnOk result (out.new.items ≡ out.old.items ++ opened opening.now text.now) }
@@ -50,9 +45,8 @@ fn write_text_node(out: &mut Vec<u8>, opening: &[u8], text: &[u8]) -> Result<(),
     append(out, b"]")
 }
 
-/// Appends a node of one text, if there is one; the opening begins with a comma. Profile.
-///
-/// `AllocError`: there is no memory for it.
+/// Appends a node of one text, if there is one; the opening begins with a comma. `AllocError`: there is no memory for
+/// it. Profile.
 #[inline(always)]
 pub fn write_optional_text(
     out: &mut Vec<u8>,
@@ -67,9 +61,7 @@ pub fn write_optional_text(
     }
 }
 
-/// Appends a number in its canonical spelling. Profile.
-///
-/// `AllocError`: there is no memory for it.
+/// Appends a number in its canonical spelling. `AllocError`: there is no memory for it. Profile.
 pub fn write_decimal(out: &mut Vec<u8>, value: &Decimal) -> Result<(), AllocError>
     ensures { OnOk result (out.new.items ≡ out.old.items ++ plain value.now) }
 {
@@ -77,9 +69,8 @@ pub fn write_decimal(out: &mut Vec<u8>, value: &Decimal) -> Result<(), AllocErro
     value.write(out)
 }
 
-/// Appends a keyword, the opening delimiter and a number; the opening ends with the delimiter. Profile.
-///
-/// `AllocError`: there is no memory for them.
+/// Appends a keyword, the opening delimiter and a number; the opening ends with the delimiter. `AllocError`: there is
+/// no memory for them. Profile.
 #[inline(always)]
 pub fn open_number(out: &mut Vec<u8>, opening: &[u8], value: &Decimal) -> Result<(), AllocError>
     ensures { OnOk result (out.new.items ≡ out.old.items ++ (opening.now ++ plain value.now)) }
@@ -88,9 +79,7 @@ pub fn open_number(out: &mut Vec<u8>, opening: &[u8], value: &Decimal) -> Result
     write_decimal(out, value)
 }
 
-/// Appends a number after a comma. Profile.
-///
-/// `AllocError`: there is no memory for it.
+/// Appends a number after a comma. `AllocError`: there is no memory for it. Profile.
 pub fn write_number(out: &mut Vec<u8>, value: &Decimal) -> Result<(), AllocError>
     ensures { OnOk result (out.new.items ≡ out.old.items ++ 44 ∷ item_text (number_item value.now)) }
 {
@@ -98,9 +87,7 @@ pub fn write_number(out: &mut Vec<u8>, value: &Decimal) -> Result<(), AllocError
     write_decimal(out, value)
 }
 
-/// Appends a code or a version after a comma. Profile.
-///
-/// `AllocError`: there is no memory for it.
+/// Appends a code or a version after a comma. `AllocError`: there is no memory for it. Profile.
 pub fn write_code(out: &mut Vec<u8>, raw: &[u8]) -> Result<(), AllocError>
     ensures { OnOk result (out.new.items ≡ out.old.items ++ others_text (More (code_item raw.now) End)) }
 {

@@ -17,9 +17,8 @@ const LAST_OF_TEXT: u8 = 8;
 type Appended = Result<(), AllocError>;
 
 /// The hints that apply to a refused text, a sentence or more without a line end; nothing where none applies. A hint
-/// looks at the text's first bytes, at the place of the refusal, and at what is open there. Profile.
-///
-/// `AllocError`: there is no memory for them.
+/// looks at the text's first bytes, at the place of the refusal, and at what is open there. `AllocError`: there is no
+/// memory for them. Profile.
 pub fn hints(alloc: Global, text: &[u8], refusal: Refusal) -> Result<Vec<u8>, AllocError> {
     let whole = by_front(text);
     let before = look_before(text, refusal.place());
@@ -46,9 +45,8 @@ fn beside<'a>(whole: Option<Hint<'_>>, there: Option<Hint<'a>>, number: u8) -> O
     (is_of_class && is_of_damage).then_some(there?)
 }
 
-/// The node that is open where a text is refused, as `CS[ at 24 is still open`; nothing where none is. Profile.
-///
-/// `AllocError`: there is no memory for it.
+/// The node that is open where a text is refused, as `CS[ at 24 is still open`; nothing where none is. `AllocError`:
+/// there is no memory for it. Profile.
 pub fn still_open(alloc: Global, text: &[u8], refusal: Refusal) -> Result<Vec<u8>, AllocError> {
     let mut out = Vec::new(alloc);
     if let Some(at) = open_delimiter(text, refusal.place())

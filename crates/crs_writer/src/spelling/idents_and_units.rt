@@ -221,9 +221,7 @@ impl<'c, 'i, 'a> UnitPart for &'c Node<'i, 'a> {
     }
 }
 
-/// Appends a unit where this kind is asked, as which `UNIT` counts. Profile.
-///
-/// `AllocError`: there is no memory for it.
+/// Appends a unit where this kind is asked, as which `UNIT` counts. `AllocError`: there is no memory for it. Profile.
 pub fn write_bare_unit(
     out: &mut Vec<u8>,
     asked: UnitKind,
