@@ -45,6 +45,7 @@ fn geodetic_opening(system_type: SystemType) -> &'static str
     }
 }
 
+#[derive(Drop)]
 struct GeodeticFields<'b, D, F, M, S, T> {
     name: &'b [u8],
     dynamic: Option<D>,
@@ -72,21 +73,13 @@ fn write_geodetic<
         (opt item_meridian (norm_meridian level m)
         (system_items (norm_system level s) (tail_items (norm_tail level t)))))))) }
 {
-    let GeodeticFields {
-        name,
-        dynamic,
-        frame,
-        meridian,
-        system,
-        tail,
-    } = fields;
-    let opening = geodetic_opening(system.system_type());
-    open_text(out, opening.as_bytes(), name)?;
-    write_optional::<Dynamic<'a>, D>(out, dynamic, level)?;
-    frame.put_geodetic(out, level)?;
-    write_meridian::<M>(out, meridian, level)?;
-    write_system(out, system, level)?;
-    tail.put(out, level)?;
+    let opening = geodetic_opening(fields.system.system_type());
+    open_text(out, opening.as_bytes(), fields.name)?;
+    write_optional::<Dynamic<'a>, D>(out, fields.dynamic, level)?;
+    fields.frame.put_geodetic(out, level)?;
+    write_meridian::<M>(out, fields.meridian, level)?;
+    write_system(out, fields.system, level)?;
+    fields.tail.put(out, level)?;
     append(out, b"]")
 }
 
@@ -126,6 +119,7 @@ impl<'a> ReadAs<'a> for Geodetic<'a> {
 }
 
 // The unit is that of its angles.
+#[derive(Drop)]
 struct BaseFields<'b, D, F, M, U, I> {
     name: &'b [u8],
     dynamic: Option<D>,
@@ -158,20 +152,12 @@ fn write_base<
         (More (item_frame (codes "DATUM") (norm_frame level f)) (opt item_meridian (norm_meridian level m)
         (opt item_unit (norm_units level kinds.Angle u) (each item_ident (set_idents level is) End)))))) }
 {
-    let BaseFields {
-        name,
-        dynamic,
-        frame,
-        meridian,
-        unit,
-        ids,
-    } = fields;
-    open_text(out, opening, name)?;
-    write_optional::<Dynamic<'a>, D>(out, dynamic, level)?;
-    frame.put_geodetic(out, level)?;
-    write_meridian::<M>(out, meridian, level)?;
-    write_optional_unit(out, UnitKind::Angle, unit, level)?;
-    ids.put(out, level)?;
+    open_text(out, opening, fields.name)?;
+    write_optional::<Dynamic<'a>, D>(out, fields.dynamic, level)?;
+    fields.frame.put_geodetic(out, level)?;
+    write_meridian::<M>(out, fields.meridian, level)?;
+    write_optional_unit(out, UnitKind::Angle, fields.unit, level)?;
+    fields.ids.put(out, level)?;
     append(out, b"]")
 }
 
@@ -258,6 +244,7 @@ impl<'a> ReadAs<'a> for Projected<'a> {
     }
 }
 
+#[derive(Drop)]
 struct VerticalFields<'b, D, F, S, T> {
     name: &'b [u8],
     dynamic: Option<D>,
@@ -280,19 +267,12 @@ fn write_vertical<
         S.Says fields.entry.system v.system → G.Say models.now v.geoid_models →
         T.Says fields.entry.tail v.tail → out.new.items ≡ out.old.items ++ vertical_text level v) }
 {
-    let VerticalFields {
-        name,
-        dynamic,
-        frame,
-        system,
-        tail,
-    } = fields;
-    open_text(out, b"VERTCRS[\"", name)?;
-    write_optional::<Dynamic<'a>, D>(out, dynamic, level)?;
-    frame.put_vertical(out, level)?;
-    write_system(out, system, level)?;
+    open_text(out, b"VERTCRS[\"", fields.name)?;
+    write_optional::<Dynamic<'a>, D>(out, fields.dynamic, level)?;
+    fields.frame.put_vertical(out, level)?;
+    write_system(out, fields.system, level)?;
     write_set::<GeoidModel<'a>, G>(out, models, level)?;
-    tail.put(out, level)?;
+    fields.tail.put(out, level)?;
     append(out, b"]")
 }
 

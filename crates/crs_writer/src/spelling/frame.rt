@@ -47,6 +47,7 @@ impl<'a> SetReadAs<'a> for Member<'a> {
     }
 }
 
+#[derive(Drop)]
 struct DatumFields<'b, E, N, I> {
     name: &'b [u8],
     ellipsoid: Option<E>,
@@ -68,18 +69,11 @@ fn write_datum<'a, E: ValuePart<Ellipsoid<'a>>, N: NumberPart, I: IdentsPart>(
         SaysIfAny N.Says fields.entry.anchor_epoch d.anchor_epoch → I.Says fields.entry.ids d.identifiers →
         out.new.items ≡ out.old.items ++ datum_node level opening.now d) }
 {
-    let DatumFields {
-        name,
-        ellipsoid,
-        anchor,
-        anchor_epoch,
-        ids,
-    } = fields;
-    open_text(out, opening, name)?;
-    write_optional::<Ellipsoid<'a>, E>(out, ellipsoid, level)?;
-    write_optional_text(out, b",ANCHOR[\"", anchor)?;
-    write_optional_number(out, b",ANCHOREPOCH[", anchor_epoch)?;
-    ids.put(out, level)?;
+    open_text(out, opening, fields.name)?;
+    write_optional::<Ellipsoid<'a>, E>(out, fields.ellipsoid, level)?;
+    write_optional_text(out, b",ANCHOR[\"", fields.anchor)?;
+    write_optional_number(out, b",ANCHOREPOCH[", fields.anchor_epoch)?;
+    fields.ids.put(out, level)?;
     append(out, b"]")
 }
 

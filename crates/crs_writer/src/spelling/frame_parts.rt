@@ -24,6 +24,7 @@ use crate::{Node, append, open_text};
 use crs_shape::Class;
 use crs_value::{DeformationModel, Dynamic, Ellipsoid, Level, Meridian, UnitKind};
 
+#[derive(Drop)]
 struct EllipsoidFields<'b, N, U, I> {
     name: &'b [u8],
     semi_major_axis: N,
@@ -47,18 +48,11 @@ fn write_ellipsoid<N: NumberPart, U: UnitPart, I: IdentsPart>(
         (More (number_item e.semi_major_axis) (More (number_item e.inverse_flattening)
         (opt item_unit (Some (norm_length level e.unit)) (each item_ident (set_idents level e.identifiers) End))))) }
 {
-    let EllipsoidFields {
-        name,
-        semi_major_axis,
-        inverse_flattening,
-        unit,
-        ids,
-    } = fields;
-    open_text(out, opening, name)?;
-    semi_major_axis.open(out, b",")?;
-    inverse_flattening.open(out, b",")?;
-    write_length(out, unit, level)?;
-    ids.put(out, level)?;
+    open_text(out, opening, fields.name)?;
+    fields.semi_major_axis.open(out, b",")?;
+    fields.inverse_flattening.open(out, b",")?;
+    write_length(out, fields.unit, level)?;
+    fields.ids.put(out, level)?;
     append(out, b"]")
 }
 

@@ -35,6 +35,7 @@ fn write_version(out: &mut Vec<u8>, version: Option<&[u8]>) -> Appended
     Ok(())
 }
 
+#[derive(Drop)]
 struct IdentFields<'b> {
     authority: &'b [u8],
     code: &'b [u8],
@@ -50,18 +51,11 @@ fn write_ident(out: &mut Vec<u8>, fields: IdentFields<'_>) -> Appended
         i.citation ≡ option_copied fields.entry.citation → i.uri ≡ option_copied fields.entry.uri →
         out.new.items ≡ out.old.items ++ item_text (item_ident i)) }
 {
-    let IdentFields {
-        authority,
-        code,
-        version,
-        citation,
-        uri,
-    } = fields;
-    open_text(out, b"ID[\"", authority)?;
-    write_code(out, code)?;
-    write_version(out, version)?;
-    write_optional_text(out, b",CITATION[\"", citation)?;
-    write_optional_text(out, b",URI[\"", uri)?;
+    open_text(out, b"ID[\"", fields.authority)?;
+    write_code(out, fields.code)?;
+    write_version(out, fields.version)?;
+    write_optional_text(out, b",CITATION[\"", fields.citation)?;
+    write_optional_text(out, b",URI[\"", fields.uri)?;
     append(out, b"]")
 }
 
@@ -276,6 +270,7 @@ pub(crate) fn write_length<U: UnitPart>(
 }
 
 /// The fields of a node of a name, and a number in a unit of the kind that is asked.
+#[derive(Drop)]
 pub(crate) struct MeasuredFields<'b, N, U, I> {
     pub(crate) name: &'b [u8],
     pub(crate) number: N,
@@ -297,16 +292,9 @@ pub(crate) fn write_measured<N: NumberPart, U: UnitPart, I: IdentsPart>(
         I.Says fields.entry.ids is → out.new.items ≡ out.old.items ++ named_node opening.now n (More (number_item v)
         (opt item_unit (norm_units level fields.entry.asked u) (each item_ident (set_idents level is) End)))) }
 {
-    let MeasuredFields {
-        name,
-        number,
-        asked,
-        unit,
-        ids,
-    } = fields;
-    open_text(out, opening, name)?;
-    number.open(out, b",")?;
-    write_optional_unit(out, asked, unit, level)?;
-    ids.put(out, level)?;
+    open_text(out, opening, fields.name)?;
+    fields.number.open(out, b",")?;
+    write_optional_unit(out, fields.asked, fields.unit, level)?;
+    fields.ids.put(out, level)?;
     append(out, b"]")
 }

@@ -67,6 +67,7 @@ impl<'a> ReadAs<'a> for AxisMeridian<'a> {
 }
 
 // The unit is of the kind that is asked.
+#[derive(Drop)]
 struct AxisFields<'b, M, N, U, I> {
     name: &'b [u8],
     direction: Direction,
@@ -91,21 +92,12 @@ fn write_axis<'a, M: ValuePart<AxisMeridian<'a>>, N: NumberPart, U: UnitPart, I:
         (opt (number_node (codes "ORDER")) o (opt item_unit (norm_units level k u)
         (each item_ident (set_idents level is) End)))))) }
 {
-    let AxisFields {
-        name,
-        direction,
-        meridian,
-        order,
-        asked,
-        unit,
-        ids,
-    } = fields;
-    open_text(out, b"AXIS[\"", name)?;
-    append_item(out, direction.word().as_bytes())?;
-    write_optional::<AxisMeridian<'a>, M>(out, meridian, level)?;
-    write_optional_number(out, b",ORDER[", order)?;
-    write_optional_unit(out, asked, unit, level)?;
-    ids.put(out, level)?;
+    open_text(out, b"AXIS[\"", fields.name)?;
+    append_item(out, fields.direction.word().as_bytes())?;
+    write_optional::<AxisMeridian<'a>, M>(out, fields.meridian, level)?;
+    write_optional_number(out, b",ORDER[", fields.order)?;
+    write_optional_unit(out, fields.asked, fields.unit, level)?;
+    fields.ids.put(out, level)?;
     append(out, b"]")
 }
 
