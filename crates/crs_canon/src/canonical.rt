@@ -8,9 +8,8 @@ use crs_value::Level;
 use crs_writer::pieces::Spell;
 use std::alloc::{AllocError, Global};
 
-/// A node of a CRS, or a CRS, that is compared and written by itself, at a level: an identifier or a usage alike at
-/// every level, a unit or an axis with `UNIT` as a kind of its own, and an axis with the order and unit that it
-/// holds. Profile.
+/// A node of a CRS, or a CRS, compared and written by itself, at a level: identifiers and usages alike at every level,
+/// units and axes with `UNIT` as a kind of its own, axes with the order and unit that they hold. Profile.
 pub trait Canonical: Spell {
     /// What is asked of every value of the type.
     ghost IsValue: { Self → Type 0 };
@@ -18,8 +17,7 @@ pub trait Canonical: Spell {
     /// When two values are the same.
     ghost Same: { Level → Self → Self → Type 0 };
 
-    /// That bytes are the one spelling of a value: a text of its kind, accepted and normal, that says a value which is
-    /// the same.
+    /// That bytes are the one spelling of a value: a text of its kind, accepted and normal, of a same value.
     ghost IsSpelling: { Level → Self → List ℕ → Type 0 };
 
     /// Whether two values are the same.
@@ -37,8 +35,7 @@ pub trait Canonical: Spell {
     }
 
     /// The law of the type: its spellings are normal and one, they are equal, byte for byte, exactly where the values
-    /// are the same, and each is closed; this is such a value; and what `spell` appends is the spelling. The call does
-    /// nothing.
+    /// are the same, and each is closed; this is such a value; and `spell` appends the spelling. The call does nothing.
     fn laws(&self)
         ensures value { IsValue self.now }
         ensures form { (level : Level) → IsCanonicalForm IsValue (Same level) (IsSpelling level) }

@@ -41,8 +41,7 @@ fn append_number(out: &mut Vec<u8>, number: &Decimal) -> Result<(), AllocError>
     number.write(out)
 }
 
-/// Appends a unit as `write_content` does, where this kind is asked. `AllocError`: there is no memory for it, and `out`
-/// is as before. Profile.
+/// Appends a unit as `write_content` does, as asked of this kind. `AllocError`: no memory, `out` is as before. Profile.
 pub fn append_unit(
     alloc: Global,
     out: &mut Vec<u8>,

@@ -20,8 +20,7 @@ use crs_same::laws::{same_crs_is_equivalence, same_crs_is_same_by_definition};
 use crs_value::laws::one_answer;
 use crs_writer::laws::crss_are_canonical;
 
-/// Each CRS has a canonical text, and those of two CRSs are equal, byte for byte, exactly where the CRSs are the same.
-/// Profile.
+/// Each CRS has a canonical text, and those of two are equal, byte for byte, exactly where the CRSs are same. Profile.
 pub fn canonical_texts_are_equal_where_same()
     ensures there { (level : Level) (crs : Crs) → IsCrs crs → (bytes : List ℕ) × IsCanonicalText level crs bytes }
     ensures equal { (level : Level) (a b : Crs) (first second : List ℕ) → IsCrs a → IsCrs b →
@@ -85,8 +84,7 @@ pub fn digests_are_siphash()
     ensures rusts { DigestsAreRusts }
 {}
 
-/// No spelling of a node is empty, and none is the front of another of its kind. The node is one of the kind.
-/// Profile.
+/// No spelling of a node is empty, and none is the front of another of its kind. The node is one of the kind. Profile.
 pub fn spellings_stand_alone<T: Canonical>(node: &T)
     ensures some { (level : Level) (value : T) (bytes : List ℕ) → T.IsValue value →
         T.IsSpelling level value bytes → ¬ (bytes ≡ []) }
@@ -108,8 +106,7 @@ pub fn set_texts_are_equal_where_same<T: Canonical>(node: &T)
     texts_are_in_order();
 }
 
-/// Each parameter of a set is found by its name, and one of the other set too, or is among those that are unpaired.
-/// Profile.
+/// Each parameter of a set is found by its name, and one of the other set too, or is among the unpaired. Profile.
 pub fn names_tell_parameters()
     ensures { NamesTell }
 {}

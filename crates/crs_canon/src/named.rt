@@ -46,8 +46,7 @@ fn is_paired<'a>(these: &[Parameter<'a>], others: &[Parameter<'a>], name: &[u8])
     named_once(these, name).is_some() && named_once(others, name).is_some()
 }
 
-/// The names that stand once on each side, among at most 64, in ascending order of their bytes. `AllocError`: there is
-/// no memory for them. Profile.
+/// The names that stand once on each side, among at most 64, in order of their bytes. `AllocError`: no memory. Profile.
 pub fn paired_names<'a>(
     alloc: Global,
     these: &[Parameter<'a>],

@@ -26,8 +26,7 @@ use std::alloc::Global;
 use std::collections::BTreeSet;
 use std::marker::Model;
 
-/// What differs between two CRSs: its path, and its value in the first and in the second as the canonical text writes
-/// it, no bytes where there is nothing. Profile.
+/// A part that differs: its path, and its values as the canonical text writes them, no bytes for nothing. Profile.
 #[derive(Drop)]
 pub struct DifferenceTexts {
     /// Its path; a parameter's has its name, as `conversion/parameters["NAME"]/unit`.
@@ -75,8 +74,7 @@ pub fn differing_parts<'a>(
     Ok(texts)
 }
 
-/// Appends the texts of differences that it owns. A function that lends them is slow to prove where it is lent nothing
-/// before them.
+/// Appends the texts of differences that it owns: lent alone, they make a function slow to prove.
 pub(crate) fn append_texts(
     out: &mut Texts,
     alloc: Global,

@@ -1,5 +1,4 @@
-//! The order of all parts in which two CRSs differ, and the parts for a person to read and for a program to use: in
-//! lines, as objects of JSON, and in pieces.
+//! All parts in which two CRSs differ, in order, for people and programs: in lines, as objects of JSON, and in pieces.
 ghost use Rattle.std.specs.Prelude.{◌≡◌, ◌++◌, ◌≤◌, IfOk, MatchOption, OnOk, false, length, true};
 ghost use Rattle.std.specs.List.{flat_map, prefix_len};
 ghost use Rattle.crs_explain.specs.Differing.{difference_line, part_pieces, shown};
@@ -83,8 +82,7 @@ pub fn append_difference_line(difference: &DifferenceTexts, out: &mut Vec<u8>) -
     out.extend_from_slice(b"\n")
 }
 
-/// Appends the object of a part that differs, from behind its brace on. `AllocError`: there is no memory for it, and
-/// `out` has a beginning of it. Profile.
+/// Appends the object of a part, behind its brace. `AllocError`: no memory, and `out` has a beginning of it. Profile.
 pub fn append_difference_members(difference: &DifferenceTexts, out: &mut Vec<u8>) -> Made<()>
     ensures { OnOk result (out.new.items ≡ out.old.items ++ difference_members difference.now) }
 {

@@ -46,8 +46,7 @@ fn between(text: &[u8], begin: usize, end: usize) -> &[u8]
     &text[begin..end]
 }
 
-// A place at the end of the text moves to the end of what it says, since the last line may be
-// empty.
+// A place at the end of the text moves to the end of what it says, since the last line may be empty.
 fn shown_place(text: &[u8], place: usize) -> usize
     requires { place ≤ length text.now }
     ensures value { result ≡ shown_place text.now place }

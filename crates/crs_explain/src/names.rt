@@ -1,5 +1,4 @@
-//! Names of what could stand at a place, each by itself, listed, and as an array of JSON; the names of classes; and the
-//! words of paths.
+//! Names of what could stand at a place, by themselves, listed, and in JSON; names of classes; and words of paths.
 ghost use Rattle.std.specs.Prelude.{◌≡◌, ◌++◌, ◌∷◌, [], IfOk, OnOk};
 ghost use Rattle.crs_explain.specs.Expectation.{listed};
 ghost use Rattle.crs_explain.specs.Expected.{class_names, names_of};
@@ -12,8 +11,7 @@ use crs_text::Keyword;
 use std::alloc::Global;
 use std::marker::Model;
 
-/// A word of a path, as `datum`, that of an axis without its position, as `axis`; inside the crate also a name of what
-/// could stand at a place. Profile.
+/// A word of a path, as `datum`, of an axis `axis` alone; inside the crate also a name of what could stand. Profile.
 #[derive(Drop)]
 pub struct Name {
     bytes: Vec<u8>,

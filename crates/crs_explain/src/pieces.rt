@@ -6,8 +6,7 @@ use crate::Made;
 use std::alloc::Global;
 use std::marker::Model;
 
-/// Texts in one buffer, one after the other, and where each ends: answers as data, for callers that hold no lists of
-/// lists. Profile.
+/// Texts one after the other in one buffer, and where each ends, for callers that hold no lists of lists. Profile.
 #[derive(Drop)]
 pub struct Pieces {
     bytes: Vec<u8>,

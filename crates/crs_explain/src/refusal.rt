@@ -176,8 +176,7 @@ pub struct ExplanationPieces {
     pub line: usize,
     /// The character of the line at the place, counted from 1.
     pub column: usize,
-    /// Where the node begins in which something else is expected, in bytes from the text's first, which is 0; 0 where it
-    /// isn't known what is expected.
+    /// Where the node begins in which something else is expected, the first byte being 0; 0 where that isn't known.
     pub node: usize,
     /// The piece of the line with the caret, in two lines; the line of what is found and expected; the keyword of that
     /// node; what is found; what is open, was meant or is asked for; what the number means; hints; and then the names of

@@ -53,8 +53,7 @@ struct InCrs<'i, 'a> {
 }
 
 impl InCrs<'_, '_> {
-    // `found LENGTHUNIT in AXIS at 66, expected ANGLEUNIT`, or that there is a unit for all axes too; nothing where no
-    // unit is found and none is missing.
+    // `found LENGTHUNIT in AXIS at 66, expected ANGLEUNIT`, or that all axes share one too; nothing where none is.
     fn append_of_axis(&self, axis: ItemId, found: ItemId, out: &mut Vec<u8>) -> Made<()>
         requires axis { HasId self.now.items.now axis }
         requires found { HasId self.now.items.now found }

@@ -206,8 +206,7 @@ pub fn same_vertical<'a>(a: &Vertical<'a>, b: &Vertical<'a>, level: Level) -> bo
     Found::first().vertical(At::start(level), a, b).is_same()
 }
 
-/// Whether two horizontal parts of compound CRSs are the same: both geodetic or both projected, and the same as such.
-/// ISO 19162:2019, "Compound CRS".
+/// Whether two horizontal parts are the same: both geodetic or both projected, as such. ISO 19162:2019, "Compound CRS".
 #[tactic(auto, unfolding(crate::specs::Parts::AreSame, crate::specs::PartsOfCrs::parts_of_horizontal))]
 pub fn same_horizontal<'a>(a: &Horizontal<'a>, b: &Horizontal<'a>, level: Level) -> bool
     ensures { IsTrue result ↔ AreSame parts_of_horizontal level a.now b.now }
@@ -220,8 +219,7 @@ pub fn same_horizontal<'a>(a: &Horizontal<'a>, b: &Horizontal<'a>, level: Level)
     }
 }
 
-/// Whether two compound CRSs are the same: name, horizontal part, vertical part and end. ISO 19162:2019, "Compound
-/// CRS".
+/// Whether two compound CRSs are the same: name, horizontal and vertical part, end. ISO 19162:2019, "Compound CRS".
 pub fn same_compound<'a>(a: &Compound<'a>, b: &Compound<'a>, level: Level) -> bool
     ensures { IsTrue result ↔ AreSame parts_of_compound level a.now b.now }
 {

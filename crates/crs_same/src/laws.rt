@@ -63,8 +63,7 @@ pub fn parts_agree_where_same()
 
 // ---- sameness is an equivalence
 
-/// Sameness of each kind of node is an equivalence. A prime meridian is taken by itself, and where a missing one is
-/// Greenwich.
+/// Sameness of each kind of node is an equivalence. Of prime meridians also where a missing one is Greenwich.
 pub fn same_node_is_equivalence()
     ensures method { (level : Level) → IsSameness (AreSame parts_of_method level) }
     ensures conversion { (level : Level) → IsSameness (AreSame parts_of_conversion level) }

@@ -1,5 +1,4 @@
-//! When two coordinate reference systems are the same: values are compared as they were written, and nothing is
-//! filled in, sorted or spelled.
+//! When two coordinate reference systems are the same: values are compared as written, nothing filled in or sorted.
 #![tactic(auto)]
 
 // Whether two values are both missing, or both there and the same, as the last expression says.

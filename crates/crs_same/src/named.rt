@@ -1,5 +1,4 @@
-//! Identifiers, and what has a name and identifiers: members of ensembles, geoid models, deformation models and
-//! parameters.
+//! Identifiers, and what has a name and identifiers: members of ensembles, geoid and deformation models, parameters.
 ghost use Rattle.std.specs.Prelude.{◌↔◌, IsTrue, None};
 ghost use Rattle.std.specs.Option.{option_copied};
 ghost use Rattle.crs_same.specs.SameParts.{SameGeoidModel, SameDeformationModel, SameMember, SameParameter};

@@ -155,8 +155,7 @@ pub fn same_method<'a>(a: &Method<'a>, b: &Method<'a>, level: Level) -> bool
     Found::first().method(At::start(level), a, b).is_same()
 }
 
-/// Whether two conversions are the same: name, method, the set of parameters, and identifiers.
-/// ISO 19162:2019, "Map projection".
+/// Whether two conversions are the same: name, method, parameters, identifiers. ISO 19162:2019, "Map projection".
 pub fn same_conversion<'a>(a: &Conversion<'a>, b: &Conversion<'a>, level: Level) -> bool
     ensures { IsTrue result ↔ AreSame parts_of_conversion level a.now b.now }
 {

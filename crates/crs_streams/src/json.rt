@@ -59,8 +59,7 @@ pub fn append_text_member(name: &[u8], text: &[u8], out: &mut Vec<u8>) -> Result
     append_text(text, out)
 }
 
-/// Appends a further member that is a text, or `null` where there are no bytes. `AllocError`: there is no memory for
-/// it. Profile.
+/// Appends a further member that is a text, or `null` where there are no bytes. `AllocError`: no memory. Profile.
 pub fn append_value_member(name: &[u8], text: &[u8], out: &mut Vec<u8>) -> Result<(), AllocError>
     ensures { OnOk result (out.new.items ≡ out.old.items ++ value_member name.now text.now) }
 {

@@ -45,8 +45,7 @@ impl<W: Write> Sink<W> {
 
     /// Writes all the bytes, as many at a time as the writer takes; where there are none the writer isn't asked. An
     /// error is the writer's own, an interruption included, or `WriteZero` where the writer takes no byte. Nothing is
-    /// asked of the writer after it, the sink has `failed` from then on, and the bytes that the writer took are the
-    /// first ones.
+    /// asked of the writer after it, the sink has `failed` from then on, and what the writer took are the first bytes.
     pub fn write_all(&mut self, bytes: &[u8]) -> io::Result<()>
         ensures bytes { OnOk result (Appends self.old.contents self.new.contents bytes.now) }
         ensures front { OnErr result (AppendsFront self.old.contents self.new.contents bytes.now) }

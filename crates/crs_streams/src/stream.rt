@@ -11,8 +11,7 @@ use std::marker::Model;
 /// The most reads of a stream, 2^47. Profile.
 pub const MAX_STREAM_READS: u64 = 140_737_488_355_328;
 
-/// A reader that counts its reads and remembers a failure, for input of any length: with full reads it ends after
-/// 2^63 bytes.
+/// A reader that counts its reads and remembers a failure, for input of any length: full reads end after 2^63 bytes.
 #[derive(Drop)]
 pub struct Stream<R: Read> {
     reader: R,

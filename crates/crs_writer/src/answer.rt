@@ -68,8 +68,7 @@ fn taken(alloc: Global, room: &mut Vec<u8>) -> Vec<u8>
     }
 }
 
-// The canonical text of the CRS of this class that items spell, in an empty vector, which has room for so many bytes
-// at first.
+// The canonical text of the CRS of this class that items spell, in an empty vector, at first with this room.
 fn written_from(
     mut bytes: Vec<u8>,
     items: &Items<'_>,

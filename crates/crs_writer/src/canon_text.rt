@@ -81,8 +81,7 @@ impl Hash for Canon {
 
     ghost respects_eq = { canons-hash };
 
-    // A hasher that folds words into a state that everybody knows, as that of a map, can be led to one state by many
-    // texts. So it is given a digest of the bytes.
+    // A hasher whose state everybody knows, as that of a map, can be led to one by many texts: it is given a digest.
     fn hash<H: Hasher>(&self, state: &mut H) {
         state.write_u64(digest(self.bytes()));
     }

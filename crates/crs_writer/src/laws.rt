@@ -12,8 +12,7 @@ use crs_normal::laws::texts::{
 };
 use crs_same::laws::same_crs_is_equivalence;
 
-/// The text that is written for a CRS is its canonical text, which is one and closed, and shows which CRSs are the same.
-/// Profile.
+/// The text that is written for a CRS is its canonical text, one and closed, and shows which CRSs are same. Profile.
 pub fn crss_are_canonical()
     ensures { (level : Level) → IsWrittenForm IsCrs (SameCrs level) (IsCanonicalText level) (crs_text level) }
 {

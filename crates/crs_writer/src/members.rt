@@ -27,8 +27,7 @@ pub trait MemberPart<T: Spell>: Copy {
     fn write(&self, out: &mut Vec<u8>, level: Level) -> Appended
         ensures { OnOk result (Writes (Says self.now) (T.spelling level) out.old.items out.new.items) };
 
-    /// Puts its spelling among texts that are in order. It may be spelled in their room first. `AllocError`: there is
-    /// no memory for it.
+    /// Puts its spelling among texts in order. It may be spelled in their room first. `AllocError`: no memory for it.
     fn put_among(&self, texts: &mut Texts, level: Level) -> Appended
         requires { AreInOrder texts.old.bytes.items texts.old.spans.items }
         ensures order { OnOk result (AreInOrder texts.new.bytes.items texts.new.spans.items) }

@@ -1,5 +1,4 @@
-//! What `crs_answer` and `crs_canon` write with: CRSs, values, and texts in order. Out of memory, nothing is promised of a
-//! vector that is appended to.
+//! What `crs_canon` writes with. Out of memory, nothing is promised of a vector that is appended to.
 
 pub use crate::canon_text::canon_from;
 pub use crate::parts::Spell;

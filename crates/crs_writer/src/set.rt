@@ -14,8 +14,7 @@ use crs_value::Level;
 use std::alloc::{AllocError, Global};
 use std::collections::BTreeSet;
 
-// The room that a member's spelling is given at first, which most don't exceed: a vector that grows from nothing is
-// copied several times on its way there.
+// The room of a member's spelling at first, which most don't exceed: a vector that grows from nothing is often copied.
 pub(crate) const MEMBER_ROOM: usize = 128;
 
 // A slice of fewer members has few: each is compared with all that are there. Of a node its number of arguments decides.

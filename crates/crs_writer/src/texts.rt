@@ -27,8 +27,7 @@ pub fn append_item(out: &mut Vec<u8>, bytes: &[u8]) -> Result<(), AllocError>
     append(out, bytes)
 }
 
-/// Appends a keyword, the opening delimiter and a quoted text; the opening ends with the quote. `AllocError`: there is
-/// no memory for them. Profile.
+/// Appends an opening, which ends with a quote, a text, and the other quote. `AllocError`: no memory for them. Profile.
 #[inline(always)]
 pub fn open_text(out: &mut Vec<u8>, opening: &[u8], text: &[u8]) -> Result<(), AllocError>
     ensures { OnOk result (out.new.items ≡ out.old.items ++ opened opening.now text.now) }
@@ -45,8 +44,7 @@ fn write_text_node(out: &mut Vec<u8>, opening: &[u8], text: &[u8]) -> Result<(),
     append(out, b"]")
 }
 
-/// Appends a node of one text, if there is one; the opening begins with a comma. `AllocError`: there is no memory for
-/// it. Profile.
+/// Appends a node of one text, if there is one; its opening begins with a comma. `AllocError`: no memory. Profile.
 #[inline(always)]
 pub fn write_optional_text(
     out: &mut Vec<u8>,
@@ -69,8 +67,7 @@ pub fn write_decimal(out: &mut Vec<u8>, value: &Decimal) -> Result<(), AllocErro
     value.write(out)
 }
 
-/// Appends a keyword, the opening delimiter and a number; the opening ends with the delimiter. `AllocError`: there is
-/// no memory for them. Profile.
+/// Appends an opening, which ends with the delimiter, and a number. `AllocError`: there is no memory for them. Profile.
 #[inline(always)]
 pub fn open_number(out: &mut Vec<u8>, opening: &[u8], value: &Decimal) -> Result<(), AllocError>
     ensures { OnOk result (out.new.items ≡ out.old.items ++ (opening.now ++ plain value.now)) }

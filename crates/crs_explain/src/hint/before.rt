@@ -24,8 +24,7 @@ const IN_CRS: [Class; 11] = [
 pub(crate) struct Before<'t> {
     /// The text before the place.
     pub(crate) text: &'t [u8],
-    /// The delimiters that are open, the outermost first: at most 12 are open before the place of a text's refusal, and
-    /// one may begin there.
+    /// The delimiters that are open, the outermost first: at most 12 before a refusal's place, and one may begin there.
     pub(crate) open: ArrayVec<Node<'t>, 13>,
     quote: Option<usize>,
     /// Whether a delimiter was closed.
@@ -142,8 +141,7 @@ pub(crate) fn node_at(text: &[u8], at: usize, delimiter: u8) -> Node<'_> {
     }
 }
 
-// Whether a quoted text contains the end of a node, or the beginning of the next, as it does where a quote is
-// missing: before a comma or behind it.
+// Whether a quoted text has, at a comma, the end of a node or the next one's beginning, as where a quote is missing.
 fn has_node(quoted: &[u8], opening: u8) -> bool {
     let closing = if opening == b'[' { b']' } else { b')' };
     (0..quoted.len()).any(|at| match rest(quoted, at) {

@@ -1,5 +1,4 @@
-//! The sentences of hints that tables name or that are asked for again, with `{}` where something is filled in. Each
-//! other sentence stands where its hint is found.
+//! Sentences of hints that tables name or that are asked for again, with `{}` where something is filled in.
 
 /// What to do with a text that PROJ reads.
 pub(crate) const BY_PROJ: &[u8] =

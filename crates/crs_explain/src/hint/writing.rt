@@ -17,8 +17,7 @@ const LAST_OF_TEXT: u8 = 8;
 type Appended = Result<(), AllocError>;
 
 /// The hints that apply to a refused text, a sentence or more without a line end; nothing where none applies. A hint
-/// looks at the text's first bytes, at the place of the refusal, and at what is open there. `AllocError`: there is no
-/// memory for them. Profile.
+/// looks at the text's front, the refusal's place, and what is open there. `AllocError`: no memory for them. Profile.
 pub fn hints(alloc: Global, text: &[u8], refusal: Refusal) -> Result<Vec<u8>, AllocError> {
     let whole = by_front(text);
     let before = look_before(text, refusal.place());
@@ -36,8 +35,7 @@ pub fn hints(alloc: Global, text: &[u8], refusal: Refusal) -> Result<Vec<u8>, Al
     Ok(out)
 }
 
-// What to say of the place beside what is said of the whole. For a class that isn't read, only damage is named: in
-// WKT1 a second text may follow.
+// What to say of the place beside the whole. For a class that isn't read, only damage: behind WKT1 a text may stand.
 fn beside<'a>(whole: Option<Hint<'_>>, there: Option<Hint<'a>>, number: u8) -> Option<Hint<'a>> {
     let Some(whole) = whole else { return there };
     let is_of_class = matches!(whole.about, About::Class) && number <= LAST_OF_TEXT;
@@ -45,8 +43,7 @@ fn beside<'a>(whole: Option<Hint<'_>>, there: Option<Hint<'a>>, number: u8) -> O
     (is_of_class && is_of_damage).then_some(there?)
 }
 
-/// The node that is open where a text is refused, as `CS[ at 24 is still open`; nothing where none is. `AllocError`:
-/// there is no memory for it. Profile.
+/// The node open at a refusal, as `CS[ at 24 is still open`; nothing where none is. `AllocError`: no memory. Profile.
 pub fn still_open(alloc: Global, text: &[u8], refusal: Refusal) -> Result<Vec<u8>, AllocError> {
     let mut out = Vec::new(alloc);
     if let Some(at) = open_delimiter(text, refusal.place())

@@ -389,8 +389,7 @@ impl Spell for Crs<'_> {
     }
 }
 
-/// Appends the canonical text of the CRS of its class that is read from an item. `AllocError`: there is no memory for
-/// it. Profile.
+/// Appends the canonical text of the CRS of its class that an item spells. `AllocError`: no memory for it. Profile.
 pub fn write_crs(node: &Node<'_, '_>, out: &mut Vec<u8>, level: Level) -> Result<(), AllocError>
     requires { IsRead (ReadsCrs node.now.class (item node.now)) }
     ensures { OnOk result (Writes (ReadsCrs node.now.class (item node.now)) (crs_text level) out.old.items out.new.items) }

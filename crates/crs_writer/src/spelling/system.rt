@@ -280,8 +280,7 @@ fn type_by(word: &[u8]) -> SystemType
     }
 }
 
-// Stands for the type of a system that isn't there. In an accepted text each CRS has one: without it no value is read,
-// and nothing is promised of what is written.
+// Stands for the type of a system that isn't there: no value is read then, and nothing is promised of what is written.
 const NO_TYPE: SystemType = SystemType::Vertical;
 
 // The type of a system, of which this is the node `CS`.
