@@ -60,12 +60,7 @@ struct At<'p> {
 /// themselves, in order of the names, by the number at `conversion/parameters["NAME"]`, the unit at `/unit` and the
 /// identifiers at `/id` behind that, each where it differs; then come the texts of the others. `AllocError`: there is
 /// no memory for it. Profile.
-pub fn differing_parts<'a>(
-    alloc: Global,
-    a: &Crs<'a>,
-    b: &Crs<'a>,
-    level: Level,
-) -> Made<Vec<DifferenceTexts>>
+pub fn differing_parts<'a>(alloc: Global, a: &Crs<'a>, b: &Crs<'a>, level: Level) -> Made<Texts>
     ensures { IfOk result (λ texts. AreDifferenceTexts level a.now b.now texts.items) }
 {
     let differences = differences(alloc, a, b, level)?;
@@ -89,21 +84,16 @@ pub(crate) fn append_texts(
     Ok(())
 }
 
-fn append_part(
-    alloc: Global,
-    level: Level,
-    difference: &Difference<'_, '_>,
-    out: &mut Texts,
-) -> Made<()>
+fn append_part(alloc: Global, level: Level, part: &Difference<'_, '_>, out: &mut Texts) -> Made<()>
     ensures { OnOk result (AppendsTexts
-        (AreTextsOf level (path_text difference.now.path) difference.now.first difference.now.second)
+        (AreTextsOf level (path_text part.now.path) part.now.first part.now.second)
         out.old.items out.new.items) }
 {
     let mut path = Vec::new(alloc);
-    difference.path().write(&mut path)?;
+    part.path().write(&mut path)?;
     let path = path.as_slice();
     let at = At { alloc, level, path };
-    at.append(difference.first(), difference.second(), out)
+    at.append(part.first(), part.second(), out)
 }
 
 impl At<'_> {
@@ -122,17 +112,12 @@ impl At<'_> {
     }
 
     // Appends the texts of what has these values.
-    fn append_one(
-        self,
-        first: &Content<'_, '_>,
-        second: &Content<'_, '_>,
-        out: &mut Texts,
-    ) -> Made<()>
-        ensures { OnOk result (AppendsTexts (AreTextsOfOne self.entry.level self.entry.path.now first.now second.now)
+    fn append_one(self, a: &Content<'_, '_>, b: &Content<'_, '_>, out: &mut Texts) -> Made<()>
+        ensures { OnOk result (AppendsTexts (AreTextsOfOne self.entry.level self.entry.path.now a.now b.now)
             out.old.items out.new.items) }
     {
-        let first = self.content_text(first)?;
-        let second = self.content_text(second)?;
+        let first = self.content_text(a)?;
+        let second = self.content_text(b)?;
         self.push(b"", first, second, out)
     }
 

@@ -22,6 +22,9 @@ pub(crate) const UNKNOWN_WORD: u8 = 21;
 // More or fewer axes than the dimension.
 const AXIS_COUNT: u8 = 25;
 
+/// What is expected, where that is known.
+type MadeIfKnown = Made<Option<ExpectedTexts>>;
+
 /// What is found at a place, and the names of what could stand there. Profile.
 #[derive(Drop)]
 pub(crate) struct ExpectedTexts {
@@ -118,11 +121,7 @@ fn append_node(word: &[u8], place: usize, out: &mut Vec<u8>) -> Made<()>
 }
 
 /// What is expected at a refusal of a text; nothing where that isn't known.
-pub(crate) fn expectation(
-    alloc: Global,
-    text: &[u8],
-    refusal: Refusal,
-) -> Made<Option<ExpectedTexts>>
+pub(crate) fn expectation(alloc: Global, text: &[u8], refusal: Refusal) -> MadeIfKnown
     ensures { IfOk result (IsExpected text.now refusal) }
 {
     laws::one_answer();
@@ -134,12 +133,7 @@ pub(crate) fn expectation(
 }
 
 // The same of a text that has these items.
-fn in_items(
-    alloc: Global,
-    text: &[u8],
-    items: &Items<'_>,
-    refusal: Refusal,
-) -> Made<Option<ExpectedTexts>>
+fn in_items(alloc: Global, text: &[u8], items: &Items<'_>, refusal: Refusal) -> MadeIfKnown
     ensures { IfOk result (IsExpectedIn text.now refusal items.now) }
 {
     let (number, place) = (refusal.number(), refusal.place());
@@ -152,12 +146,7 @@ fn in_items(
 }
 
 // What is expected at the fault of shape that the items have; nothing where they have none.
-fn shape_expected(
-    alloc: Global,
-    text: &[u8],
-    items: &Items<'_>,
-    place: usize,
-) -> Made<Option<ExpectedTexts>>
+fn shape_expected(alloc: Global, text: &[u8], items: &Items<'_>, place: usize) -> MadeIfKnown
     ensures { IfOk result (IsShapeExpected text.now place items.now) }
 {
     let Some(expected) = expected(items) else {

@@ -149,14 +149,8 @@ impl<'b, 'a> Found<'b, 'a> {
     // ---- over the part that is this step further
 
     // A part that is never the same, such as one that only one side has.
-    pub(crate) fn alone(
-        self,
-        at: &At,
-        step: Step,
-        first: Content<'b, 'a>,
-        second: Content<'b, 'a>,
-    ) -> Self
-        ensures { Walked (part (at.now.path ▸ step) ⊥ (first.entry) (second.entry)) self.entry result }
+    pub(crate) fn alone(self, at: &At, step: Step, a: Content<'b, 'a>, b: Content<'b, 'a>) -> Self
+        ensures { Walked (part (at.now.path ▸ step) ⊥ (a.entry) (b.entry)) self.entry result }
     {
         match self {
             Found::First(None) => Found::First(Some(at.path.then(step))),
@@ -165,8 +159,8 @@ impl<'b, 'a> Found<'b, 'a> {
                 let path = at.path.then(step);
                 match differences.push(Difference {
                     path,
-                    first,
-                    second,
+                    first: a,
+                    second: b,
                 }) {
                     Ok(()) => Found::All(Differences { differences }),
                     Err(error) => Found::Refused(error.into()),

@@ -99,15 +99,11 @@ impl<'a> SetReadAs<'a> for Ident<'a> {
 // The identifiers that the level keeps of a part.
 #[tactic(auto, using(crate::proofs::WrittenLemmas::written_rules))]
 #[inline(always)]
-pub(crate) fn write_idents<'a>(
-    out: &mut Vec<u8>,
-    identifiers: &List<Ident<'a>>,
-    level: Level,
-) -> Appended
+pub(crate) fn write_idents<'a>(out: &mut Vec<u8>, ids: &List<Ident<'a>>, level: Level) -> Appended
     ensures { OnOk result (out.new.items
-        ≡ out.old.items ++ others_text (each item_ident (set_idents level identifiers.now) End)) }
+        ≡ out.old.items ++ others_text (each item_ident (set_idents level ids.now) End)) }
 {
-    let kept = level.kept(identifiers.as_slice());
+    let kept = level.kept(ids.as_slice());
     write_set::<Ident<'a>, &[Ident<'a>]>(out, &kept, Level::Full)
 }
 
