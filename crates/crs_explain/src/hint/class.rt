@@ -63,10 +63,8 @@ pub(crate) fn by_class<'a>(text: &[u8], keyword: &'a [u8]) -> Option<Hint<'a>> {
         let told = "This is WKT1, of a .prj file or an older tool: {}";
         filled(told, Filling::ByProj(transformation)).map(|it| it.about(About::Class))
     } else if names(keyword, &PARTS) {
-        filled(
-            "{} is a part of a CRS, and no CRS by itself.",
-            Filling::Capitals(keyword),
-        )
+        let told = "{} is a part of a CRS, and no CRS by itself.";
+        filled(told, Filling::Capitals(keyword))
     } else {
         by_other_class(keyword)
     }

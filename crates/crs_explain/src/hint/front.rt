@@ -59,10 +59,8 @@ fn by_utf16(text: &[u8]) -> Option<Hint<'static>> {
         [a, 0, b, 0, ..] if *a != 0 && *b != 0 => b"UTF-16LE",
         _ => return None,
     };
-    filled(
-        "This is UTF-16: write the file in UTF-8 (iconv -f {} -t UTF-8 FILE).",
-        Filling::Words(name),
-    )
+    let told = "This is UTF-16: write the file in UTF-8 (iconv -f {} -t UTF-8 FILE).";
+    filled(told, Filling::Words(name))
 }
 
 const GEOMETRIES: &[u8] =
@@ -82,10 +80,8 @@ fn by_geometry(front: &[u8]) -> Option<Hint<'_>> {
     if !is_one_of(kind, GEOMETRIES) || !has_coordinates {
         return None;
     }
-    filled(
-        "This is a geometry, {}, and no CRS.",
-        Filling::Capitals(kind),
-    )
+    let told = "This is a geometry, {}, and no CRS.";
+    filled(told, Filling::Capitals(kind))
 }
 
 // `SRID=` with its digits, where a semicolon follows them.
@@ -100,15 +96,11 @@ fn srid_of(front: &[u8]) -> Option<&[u8]> {
 // What a text is that doesn't begin with a node, by its front.
 fn by_string(text: &[u8]) -> Option<Hint<'_>> {
     if let Some(srid) = srid_of(text) {
-        filled(
-            "{}; is before the text, as in PostGIS: cut it off.",
-            Filling::Words(srid),
-        )
+        let told = "{}; is before the text, as in PostGIS: cut it off.";
+        filled(told, Filling::Words(srid))
     } else if is_proj_string(text) {
-        filled(
-            "This is a PROJ string, which ends in +type=crs where it is a CRS: {}",
-            Filling::ByProj(transformation_of(text)),
-        )
+        let told = "This is a PROJ string, which ends in +type=crs where it is a CRS: {}";
+        filled(told, Filling::ByProj(transformation_of(text)))
     } else if digit_count(text) == text.len() {
         filled(sentence::CODE, Filling::Argument(b"EPSG:", text))
     } else if is_code(text) || is_address(text) {

@@ -64,10 +64,8 @@ const CHARACTERS: [Entry; 10] = [
 fn by_character(there: &[u8]) -> Option<Hint<'static>> {
     match there {
         [byte, ..] if byte.is_ascii_control() => {
-            filled(
-                "A control character is here, {}: this is no text, or it was damaged.",
-                Filling::Control(*byte),
-            )
+            let told = "A control character is here, {}: this is no text, or it was damaged.";
+            filled(told, Filling::Control(*byte))
         }
         _ => by_first_bytes(there, &CHARACTERS),
     }
@@ -158,10 +156,9 @@ fn by_whole_text(found: &Before<'_>, number: u8, there: &[u8]) -> Option<Hint<'s
             BAD_CHARACTER | BAD_NUMBER | OPEN_TEXT | UNEXPECTED | UNEXPECTED_END
         )
     {
-        return filled(
-            "A quote is missing, most likely: at the end of the quoted text that is opened at {}, or before it.",
-            Filling::Place(place),
-        );
+        let told =
+            "A quote is missing, most likely: at the end of the quoted text that is opened at {}, or before it.";
+        return filled(told, Filling::Place(place));
     }
     if !found.is_complete() || number > UNEXPECTED {
         return None;
@@ -188,18 +185,15 @@ fn behind(sentence: &'static str) -> Option<Hint<'static>> {
 fn by_delimiters<'t>(found: &'t Before<'t>, number: u8, there: &[u8]) -> Option<Hint<'t>> {
     let open = found.open.as_slice();
     if number == OPEN_TEXT {
-        return filled(
-            "Still open at the end: this quoted text{}.",
-            Filling::Open(b", ", open),
-        );
+        let told = "Still open at the end: this quoted text{}.";
+        return filled(told, Filling::Open(b", ", open));
     }
     let node = found.innermost()?;
     match number {
         UNEXPECTED_END if !matches!(found.text.trim_ascii_end(), [.., b']' | b')']) => {
-            filled(
-                "The text was cut off, most likely: it has no closing delimiter at its end. Still open at the end: {}.",
-                Filling::Open(b"", open),
-            )
+            let told =
+                "The text was cut off, most likely: it has no closing delimiter at its end. Still open at the end: {}.";
+            filled(told, Filling::Open(b"", open))
         }
         UNEXPECTED_END if found.outside.is_none() && open.len() > 1 => {
             filled("Still open at the end: {}.", Filling::Open(b"", open))
@@ -218,8 +212,6 @@ fn by_delimiters<'t>(found: &'t Before<'t>, number: u8, there: &[u8]) -> Option<
 // A node that is where none of its kind can be.
 fn by_outside<'t>(found: &Before<'t>) -> Option<Hint<'t>> {
     let (node, outer) = found.outside?;
-    filled(
-        "{}, which is still open there: its closing delimiter is missing, most likely.",
-        Filling::Inside(node, outer),
-    )
+    let told = "{}, which is still open there: its closing delimiter is missing, most likely.";
+    filled(told, Filling::Inside(node, outer))
 }
