@@ -36,10 +36,8 @@ impl Path {
     {
         let mut steps = self.steps;
         steps[self.len] = step;
-        Path {
-            steps,
-            len: self.len + 1,
-        }
+        let len = self.len + 1;
+        Path { steps, len }
     }
 
     /// The steps, from the whole to the part.
@@ -105,10 +103,8 @@ impl At {
         ensures level { result.level ≡ level }
     {
         let steps = [Step::Kind; MOST];
-        At {
-            path: Path { steps, len: 0 },
-            level,
-        }
+        let path = Path { steps, len: 0 };
+        At { path, level }
     }
 
     // One step further.

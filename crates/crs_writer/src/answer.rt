@@ -82,16 +82,12 @@ fn written_from(
     ensures text { IfOk result (λ canon. (crs : Crs) → SpellsCrs items.now crs → IsCanonicalText level crs canon.bytes) }
     ensures level { IfOk result (λ canon. canon.level ≡ level) }
 {
-    let root = items.root();
-    items.formed(root);
+    let id = items.root();
+    items.formed(id);
     spelled_is_sound();
     crss_are_canonical();
     bytes.reserve(room)?;
-    let node = Node {
-        items,
-        id: root,
-        class,
-    };
+    let node = Node { items, id, class };
     write_crs(&node, &mut bytes, level)?;
     Ok(canon_from(bytes, level))
 }

@@ -40,11 +40,8 @@ fn is_axis_at(position: u64, place: u64, items: &Items<'_>, id: ItemId) -> bool
     ensures { (axis : AxisParts) → ReadsAxis Class.Axis (item_at items.now id) axis →
         result ≡ is_at position place axis.order }
 {
-    let axis = Node {
-        items,
-        id,
-        class: Class::Axis,
-    };
+    let class = Class::Axis;
+    let axis = Node { items, id, class };
     match axis.number_in(Class::Order) {
         None => is_at(position, place, None),
         Some(order) => is_at(position, place, decimal_of(order)),

@@ -123,17 +123,13 @@ fn holds_none(keyword: &[u8]) -> bool {
 /// The node whose opening delimiter is at a place.
 pub(crate) fn node_at(text: &[u8], at: usize, delimiter: u8) -> Node<'_> {
     let near = back(front(text, at), 100);
-    let before = near.trim_ascii_end();
-    let run = before
-        .iter()
-        .rev()
-        .take_while(|it| is_of_word(**it))
-        .count();
-    let word = back(before, run);
+    let ahead = near.trim_ascii_end();
+    let run = ahead.iter().rev().take_while(|it| is_of_word(**it)).count();
+    let word = back(ahead, run);
     // A keyword begins with a letter.
     let letter = word.iter().position(|it| it.is_ascii_alphabetic());
     let keyword = rest(word, letter.unwrap_or(run));
-    let white = near.len().saturating_sub(before.len());
+    let white = near.len().saturating_sub(ahead.len());
     Node {
         begin: at.saturating_sub(white).saturating_sub(keyword.len()),
         keyword,

@@ -105,13 +105,8 @@ impl<'a> ReadAs<'a> for Conversion<'a> {
     fn write_of(node: &Node<'_, 'a>, out: &mut Vec<u8>, level: Level) -> Appended {
         let method = node.first(Class::Method);
         let parameters = node.all(Class::Parameter);
-        write_conversion(
-            out,
-            (node.text(), node),
-            method.as_ref(),
-            &parameters,
-            level,
-        )
+        let named = (node.text(), node);
+        write_conversion(out, named, method.as_ref(), &parameters, level)
     }
 }
 

@@ -222,14 +222,8 @@ impl Spell for Projected<'_> {
     ghost spelling = { projected_text };
 
     fn spell(&self, out: &mut Vec<u8>, level: Level) -> Appended {
-        let derivation = (&self.base, &self.conversion);
-        write_projected(
-            out,
-            (self.name, &self.tail),
-            derivation,
-            &self.system,
-            level,
-        )
+        let (named, derivation) = ((self.name, &self.tail), (&self.base, &self.conversion));
+        write_projected(out, named, derivation, &self.system, level)
     }
 }
 

@@ -228,17 +228,10 @@ fn write_ensemble_of(out: &mut Vec<u8>, node: &Node<'_, '_>, class: Class, level
     };
     append(out, b",")?;
     let ellipsoid = found.first(Class::Ellipsoid);
-    let others = (
-        ellipsoid.as_ref(),
-        found.one_number(Class::EnsembleAccuracy),
-    );
-    write_ensemble(
-        out,
-        (found.text(), &found),
-        &found.all(Class::Member),
-        others,
-        level,
-    )
+    let accuracy = found.one_number(Class::EnsembleAccuracy);
+    let named = (found.text(), &found);
+    let members = found.all(Class::Member);
+    write_ensemble(out, named, &members, (ellipsoid.as_ref(), accuracy), level)
 }
 
 impl<'c, 'i, 'a> FramePart for &'c Node<'i, 'a> {

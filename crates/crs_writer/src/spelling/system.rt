@@ -244,13 +244,8 @@ impl<'b, 'a> SystemPart for &'b System<'a> {
     }
 
     fn put_head(&self, out: &mut Vec<u8>, level: Level) -> Result<SystemType, AllocError> {
-        write_head(
-            out,
-            self.system_type,
-            &self.dimension,
-            &self.identifiers,
-            level,
-        )?;
+        let ids = &self.identifiers;
+        write_head(out, self.system_type, &self.dimension, ids, level)?;
         Ok(self.system_type)
     }
 

@@ -12,6 +12,6 @@ returns c = written c.write_ensemble.result _ _ _ c.write_ensemble.ensures (λ w
     let r = one-found ReadsEnsemble c.args.node.now c.in-Some.found c.args.class _ c.in-Some.ensures one in
     two _ (44 ∷ []) (ensemble_text c.args.level e) _ _ c.in_ok-append.ensures
     (w e (c.text.ensures e.name r.name)
-    (all-said ReadsNamed class.Member _ _ _ _ c.all.ensures.class c.all.ensures.all r.members)
+    (all-said ReadsNamed class.Member _ _ _ _ c.all-members.ensures.class c.all-members.ensures.all r.members)
     (first-said ReadsEllipsoid c.in-Some.found class.Ellipsoid _ _ _ c.first-ellipsoid.ensures c.as_ref.ensures.value r.ellipsoid)
-    (c.one_number.ensures e.accuracy r.accuracy) r.identifiers))
+    (c.one_number-accuracy.ensures e.accuracy r.accuracy) r.identifiers))
