@@ -11,6 +11,16 @@ use crs_value::{
 };
 use std::marker::Model;
 
+// The content of a part, or nothing where there is none.
+macro_rules! given {
+    ($part:ident, |$given:ident| $content:expr) => {
+        match $part {
+            None => Content::Nothing,
+            Some($given) => $content,
+        }
+    };
+}
+
 /// A word or the characters of a text. Profile.
 #[derive(Drop)]
 pub struct Text<'a> {
@@ -133,29 +143,20 @@ impl<'b, 'a> Content<'b, 'a> {
     pub(crate) fn optional_text(text: Option<&'a [u8]>) -> Content<'b, 'a>
         ensures { result ≡ given content.Text (option_copied text.entry) }
     {
-        match text {
-            None => Content::Nothing,
-            Some(text) => Content::text(text),
-        }
+        given!(text, |text| Content::text(text))
     }
 
     pub(crate) fn optional_number(number: Option<Decimal>) -> Content<'b, 'a>
         ensures { result ≡ given content.Number number }
     {
-        match number {
-            None => Content::Nothing,
-            Some(number) => Content::Number(number),
-        }
+        given!(number, |number| Content::Number(number))
     }
 
     // Where this kind is asked.
     pub(crate) fn optional_unit(asked: UnitKind, unit: Option<&'b Unit<'a>>) -> Content<'b, 'a>
         ensures { result ≡ given (content.Unit asked) (option_copied unit.entry) }
     {
-        match unit {
-            None => Content::Nothing,
-            Some(unit) => Content::Unit(asked, Borrowed { part: unit }),
-        }
+        given!(unit, |unit| Content::Unit(asked, Borrowed { part: unit }))
     }
 
     pub(crate) fn length(unit: Option<&'b Unit<'a>>) -> Content<'b, 'a>
@@ -170,18 +171,12 @@ impl<'b, 'a> Content<'b, 'a> {
     pub(crate) fn optional_meridian(meridian: Option<&'b AxisMeridian<'a>>) -> Content<'b, 'a>
         ensures { result ≡ given content.Meridian (option_copied meridian.entry) }
     {
-        match meridian {
-            None => Content::Nothing,
-            Some(meridian) => Content::Meridian(Borrowed { part: meridian }),
-        }
+        given!(meridian, |it| Content::Meridian(Borrowed { part: it }))
     }
 
     pub(crate) fn optional_model(model: Option<&'b DeformationModel<'a>>) -> Content<'b, 'a>
         ensures { result ≡ given content.Model (option_copied model.entry) }
     {
-        match model {
-            None => Content::Nothing,
-            Some(model) => Content::Model(Borrowed { part: model }),
-        }
+        given!(model, |model| Content::Model(Borrowed { part: model }))
     }
 }
