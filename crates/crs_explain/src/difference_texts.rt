@@ -146,6 +146,48 @@ impl At<'_> {
         write_content(content, self.alloc, self.level, &mut text)?;
         Ok(text)
     }
+
+    fn append_parameter(self, a: &Parameter<'_>, b: &Parameter<'_>, out: &mut Texts) -> Made<()>
+        ensures { OnOk result (AppendsTexts (AreTextsOfParts self.entry.level self.entry.path.now
+            (parts_of_parameter self.entry.level a.now b.now)) out.old.items out.new.items) }
+    {
+        self.append_value(&a.value, &b.value, out)?;
+        self.append_units(a.unit.as_ref(), b.unit.as_ref(), out)?;
+        self.append_ids(&a.identifiers, &b.identifiers, out)
+    }
+
+    fn append_value(self, a: &Decimal, b: &Decimal, out: &mut Texts) -> Made<()>
+        ensures { OnOk result (AppendsTexts (AreTextsOfParts self.entry.level self.entry.path.now
+            (numbers [] a.now b.now)) out.old.items out.new.items) }
+    {
+        if same_value(a, b) {
+            return Ok(());
+        }
+        self.append_one(&Content::Number(*a), &Content::Number(*b), out)
+    }
+
+    fn append_units(self, a: Option<&Unit<'_>>, b: Option<&Unit<'_>>, out: &mut Texts) -> Made<()>
+        ensures { OnOk result (AppendsTexts (AreTextsOfParts self.entry.level self.entry.path.now (units (step.Unit ∷ [])
+            self.entry.level kinds.Plain kinds.Plain (option_copied a.entry) (option_copied b.entry)))
+            out.old.items out.new.items) }
+    {
+        if same_units_as(UnitKind::Plain, a, b, self.level) {
+            return Ok(());
+        }
+        self.push(b"/unit", unit_text(self, a)?, unit_text(self, b)?, out)
+    }
+
+    fn append_ids<'a>(self, a: &List<Ident<'a>>, b: &List<Ident<'a>>, out: &mut Texts) -> Made<()>
+        ensures { OnOk result (AppendsTexts (AreTextsOfParts self.entry.level self.entry.path.now
+            (identifiers (step.Id ∷ []) self.entry.level a.now b.now)) out.old.items out.new.items) }
+    {
+        if same_idents(a, b, self.level) {
+            return Ok(());
+        }
+        let first = identifiers_text(self, a, b)?;
+        let second = identifiers_text(self, b, a)?;
+        self.push(b"/id", first, second, out)
+    }
 }
 
 // Two sets of parameters that differ, of which the first is that of the first CRS.
@@ -230,55 +272,6 @@ fn parameter_path(alloc: Global, path: &[u8], name: &[u8]) -> Made<Vec<u8>>
     text.extend_from_slice(name)?;
     text.extend_from_slice(b"\"]")?;
     Ok(text)
-}
-
-impl At<'_> {
-    fn append_parameter(self, a: &Parameter<'_>, b: &Parameter<'_>, out: &mut Texts) -> Made<()>
-        ensures { OnOk result (AppendsTexts (AreTextsOfParts self.entry.level self.entry.path.now
-            (parts_of_parameter self.entry.level a.now b.now)) out.old.items out.new.items) }
-    {
-        self.append_value(&a.value, &b.value, out)?;
-        self.append_units(a.unit.as_ref(), b.unit.as_ref(), out)?;
-        self.append_identifiers(&a.identifiers, &b.identifiers, out)
-    }
-
-    fn append_value(self, a: &Decimal, b: &Decimal, out: &mut Texts) -> Made<()>
-        ensures { OnOk result (AppendsTexts (AreTextsOfParts self.entry.level self.entry.path.now
-            (numbers [] a.now b.now)) out.old.items out.new.items) }
-    {
-        if same_value(a, b) {
-            return Ok(());
-        }
-        self.append_one(&Content::Number(*a), &Content::Number(*b), out)
-    }
-
-    fn append_units(self, a: Option<&Unit<'_>>, b: Option<&Unit<'_>>, out: &mut Texts) -> Made<()>
-        ensures { OnOk result (AppendsTexts (AreTextsOfParts self.entry.level self.entry.path.now (units (step.Unit ∷ [])
-            self.entry.level kinds.Plain kinds.Plain (option_copied a.entry) (option_copied b.entry)))
-            out.old.items out.new.items) }
-    {
-        if same_units_as(UnitKind::Plain, a, b, self.level) {
-            return Ok(());
-        }
-        self.push(b"/unit", unit_text(self, a)?, unit_text(self, b)?, out)
-    }
-
-    fn append_identifiers<'a>(
-        self,
-        a: &List<Ident<'a>>,
-        b: &List<Ident<'a>>,
-        out: &mut Texts,
-    ) -> Made<()>
-        ensures { OnOk result (AppendsTexts (AreTextsOfParts self.entry.level self.entry.path.now
-            (identifiers (step.Id ∷ []) self.entry.level a.now b.now)) out.old.items out.new.items) }
-    {
-        if same_idents(a, b, self.level) {
-            return Ok(());
-        }
-        let first = identifiers_text(self, a, b)?;
-        let second = identifiers_text(self, b, a)?;
-        self.push(b"/id", first, second, out)
-    }
 }
 
 fn unit_text(at: At<'_>, unit: Option<&Unit<'_>>) -> Made<Vec<u8>>

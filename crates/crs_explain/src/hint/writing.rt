@@ -1,4 +1,5 @@
 //! Which hints apply to a refused text, and how they are written.
+use crate::Made;
 use crate::hint::before::{look_before, node_at};
 use crate::hint::front::by_front;
 use crate::hint::glance::{looked_at, rest};
@@ -8,25 +9,20 @@ use crate::hint::{About, Filling, Hint, Node};
 use bstr::ByteSlice;
 use crs_streams::append_number;
 use crs_text::{Refusal, open_delimiter};
-use std::alloc::{AllocError, Global};
+use std::alloc::Global;
 
 // The last number of a refusal of the text itself; those of shapes and values are above it.
 const LAST_OF_TEXT: u8 = 8;
 
-// Whether there was memory for what was appended.
-type Appended = Result<(), AllocError>;
-
 /// The hints that apply to a refused text, a sentence or more without a line end; nothing where none applies. A hint
 /// looks at the text's front, the refusal's place, and what is open there. `AllocError`: no memory for them. Profile.
-pub fn hints(alloc: Global, text: &[u8], refusal: Refusal) -> Result<Vec<u8>, AllocError> {
+pub fn hints(alloc: Global, text: &[u8], refusal: Refusal) -> Made<Vec<u8>> {
     let whole = by_front(text);
     let before = look_before(text, refusal.place());
     let there = by_place(text, refusal.number(), &before);
     let mut out = Vec::new(alloc);
-    for hint in [whole, beside(whole, there, refusal.number())]
-        .iter()
-        .flatten()
-    {
+    let beside = beside(whole, there, refusal.number());
+    for hint in [whole, beside].iter().flatten() {
         if !out.is_empty() {
             out.push(b' ')?;
         }
@@ -44,7 +40,7 @@ fn beside<'a>(whole: Option<Hint<'_>>, there: Option<Hint<'a>>, number: u8) -> O
 }
 
 /// The node open at a refusal, as `CS[ at 24 is still open`; nothing where none is. `AllocError`: no memory. Profile.
-pub fn still_open(alloc: Global, text: &[u8], refusal: Refusal) -> Result<Vec<u8>, AllocError> {
+pub fn still_open(alloc: Global, text: &[u8], refusal: Refusal) -> Made<Vec<u8>> {
     let mut out = Vec::new(alloc);
     if let Some(at) = open_delimiter(text, refusal.place())
         && let [delimiter, ..] = rest(text, at)
@@ -55,7 +51,7 @@ pub fn still_open(alloc: Global, text: &[u8], refusal: Refusal) -> Result<Vec<u8
     Ok(out)
 }
 
-fn append_hint(hint: &Hint<'_>, out: &mut Vec<u8>) -> Appended {
+fn append_hint(hint: &Hint<'_>, out: &mut Vec<u8>) -> Made<()> {
     let words = hint.sentence;
     let (front, back) = words.split_once("{}").unwrap_or((words, ""));
     out.extend_from_slice(front.as_bytes())?;
@@ -63,7 +59,7 @@ fn append_hint(hint: &Hint<'_>, out: &mut Vec<u8>) -> Appended {
     out.extend_from_slice(back.as_bytes())
 }
 
-fn append_filling(filling: Filling<'_>, out: &mut Vec<u8>) -> Appended {
+fn append_filling(filling: Filling<'_>, out: &mut Vec<u8>) -> Made<()> {
     match filling {
         Filling::Nothing => Ok(()),
         Filling::Words(words) => out.extend_from_slice(words),
@@ -95,12 +91,12 @@ fn append_filling(filling: Filling<'_>, out: &mut Vec<u8>) -> Appended {
     }
 }
 
-fn append_capitals(word: &[u8], out: &mut Vec<u8>) -> Appended {
+fn append_capitals(word: &[u8], out: &mut Vec<u8>) -> Made<()> {
     out.extend_from_slice(&word.to_ascii_uppercase(*out.allocator())?)
 }
 
 // The word as it is where a shell takes none of its bytes for anything else, else in single quotes.
-fn append_shell_word(word: &[u8], out: &mut Vec<u8>) -> Appended {
+fn append_shell_word(word: &[u8], out: &mut Vec<u8>) -> Made<()> {
     let is_plain = |it: &u8| it.is_ascii_alphanumeric() || b"@%+=:,./_-".contains(it);
     if word.iter().all(is_plain) {
         return out.extend_from_slice(word);
@@ -111,7 +107,7 @@ fn append_shell_word(word: &[u8], out: &mut Vec<u8>) -> Appended {
 }
 
 // What PROJ does, and what becomes of a transformation.
-fn append_by_proj(transformation: &[u8], out: &mut Vec<u8>) -> Appended {
+fn append_by_proj(transformation: &[u8], out: &mut Vec<u8>) -> Made<()> {
     out.extend_from_slice(BY_PROJ)?;
     if transformation.is_empty() {
         return Ok(());
@@ -125,7 +121,7 @@ fn append_by_proj(transformation: &[u8], out: &mut Vec<u8>) -> Appended {
 }
 
 // `CS[ at 24`
-fn append_node(node: Node<'_>, out: &mut Vec<u8>) -> Appended {
+fn append_node(node: Node<'_>, out: &mut Vec<u8>) -> Made<()> {
     append_capitals(node.keyword, out)?;
     out.push(node.delimiter)?;
     out.extend_from_slice(b" at ")?;

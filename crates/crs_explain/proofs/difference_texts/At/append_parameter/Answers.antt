@@ -28,11 +28,11 @@ returns c =
     (subst (λ u. AppendsTexts (AreTextsOfParts level front (units (step.Unit ∷ []) level kinds.Plain kinds.Plain (option_copied c.as_ref.result) u)) out further)
     other_unit c.in_ok-append_units.ensures) in
     let viewed : ParameterParts = record { name = a.name.now; value = a.value; unit = a.unit; identifiers = a.identifiers } in
-    let Told = λ (p q : ParameterParts). OnOk c.append_identifiers.result
-    (AppendsTexts (AreTextsOfParts level front (parts_of_parameter level p q)) c.args.out.now.items c.append_identifiers.new.out.items) in
+    let Told = λ (p q : ParameterParts). OnOk c.append_ids.result
+    (AppendsTexts (AreTextsOfParts level front (parts_of_parameter level p q)) c.args.out.now.items c.append_ids.new.out.items) in
     subst (λ p. Told p c.args.b.now) c.a.view_is
     (subst (λ q. Told viewed q) c.b.view_is
-    (on_ok_weaker c.append_identifiers.result
-    (λ rest. both level front first (second ⨾ third) c.args.out.now.items out c.append_identifiers.new.out.items c.in_ok-append_value.ensures
-    (both level front second third out further c.append_identifiers.new.out.items told rest))
-    c.append_identifiers.ensures))
+    (on_ok_weaker c.append_ids.result
+    (λ rest. both level front first (second ⨾ third) c.args.out.now.items out c.append_ids.new.out.items c.in_ok-append_value.ensures
+    (both level front second third out further c.append_ids.new.out.items told rest))
+    c.append_ids.ensures))

@@ -3,7 +3,7 @@ use Rattle.std.proofs.lemmas.Bool.Decides.{not_from_Decides}
 use Rattle.std.proofs.lemmas.Result.{on_ok_weaker}
 use Rattle.crs_same.specs.declared.step.Step.TheVariants as step
 use Rattle.crs_explain.proofs.DifferingLemmas.{told}
-use Rattle.crs_explain.proofs.difference_texts.At.append_identifiers.Goals as goal
+use Rattle.crs_explain.proofs.difference_texts.At.append_ids.Goals as goal
 
 pub returns : goal.returns
 returns c =
