@@ -87,13 +87,7 @@ impl<W: Write> Sink<W> {
     pub fn into_inner(self) -> W
         ensures { W.contents result ≡ self.contents }
     {
-        let Sink {
-            writer,
-            used: _,
-            past_failure: _,
-            failed: _,
-        } = self;
-        writer
+        self.writer
     }
 
     /// Whether a write answered a failure, or took no byte.
