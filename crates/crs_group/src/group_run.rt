@@ -1,6 +1,6 @@
-ghost use Rattle.std.specs.Prelude.{◌≡◌, ◌≤◌, ◌↔◌, IfErr, IfOk, IsErrOf, false, true};
-ghost use Rattle.crs_group.specs.GroupOutput.{plain};
-ghost use Rattle.crs_group.specs.GroupRun.{IsGroupFault, IsGrouped, IsGroupedUnder};
+ghost use Rattle.std.specs.Prelude.{◌≡◌};
+ghost use Rattle.crs_group.specs.GroupOutput.{IsGroupOutput, IsGroupOutputUnder, plain};
+ghost use Rattle.crs_group.specs.GroupRun.{IsGroupRun};
 ghost use Rattle.crs_streams.specs.Streams.{fresh_sink, fresh_source};
 
 use crate::ledger::{ByCanon, ByForm};
@@ -25,13 +25,7 @@ pub fn run_group<R: Read, W: Write>(
 ) -> Result<Summary, RunFault>
     requires source { r.old ≡ fresh_source r.old.remaining }
     requires sink { w.old ≡ fresh_sink w.old.contents }
-    ensures answered { IfOk result (IsGrouped plain level r.old r.new w.old w.new) }
-    ensures reads { r.new.reads ≤ 1048576 }
-    ensures past_end { r.new.past_end ≡ false }
-    ensures fault { IfErr result (IsGroupFault r.old r.new w.old w.new) }
-    ensures read_failed { IsErrOf result RunFault.ReadFailed ↔ (r.new.failed ≡ true) }
-    ensures write_failed { IsErrOf result RunFault.WriteFailed ↔ (w.new.failed ≡ true) }
-    ensures past_failure { w.new.past_failure ≡ false }
+    ensures { IsGroupRun (IsGroupOutput plain level) r.old r.new w.old w.new result }
 {
     run_adding(alloc, level, ByCanon, PLAIN, r, w)
 }
@@ -50,13 +44,7 @@ pub fn run_group_listing<R: Read, W: Write>(
 ) -> Result<Summary, RunFault>
     requires source { r.old ≡ fresh_source r.old.remaining }
     requires sink { w.old ≡ fresh_sink w.old.contents }
-    ensures answered { IfOk result (IsGrouped listing level r.old r.new w.old w.new) }
-    ensures reads { r.new.reads ≤ 1048576 }
-    ensures past_end { r.new.past_end ≡ false }
-    ensures fault { IfErr result (IsGroupFault r.old r.new w.old w.new) }
-    ensures read_failed { IsErrOf result RunFault.ReadFailed ↔ (r.new.failed ≡ true) }
-    ensures write_failed { IsErrOf result RunFault.WriteFailed ↔ (w.new.failed ≡ true) }
-    ensures past_failure { w.new.past_failure ≡ false }
+    ensures { IsGroupRun (IsGroupOutput listing level) r.old r.new w.old w.new result }
 {
     run_adding(alloc, level, ByCanon, listing, r, w)
 }
@@ -73,13 +61,7 @@ pub fn run_group_under<R: Read, W: Write>(
 ) -> Result<Summary, RunFault>
     requires source { r.old ≡ fresh_source r.old.remaining }
     requires sink { w.old ≡ fresh_sink w.old.contents }
-    ensures answered { IfOk result (IsGroupedUnder rules.now listing level r.old r.new w.old w.new) }
-    ensures reads { r.new.reads ≤ 1048576 }
-    ensures past_end { r.new.past_end ≡ false }
-    ensures fault { IfErr result (IsGroupFault r.old r.new w.old w.new) }
-    ensures read_failed { IsErrOf result RunFault.ReadFailed ↔ (r.new.failed ≡ true) }
-    ensures write_failed { IsErrOf result RunFault.WriteFailed ↔ (w.new.failed ≡ true) }
-    ensures past_failure { w.new.past_failure ≡ false }
+    ensures { IsGroupRun (IsGroupOutputUnder rules.now listing level) r.old r.new w.old w.new result }
 {
     run_adding(alloc, level, ByForm { rules }, listing, r, w)
 }
