@@ -7,7 +7,7 @@ mod runs;
 
 pub use crs_explain::StepWord;
 pub use crs_group::{Listing, PLAIN, Summary};
-pub use crs_rules::{Rules, RulesFault, RulesReader, RulesRefusal, read_rules};
+pub use crs_rules::{Rules, RulesFault, RulesReader, RulesRefusal, Under, read_rules};
 pub use crs_streams::{Filling, RunFault, Sink, Source, Stream, append_escaped};
 pub use crs_text::Refusal;
 pub use crs_value::Level;
@@ -29,4 +29,4 @@ pub use runs::text::{
     CanonText, CheckText, accepted_line, kind_of_text, kind_word, line_of, refusal_in,
     refused_line, run_canon, run_check, run_text,
 };
-pub use runs::under::{ExplainedForms, SameForms, Under};
+pub use runs::under::{ExplainedForms, SameForms};

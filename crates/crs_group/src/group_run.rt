@@ -6,7 +6,7 @@ ghost use Rattle.crs_streams.specs.Streams.{fresh_sink, fresh_source};
 use crate::ledger::{ByCanon, ByForm};
 use crate::running::run_adding;
 use crate::{Listing, PLAIN, RunFault, Sink, Source, Summary};
-use crs_rules::Rules;
+use crs_rules::Under;
 use crs_value::Level;
 use std::alloc::Global;
 use std::io::{Read, Write};
@@ -27,7 +27,7 @@ pub fn run_group<R: Read, W: Write>(
     requires sink { w.old ≡ fresh_sink w.old.contents }
     ensures { IsGroupRun (IsGroupOutput plain level) r.old r.new w.old w.new result }
 {
-    run_adding(alloc, level, ByCanon, PLAIN, r, w)
+    run_adding(alloc, ByCanon(level), PLAIN, r, w)
 }
 
 /// Writes what `run_group` writes, without the groups that aren't listed: the others have their numbers among all, and
@@ -46,22 +46,21 @@ pub fn run_group_listing<R: Read, W: Write>(
     requires sink { w.old ≡ fresh_sink w.old.contents }
     ensures { IsGroupRun (IsGroupOutput listing level) r.old r.new w.old w.new result }
 {
-    run_adding(alloc, level, ByCanon, listing, r, w)
+    run_adding(alloc, ByCanon(level), listing, r, w)
 }
 
 /// As `run_group_listing`, under rules: lines are in one group exactly where their texts are the same under the rules.
 /// Profile.
 pub fn run_group_under<R: Read, W: Write>(
     alloc: Global,
-    level: Level,
-    rules: &Rules,
+    under: Under<'_>,
     listing: Listing,
     r: &mut Source<R>,
     w: &mut Sink<W>,
 ) -> Result<Summary, RunFault>
     requires source { r.old ≡ fresh_source r.old.remaining }
     requires sink { w.old ≡ fresh_sink w.old.contents }
-    ensures { IsGroupRun (IsGroupOutputUnder rules.now listing level) r.old r.new w.old w.new result }
+    ensures { IsGroupRun (IsGroupOutputUnder under.entry.rules.now listing under.entry.level) r.old r.new w.old w.new result }
 {
-    run_adding(alloc, level, ByForm { rules }, listing, r, w)
+    run_adding(alloc, ByForm(under), listing, r, w)
 }

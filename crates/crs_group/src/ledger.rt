@@ -9,7 +9,7 @@ use crate::Placed;
 use crate::catalogue::Catalogue;
 use crate::names::{Names, text_in};
 use crate::summary::Summary;
-use crs_rules::Rules;
+use crs_rules::Under;
 use crs_value::Level;
 use std::alloc::{AllocError, Global};
 use std::marker::Model;
@@ -122,6 +122,12 @@ pub trait Adding {
     // When two lines share a group.
     ghost Share: { Self → Level → PlacedLine → PlacedLine → Type 0 };
 
+    ghost level: { Self → Level };
+
+    /// The level at which texts are compared.
+    fn level(&self) -> Level
+        ensures { result ≡ level self.now };
+
     /// Adds the text of a line of this number.
     fn add(&self, catalogue: &mut Catalogue, line: u64, text: &[u8]) -> Result<Placed, AllocError>
         ensures catalogue { IfOk result (λ place. (placed : List PlacedLine) →
@@ -130,9 +136,9 @@ pub trait Adding {
         ensures level { catalogue.new.level ≡ catalogue.old.level };
 }
 
-/// By its canonical text.
+/// By its canonical text at a level.
 #[derive(Clone, Copy)]
-pub struct ByCanon;
+pub struct ByCanon(pub Level);
 
 impl Adding for ByCanon {
     ghost use Rattle.crs_writer.specs.Canonical.{IsCanonicalOf};
@@ -142,6 +148,12 @@ impl Adding for ByCanon {
 
     ghost Share = { λ s level p q. ShareWhereSame level p q };
 
+    ghost level = { λ s. s.0 };
+
+    fn level(&self) -> Level {
+        self.0
+    }
+
     fn add(&self, catalogue: &mut Catalogue, line: u64, text: &[u8]) -> Result<Placed, AllocError> {
         catalogue.add(line, text)
     }
@@ -149,21 +161,24 @@ impl Adding for ByCanon {
 
 /// By its form under rules.
 #[derive(Clone, Copy)]
-pub struct ByForm<'r> {
-    /// The rules.
-    pub rules: &'r Rules,
-}
+pub struct ByForm<'r>(pub Under<'r>);
 
 impl Adding for ByForm<'_> {
     ghost use Rattle.crs_rules.specs.Rewritten.{IsForm};
     ghost use Rattle.crs_group.specs.UnderRules.{ShareWhereSameUnder};
 
-    ghost Form = { λ s level text bytes. IsForm s.rules.now level text bytes };
+    ghost Form = { λ s level text bytes. IsForm s.0.rules.now level text bytes };
 
-    ghost Share = { λ s level p q. ShareWhereSameUnder s.rules.now level p q };
+    ghost Share = { λ s level p q. ShareWhereSameUnder s.0.rules.now level p q };
+
+    ghost level = { λ s. s.0.level };
+
+    fn level(&self) -> Level {
+        self.0.level
+    }
 
     fn add(&self, catalogue: &mut Catalogue, line: u64, text: &[u8]) -> Result<Placed, AllocError> {
-        catalogue.add_under(line, text, self.rules)
+        catalogue.add_under(line, text, self.0.rules)
     }
 }
 

@@ -23,7 +23,6 @@ use std::marker::Model;
 /// Adds the lines of a source in this way, and writes the groups of their catalogue that are listed and the refused lines.
 pub fn run_adding<A: Adding + Drop, R: Read, W: Write>(
     alloc: Global,
-    level: Level,
     adding: A,
     listing: Listing,
     r: &mut Source<R>,
@@ -31,29 +30,28 @@ pub fn run_adding<A: Adding + Drop, R: Read, W: Write>(
 ) -> Result<Summary, RunFault>
     requires source { r.old ≡ fresh_source r.old.remaining }
     requires sink { w.old ≡ fresh_sink w.old.contents }
-    ensures { IsGroupRun (IsGroupOutputBy (A.Form adding) (A.Share adding) listing level) r.old r.new w.old w.new result }
+    ensures { IsGroupRun (IsGroupOutputBy (A.Form adding) (A.Share adding) listing (A.level adding)) r.old r.new w.old w.new result }
 {
     let named = listing.names;
-    let ledger = read_ledger(alloc, level, &Way { adding, named }, r)?;
+    let ledger = read_ledger(alloc, &Way { adding, named }, r)?;
     write_listing(alloc, listing, &ledger, w)
 }
 
 // The ledger of all lines of a source.
 fn read_ledger<A: Adding, R: Read>(
     alloc: Global,
-    level: Level,
     way: &Way<A>,
     source: &mut Source<R>,
 ) -> Result<Ledger, RunFault>
     requires { source.old ≡ fresh_source source.old.remaining }
-    ensures ok { IfOk result (IsLedgerWhole (A.Form way.now.adding) (A.Share way.now.adding) way.now.named level source.old source.new) }
+    ensures ok { IfOk result (IsLedgerWhole (A.Form way.now.adding) (A.Share way.now.adding) way.now.named (A.level way.now.adding) source.old source.new) }
     ensures reads { source.new.reads ≤ 1048576 }
     ensures past_end { source.new.past_end ≡ false }
     ensures err { IfErr result (IsReadingFault source.old source.new) }
 {
     lines_are_cut();
     let mut room = make_room(alloc).map_err(|_| RunFault::Memory)?;
-    let mut cutter = Cutter::new(alloc, level);
+    let mut cutter = Cutter::new(alloc, way.adding.level());
     read_into(way, &mut cutter, source, room.as_mut_slice())?;
     cutter.finish(way).map_err(|_| RunFault::Memory)
 }

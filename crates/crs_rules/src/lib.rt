@@ -15,5 +15,5 @@ mod uncounted;
 pub use file::fault::{RulesFault, RulesRefusal};
 pub use file::reader::{RulesReader, read_rules};
 pub use form::{canon_under, read_in_form_order, rewrite_parts};
-pub use rules::Rules;
+pub use rules::{Rules, Under};
 pub use uncounted::Uncounted;

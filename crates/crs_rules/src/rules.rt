@@ -8,7 +8,7 @@ use crate::aliases::{Aliases, NameAlias, UnitAlias};
 use crate::uncounted::Uncounted;
 use crs_decimal::Decimal;
 use crs_shape::Class;
-use crs_value::UnitKind;
+use crs_value::{Level, UnitKind};
 use std::alloc::{AllocError, Global};
 use std::marker::Model;
 
@@ -26,6 +26,15 @@ impl Model for Rules {
     ghost view = { λ r. record { names = r.names; units = r.units; uncounted = r.uncounted } };
 
     ghost invariant = { λ r. AreRules (view r) };
+}
+
+/// Rules, and the level at which texts have forms under them. Profile.
+#[derive(Clone, Copy)]
+pub struct Under<'r> {
+    /// The level.
+    pub level: Level,
+    /// The rules.
+    pub rules: &'r Rules,
 }
 
 impl Rules {

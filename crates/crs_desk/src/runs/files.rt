@@ -11,10 +11,9 @@ ghost use Rattle.crs_desk.specs.LinesRun.{IsFrontOutput, IsLineOutput, IsLinesOu
 use crate::runs::explain::ExplainText;
 use crate::runs::line_output::{OfLine, Prefix, Prefixed, prefix_lines};
 use crate::runs::lines::run_lines;
-use crate::runs::under::Under;
 use crate::{
     CanonText, CheckText, Filling, Level, LineWord, Listing, Manner, RunFault, Sink, Source,
-    Stream, TextCommand, read_text,
+    Stream, TextCommand, Under, read_text,
 };
 use crs_group::pieces::{Adding, ByCanon, ByForm, run_adding};
 use crs_rules::Rules;
@@ -150,13 +149,7 @@ fn answer_input<R: Read + Drop, W: Write>(
         FileTask::Check => answer_text(&CheckText, prefix, reader, sink),
         FileTask::Explain(how) => answer_text(&ExplainText { how }, prefix, reader, sink),
         FileTask::Group(level, listing) => {
-            let adding = ByCanon;
-            let grouping = Grouping {
-                level,
-                adding,
-                listing,
-            };
-            answer_group(grouping, prefix, reader, sink)
+            answer_group(ByCanon(level), listing, prefix, reader, sink)
         }
         FileTask::CanonLines(level) => answer_lines(CanonText { level }, prefix, reader, sink),
         FileTask::CheckLines => answer_lines(CheckText, prefix, reader, sink),
@@ -164,13 +157,8 @@ fn answer_input<R: Read + Drop, W: Write>(
             answer_text(&Under { level, rules }, prefix, reader, sink)
         }
         FileTask::FormGroup(level, listing, rules) => {
-            let adding = ByForm { rules };
-            let grouping = Grouping {
-                level,
-                adding,
-                listing,
-            };
-            answer_group(grouping, prefix, reader, sink)
+            let adding = ByForm(Under { level, rules });
+            answer_group(adding, listing, prefix, reader, sink)
         }
         FileTask::FormLines(level, rules) => {
             answer_lines(Under { level, rules }, prefix, reader, sink)
@@ -196,36 +184,23 @@ fn answer_text<C: TextCommand, R: Read + Drop, W: Write>(
     Ok(status)
 }
 
-// How lines are grouped.
-#[derive(Drop)]
-struct Grouping<A: Adding> {
-    level: Level,
-    adding: A,
-    listing: Listing,
-}
-
 // The groups of the lines.
 fn answer_group<A: Adding + Drop, R: Read + Drop, W: Write>(
-    grouping: Grouping<A>,
+    adding: A,
+    listing: Listing,
     prefix: &Prefix,
     reader: R,
     sink: &mut Sink<W>,
 ) -> Result<u8, RunFault>
     requires { IsHealthy sink.old }
-    ensures answered { IfOk result (IsAnswerSent (IsGroupedOutput (IsGroupOutputBy (A.Form grouping.adding) (A.Share grouping.adding)
-        grouping.listing grouping.level))
-        prefix.now (R.remaining reader) sink.old sink.new) }
+    ensures answered { IfOk result (IsAnswerSent (IsGroupedOutput (IsGroupOutputBy (A.Form adding) (A.Share adding)
+        listing (A.level adding))) prefix.now (R.remaining reader) sink.old sink.new) }
     ensures fault { IfErr result (IsFileFault NoFront prefix.now (R.remaining reader) sink.old sink.new) }
 {
-    let Grouping {
-        level,
-        adding,
-        listing,
-    } = grouping;
     let alloc = prefix.alloc();
     let mut source = Source::new(Filling::new(reader));
     let mut held = Sink::new(Vec::new(alloc));
-    match run_adding(alloc, level, adding, listing, &mut source, &mut held) {
+    match run_adding(alloc, adding, listing, &mut source, &mut held) {
         Ok(summary) => {
             send(prefix, held.into_inner(), sink)?;
             Ok(if summary.refused == 0 { 0 } else { 1 })

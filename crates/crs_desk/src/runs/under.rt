@@ -21,19 +21,10 @@ use crs_explain::{
     DifferenceTexts, append_difference_line, append_difference_members, difference_lines,
     difference_objects, ordered_parts,
 };
-use crs_rules::{Rules, canon_under, read_in_form_order, rewrite_parts};
+use crs_rules::{Under, canon_under, read_in_form_order, rewrite_parts};
 use crs_text::Fault;
 use crs_value::Crs;
 use std::alloc::{AllocError, Global};
-
-/// Rules, and the level at which texts have forms under them. Profile.
-#[derive(Clone, Copy)]
-pub struct Under<'r> {
-    /// The level.
-    pub level: Level,
-    /// The rules.
-    pub rules: &'r Rules,
-}
 
 // `canon` under rules.
 impl TextCommand for Under<'_> {

@@ -7,7 +7,7 @@ pub returns : goal.returns
 returns g c =
     record {
       answered = IfOk-weaker c.write_listing.result _ _
-          (λ summary writes. grouped (g.A.Adding.Form c.args.adding) (g.A.Adding.Share c.args.adding) c.args.listing c.args.level
+          (λ summary writes. grouped (g.A.Adding.Form c.args.adding) (g.A.Adding.Share c.args.adding) c.args.listing (g.A.Adding.level c.args.adding)
           c.args.r.now c.read_ledger.new.source c.args.w.now c.write_listing.new.sink c.in_ok-ledger.ledger summary
           c.in_ok-ledger.ensures.ok writes)
           c.write_listing.ensures.ok;

@@ -6,7 +6,7 @@ use Rattle.crs_desk.proofs.runs.files.answer_group.Goals as goal
 
 pub returns-in-Ok-clause-answered : goal.returns-in-Ok-clause-answered
 returns-in-Ok-clause-answered g c =
-    let Output = IsGroupOutputBy (g.A.Adding.Form c.args.grouping.adding) (g.A.Adding.Share c.args.grouping.adding) c.args.grouping.listing c.args.grouping.level in
+    let Output = IsGroupOutputBy (g.A.Adding.Form c.args.adding) (g.A.Adding.Share c.args.adding) c.args.listing (g.A.Adding.level c.args.adding) in
     let held = groups-held Output (g.R.Read.remaining c.args.reader) c.new-source.result c.run_adding.new.r
     c.new-held.result c.run_adding.new.w c.in-Ok.summary c.into_inner.result.items (search rules) (search rules)
     (search rules) c.in-Ok.ensures.answered in (
