@@ -13,6 +13,7 @@ mod rules;
 mod uncounted;
 
 pub use file::fault::{RulesFault, RulesRefusal};
+pub use file::member::Member;
 pub use file::reader::{RulesReader, read_rules};
 pub use form::{canon_under, read_in_form_order, rewrite_parts};
 pub use rules::{Rules, Under};

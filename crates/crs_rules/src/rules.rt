@@ -5,9 +5,8 @@ ghost use Rattle.crs_value.specs.Sound.{IsText};
 ghost use Rattle.crs_rules.specs.Rules.{no_rules, RulesParts, AreRules};
 
 use crate::aliases::{Aliases, NameAlias, UnitAlias};
+use crate::file::member::Member;
 use crate::uncounted::Uncounted;
-use crs_decimal::Decimal;
-use crs_shape::Class;
 use crs_value::{Level, UnitKind};
 use std::alloc::{AllocError, Global};
 use std::marker::Model;
@@ -63,65 +62,62 @@ impl Rules {
         self.uncounted = uncounted;
     }
 
-    /// In nodes of this class the name `alias` counts as `name`, which is written for it. If two have one alias, the
-    /// first holds.
+    /// The name of a node counts as the other's, which is written for it. If two have one alias, the first holds.
     ///
     /// `AllocError`: there is no memory for it, and the rules are as before.
     pub fn alias_name(
         &mut self,
         alloc: Global,
-        class: Class,
-        alias: &[u8],
-        name: &[u8],
+        alias: &Member<'_>,
+        other: &Member<'_>,
     ) -> Result<(), AllocError>
-        requires { IsText name.now }
+        requires { IsText other.now.name }
         ensures ok { OnOk result (self.new ≡ record self.old {
-          names = self.old.names ++ record { class = class; alias = alias.now; name = name.now } ∷ [];
+          names = self.old.names ++ record { class = alias.now.class; alias = alias.now.name; name = other.now.name } ∷ [];
         }) }
         ensures err { OnErr result (self.new ≡ self.old) }
     {
-        let alias = Vec::from_slice(alloc, alias)?;
-        let name = Vec::from_slice(alloc, name)?;
+        let class = alias.class;
+        let alias = Vec::from_slice(alloc, alias.name)?;
+        let name = Vec::from_slice(alloc, other.name)?;
         self.names.push(NameAlias { class, alias, name })?;
         Ok(())
     }
 
-    /// In units of this kind the name `alias` with the factor `alias_factor` counts as the name with the factor, which are
-    /// written for it. If two have one alias, the first holds.
+    /// A unit of this kind counts as the other, whose name and factor are written for it. If two have one alias, the first
+    /// holds.
     ///
     /// `AllocError`: there is no memory for it, and the rules are as before.
     pub fn alias_unit(
         &mut self,
         alloc: Global,
         kind: UnitKind,
-        alias: &[u8],
-        alias_factor: Decimal,
-        name: &[u8],
-        factor: Decimal,
+        alias: &Member<'_>,
+        other: &Member<'_>,
     ) -> Result<(), AllocError>
-        requires text { IsText name.now }
-        requires above_zero { IsAboveZero factor }
+        requires text { IsText other.now.name }
+        requires above_zero { IsAboveZero other.now.factor }
         ensures ok { OnOk result (self.new ≡ record self.old {
           units = self.old.units ++ record {
             kind = kind;
-            alias = alias.now;
-            alias_factor = alias_factor;
-            name = name.now;
-            factor = factor;
+            alias = alias.now.name;
+            alias_factor = alias.now.factor;
+            name = other.now.name;
+            factor = other.now.factor;
           } ∷ [];
         }) }
         ensures err { OnErr result (self.new ≡ self.old) }
     {
         // Asks the factors so that their invariants are known.
-        let _normal = (alias_factor.is_negative(), factor.is_negative());
-        let alias = Vec::from_slice(alloc, alias)?;
-        let name = Vec::from_slice(alloc, name)?;
+        let _normal = (alias.factor.is_negative(), other.factor.is_negative());
+        let alias_name = Vec::from_slice(alloc, alias.name)?;
+        let name = Vec::from_slice(alloc, other.name)?;
         self.units.push(UnitAlias {
             kind,
-            alias,
-            alias_factor,
+            alias: alias_name,
+            alias_factor: alias.factor,
             name,
-            factor,
+            factor: other.factor,
         })?;
         Ok(())
     }

@@ -14,11 +14,14 @@ use crs_text::{ItemId, ItemKind, Items, Keyword};
 use crs_value::UnitKind;
 use std::marker::Model;
 
-// What a node of a `SAME` says: its class, its name and, if it is a unit, the factor; else zero.
-pub(crate) struct Member<'a> {
-    pub(crate) class: Class,
-    pub(crate) name: &'a [u8],
-    pub(crate) factor: Decimal,
+/// What a node says that counts as another, or as which others count. Profile.
+pub struct Member<'a> {
+    /// Its class.
+    pub class: Class,
+    /// Its name.
+    pub name: &'a [u8],
+    /// The factor of a unit, else zero.
+    pub factor: Decimal,
 }
 
 impl<'a> Model for Member<'a> {

@@ -96,15 +96,8 @@ fn join(
         return Ok(());
     };
     match kind_of(first.class) {
-        None => rules.alias_name(alloc, member.class, member.name, first.name),
-        Some(kind) => rules.alias_unit(
-            alloc,
-            kind,
-            member.name,
-            member.factor,
-            first.name,
-            first.factor,
-        ),
+        None => rules.alias_name(alloc, member, first),
+        Some(kind) => rules.alias_unit(alloc, kind, member, first),
     }
 }
 
