@@ -233,7 +233,6 @@ fn spare_word<'a>(alloc: Global, id: &'a str, shown: &'a str, help: &'a str) -> 
     Arg::new(alloc, id).value_name(shown).help(help)
 }
 
-// The files of a command, as many as there are.
 fn file_argument<'a>(alloc: Global) -> Arg<'a>
     ensures rule { rule_of result ≡ file_operands }
     ensures local { result.global ≡ false }
@@ -241,7 +240,6 @@ fn file_argument<'a>(alloc: Global) -> Arg<'a>
     spare_word(alloc, "file", "FILE", FILE_HELP).action(ArgAction::Append)
 }
 
-// A flag, and what help says of it.
 fn flag_argument<'a>(alloc: Global, name: &'a str, help: &'a str) -> Arg<'a>
     ensures rule { rule_of result ≡ flag name.entry.now }
     ensures local { result.global ≡ false }

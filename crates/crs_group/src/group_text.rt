@@ -83,7 +83,6 @@ impl Listed<'_> {
         Ok(())
     }
 
-    // A line's number, or its name.
     fn write_label(self, out: &mut Vec<u8>, number: u64) -> Result<(), AllocError>
         ensures { OnOk result (out.new.items ≡ out.old.items
             ++ label self.entry.listing self.entry.ledger.now.names number) }
@@ -179,7 +178,6 @@ impl Listed<'_> {
         append_number(number as usize, out)
     }
 
-    // A refused line.
     fn write_refused_object(
         self,
         out: &mut Vec<u8>,
@@ -201,7 +199,6 @@ impl Listed<'_> {
     }
 }
 
-// Whether a group of these lines is listed.
 fn is_listed(listing: Listing, lines: &[u64]) -> bool
     ensures { result ≡ is_listed listing lines.now }
 {

@@ -39,7 +39,6 @@ impl Model for Ledger {
 }
 
 impl Ledger {
-    // A ledger of no lines.
     pub(crate) fn new(alloc: Global, level: Level) -> Ledger
         ensures { result ≡ no_lines level }
     {
@@ -51,7 +50,6 @@ impl Ledger {
         }
     }
 
-    // The next line.
     pub(crate) fn add<A: Adding>(&mut self, way: &Way<A>, line: &[u8]) -> Result<(), AllocError>
         requires { self.old.lines + 1 < 2 ^ 64 }
         ensures texts { OnOk result ((texts : List (List ℕ)) →

@@ -87,7 +87,6 @@ pub(crate) fn text_in(named: bool, line: &[u8]) -> &[u8]
     }
 }
 
-// The place of the first tab of a line.
 #[tactic(auto, using(crate::proofs::TabLemmas::tab_found))]
 fn first_tab(line: &[u8]) -> Option<usize>
     ensures { MatchOption result (tab_at line.now ≡ length line.now)

@@ -143,7 +143,6 @@ impl Recent {
     }
 }
 
-// All places, without lines.
 fn no_lines(alloc: Global) -> Result<Vec<KnownLine>, AllocError>
     ensures { IfOk result (λ lines. All (λ line. line.group ≡ None) lines.items) }
 {

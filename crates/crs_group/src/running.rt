@@ -37,7 +37,6 @@ pub fn run_adding<A: Adding + Drop, R: Read, W: Write>(
     write_listing(alloc, listing, &ledger, w)
 }
 
-// The ledger of all lines of a source.
 fn read_ledger<A: Adding, R: Read>(
     alloc: Global,
     way: &Way<A>,
@@ -126,7 +125,6 @@ impl Cutter {
         Cutter { ledger, partial }
     }
 
-    // The next piece of the bytes.
     fn take<A: Adding>(&mut self, way: &Way<A>, piece: &[u8]) -> Result<(), RunFault>
         requires fits { self.old.ledger.lines + length piece.now + 1 < 2 ^ 64 }
         requires small { length piece.now ≤ 65536 }

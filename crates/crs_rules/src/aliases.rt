@@ -91,7 +91,6 @@ impl Alias for UnitAlias {
     }
 }
 
-// The place that is kept for a digest.
 fn place(firsts: &IndexMap<u64, usize>, digest: u64) -> Option<usize>
     ensures { result ≡ place_of firsts.now.entries digest }
 {
@@ -228,7 +227,6 @@ fn unit_digest(name: &[u8], digits: u128) -> u64
     hasher.finish()
 }
 
-// Whether the factors of a unit and of an alias are equal.
 fn has_factor(unit: &Unit<'_>, alias: &UnitAlias) -> bool
     ensures { result ≡ bytes_eq (plain unit.now.factor) (plain alias.now.alias_factor) }
 {

@@ -52,7 +52,6 @@ fn form_of(alloc: Global, text: &[u8], level: Level, rules: &Rules) -> Result<Ca
     canon_of(alloc, &crs, level)
 }
 
-// The CRS that an accepted text spells.
 fn read_accepted<'t>(alloc: Global, text: &'t [u8]) -> Result<Crs<'t>, AllocError>
     requires { IsAccepted text.now }
     ensures { IfOk result (λ crs. Spells text.now crs) }

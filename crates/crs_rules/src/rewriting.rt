@@ -40,7 +40,6 @@ impl<'a, T: Part<'a>> Change<T> for Rewriting<'a> {
     }
 }
 
-// Rewrites each member of a list.
 fn rewrite_each<'a, T: Part<'a>>(members: &mut List<T>, rules: &'a Rules)
     ensures { members.new ≡ map (T.under (meaning rules.now)) members.old }
 {

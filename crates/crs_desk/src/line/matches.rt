@@ -15,7 +15,6 @@ use crate::{
 use clap::ArgMatches;
 use std::alloc::{AllocError, Global};
 
-// The name of standard input among those of files.
 const STANDARD: &str = "-";
 
 /// The request of a command line, by its matches. `AllocError`: memory ran out. Profile.
@@ -122,7 +121,6 @@ fn one_work(alloc: Global, operands: &ArgMatches, word: &str) -> Result<Work, Al
     Ok(Work::Text { how, text, rules })
 }
 
-// Two operands, and the rules.
 fn pair_of(
     alloc: Global,
     operands: &ArgMatches,

@@ -7,7 +7,6 @@ use crate::{Layout, LineWord, LineWords, Listing, Manner, WordKind};
 use clap::ArgMatches;
 use std::alloc::{AllocError, Global};
 
-// The level where the line names none.
 const USUAL_LEVEL: &str = "full";
 
 // The word of the level, `full` where none is named. `AllocError`: memory ran out.
@@ -31,7 +30,6 @@ pub(crate) fn words_named(
     }
 }
 
-// Which groups are written, as the flags say.
 pub(crate) fn listing(matches: &ArgMatches) -> Listing
     ensures { result ≡ listing_of (rows_of (found_of matches.now)) }
 {
@@ -42,7 +40,6 @@ pub(crate) fn listing(matches: &ArgMatches) -> Listing
     }
 }
 
-// How texts stand in the input of a command.
 pub(crate) fn layout(matches: &ArgMatches) -> Layout
     ensures { result ≡ layout_of (rows_of (found_of matches.now)) }
 {
@@ -53,7 +50,6 @@ pub(crate) fn layout(matches: &ArgMatches) -> Layout
     }
 }
 
-// How a command explains.
 pub(crate) fn manner(matches: &ArgMatches) -> Manner
     ensures { result ≡ manner_of (rows_of (found_of matches.now)) }
 {
@@ -64,7 +60,6 @@ pub(crate) fn manner(matches: &ArgMatches) -> Manner
     }
 }
 
-// What the operands of a command are.
 pub(crate) fn word_kind(matches: &ArgMatches) -> WordKind
     ensures { result ≡ kind_of_words (rows_of (found_of matches.now)) }
 {
@@ -75,7 +70,6 @@ pub(crate) fn word_kind(matches: &ArgMatches) -> WordKind
     }
 }
 
-// Whether a flag is there.
 pub(crate) fn flag_asked(matches: &ArgMatches, name: &str) -> bool
     ensures { result ≡ has_flag name.now (rows_of (found_of matches.now)) }
 {

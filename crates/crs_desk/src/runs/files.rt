@@ -107,7 +107,6 @@ fn is_json(task: FileTask<'_>) -> bool
     }
 }
 
-// Writes the answer of a file.
 fn answer_file<I: Inputs, W: Write>(
     task: FileTask<'_>,
     prefix: &Prefix,
@@ -166,7 +165,6 @@ fn answer_input<R: Read + Drop, W: Write>(
     }
 }
 
-// The answer of a command for the whole text.
 fn answer_text<C: TextCommand, R: Read + Drop, W: Write>(
     command: &C,
     prefix: &Prefix,
@@ -184,7 +182,6 @@ fn answer_text<C: TextCommand, R: Read + Drop, W: Write>(
     Ok(status)
 }
 
-// The groups of the lines.
 fn answer_group<A: Adding + Drop, R: Read + Drop, W: Write>(
     adding: A,
     listing: Listing,
@@ -210,7 +207,6 @@ fn answer_group<A: Adding + Drop, R: Read + Drop, W: Write>(
     }
 }
 
-// The answer of a command for each line.
 fn answer_lines<C: TextCommand + Drop, R: Read + Drop, W: Write>(
     command: C,
     prefix: &Prefix,

@@ -62,7 +62,6 @@ impl Model for Prefix {
 }
 
 impl Prefix {
-    // The allocator of its bytes.
     pub(crate) fn alloc(&self) -> Global {
         *self.bytes.allocator()
     }

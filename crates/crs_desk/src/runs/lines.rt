@@ -48,7 +48,6 @@ pub fn run_lines<C: TextCommand, R: Read, W: Write>(
     cutter.finish(command, sink)
 }
 
-// Cuts all bytes of the source.
 fn read_through<C: TextCommand, R: Read, W: Write>(
     command: &C,
     cutter: &mut LineCutter,
@@ -95,7 +94,6 @@ impl Model for LineWriter {
 }
 
 impl LineWriter {
-    // One more line.
     fn put<C: TextCommand>(&mut self, command: &C, text: &[u8]) -> Result<(), RunFault>
         ensures put { OnOk result (IsPut (C.Output command.now) text.now self.old self.new) }
         ensures fault { IfErr result (λ fault. fault ≡ RunFault.Memory) }
@@ -118,7 +116,6 @@ impl LineWriter {
         self.send(sink)
     }
 
-    // Sends what is kept.
     fn send<W: Write>(&mut self, sink: &mut Sink<W>) -> Result<(), RunFault>
         ensures sent { OnOk result (IsEmptied self.old self.new sink.old sink.new) }
         ensures cut { IfErr result (IsCut self.old sink.old sink.new) }

@@ -50,7 +50,6 @@ trait Writing: Copy {
         ensures { MatchResult result (λ written. Is self text.now written.bytes) (IsFaultOfText text.now) };
 }
 
-// The form.
 impl Writing for Under<'_> {
     ghost Is = { λ s text form. IsForm s.rules.now s.level text form };
 
@@ -59,7 +58,6 @@ impl Writing for Under<'_> {
     }
 }
 
-// The canonical text.
 impl Writing for Level {
     ghost Is = { λ s text canonical. IsCanonicalOf s text canonical };
 
@@ -163,7 +161,6 @@ impl Answer for ExplainedForms<'_> {
     }
 }
 
-// The explanation of two canonical texts.
 fn explained<'t>(
     alloc: Global,
     told: Told<'t>,
@@ -235,7 +232,6 @@ fn told_parts(
     Ok((told, status))
 }
 
-// How these parts are told.
 fn parts_told(
     alloc: Global,
     how: Manner,

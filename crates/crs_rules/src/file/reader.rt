@@ -72,7 +72,6 @@ fn refused(line: usize, items: &Items<'_>, id: ItemId, number: u8) -> RulesFault
     })
 }
 
-// Whether a node is of the class of its set.
 fn is_of_set(first: Option<&Member<'_>>, member: &Member<'_>) -> bool
     ensures { IsTrue result ↔ IsOfSet (option_copied first.entry) member.now }
 {
@@ -147,7 +146,6 @@ impl RulesReader {
         }
     }
 
-    // Where the reader is.
     fn mark(&self) -> Mark
         ensures { IsMarked self.now result }
     {
@@ -187,7 +185,6 @@ impl RulesReader {
         Ok(())
     }
 
-    // Goes before a file's first line.
     fn begin(&mut self)
         ensures { self.new ≡ record self.old { line = 0 } }
     {
@@ -225,7 +222,6 @@ impl RulesReader {
         }
     }
 
-    // Adds the further nodes of a set.
     fn add_others<'a>(
         &mut self,
         alloc: Global,
@@ -248,7 +244,6 @@ impl RulesReader {
         Ok(())
     }
 
-    // Adds a set.
     #[tactic(auto, using(crate::proofs::GrownLemmas::grown_on))]
     fn add_set(&mut self, alloc: Global, items: &Items<'_>, id: ItemId) -> Result<(), RulesFault>
         requires has { HasId items.now id }
@@ -343,7 +338,6 @@ fn first_line(bytes: &[u8]) -> (&[u8], &[u8])
     }
 }
 
-// The fault of the text of a line.
 fn fault_in(line: usize, fault: Fault) -> RulesFault
     ensures { IsFaultIn line fault result }
 {

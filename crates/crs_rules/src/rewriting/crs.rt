@@ -93,7 +93,6 @@ fn projected<'a>(alloc: Global, value: &mut Projected<'a>, rules: &'a Rules)
     tail(&mut value.tail, rules);
 }
 
-// The geoid models of a vertical CRS under rules.
 impl<'a> Part<'a> for GeoidModel<'a> {
     ghost under = { λ r m. named r classes.GeoidModel m };
 
@@ -123,7 +122,6 @@ fn vertical<'a>(alloc: Global, value: &mut Vertical<'a>, rules: &'a Rules)
     tail(&mut value.tail, rules);
 }
 
-// The horizontal part of a compound CRS.
 fn across<'a>(alloc: Global, horizontal: &mut Horizontal<'a>, rules: &'a Rules)
     ensures { horizontal.new ≡ across (meaning rules.now) horizontal.old }
 {

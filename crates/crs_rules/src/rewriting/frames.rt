@@ -56,7 +56,6 @@ fn datum<'a>(value: &mut Datum<'a>, class: Class, rules: &'a Rules)
     value.anchor_epoch = counted_number(rules.uncounted.anchors, value.anchor_epoch);
 }
 
-// The members of an ensemble under rules.
 impl<'a> Part<'a> for Member<'a> {
     ghost under = { λ r m. named r classes.Member m };
 
@@ -132,7 +131,6 @@ pub(super) fn rewrite_frame<'a>(
     }
 }
 
-// Deformation models under rules.
 impl<'a> Part<'a> for DeformationModel<'a> {
     ghost under = { λ r m. named r classes.DeformationModel m };
 
@@ -148,7 +146,6 @@ fn dynamic<'a>(value: &mut Dynamic<'a>, rules: &'a Rules)
     rewrite_part(&mut value.model, rules);
 }
 
-// A dynamic part that may be missing.
 pub(super) fn dynamics<'a>(dynamic_or_none: &mut Option<Dynamic<'a>>, rules: &'a Rules)
     ensures { dynamic_or_none.new ≡ dynamics (meaning rules.now) dynamic_or_none.old }
 {
