@@ -61,19 +61,13 @@ is_json (task.Group level listing) = listing.json
 is_json (task.FormGroup level listing rules) = listing.json
 is_json other = false
 
--- a file's name before a line, escaped as a line shows it, and a colon
-abbrev pub line_prefix : List ℕ → PrefixParts
-line_prefix name = record { bytes = escaped name ++ codes ":"; in_object = false }
-
--- a file's name as the first member of an object
-abbrev pub object_prefix : List ℕ → PrefixParts
-object_prefix name =
-    record { bytes = codes "{\"file\":" ++ json_text name ++ codes ","; in_object = true }
-
--- what stands before each line of a file's answer: nothing where there is one file, else its name
+-- what stands before each line of a file's answer: nothing where there is one file, else its name,
+-- as the first member of an object, or escaped as a line shows it, and a colon
 abbrev pub name_prefix : FileTask → List (List ℕ) → List ℕ → PrefixParts
 name_prefix asked (one ∷ []) name = record { bytes = []; in_object = false }
-name_prefix asked names name = if is_json asked then object_prefix name else line_prefix name
+name_prefix asked names name =
+    if is_json asked then record { bytes = codes "{\"file\":" ++ json_text name ++ codes ","; in_object = true }
+    else record { bytes = escaped name ++ codes ":"; in_object = false }
 
 -- the answer for all the bytes of a file, which are these where they are known
 abbrev pub IsFileAnswer : Outputs → PrefixParts → Option (List ℕ) → List ℕ → ℕ → Type 0

@@ -20,29 +20,20 @@ pub record IsLine (bytes : List ℕ) (end : ℕ) (written : List ℕ) (status : 
   pub line : written ≡ bytes ++ 10 ∷ []
   pub is_status : status ≡ end
 
--- the text's canonical text at this level, with status 0
-abbrev pub WritesCanonical : Level → List ℕ → List ℕ → ℕ → Type 0
-WritesCanonical level text written status =
-    (canonical : List ℕ) × IsCanonicalOf level text canonical × IsLine canonical 0 written status
-
--- `accepted` and the kind of the CRS that the text spells, with status 0
-abbrev pub WritesAccepted : List ℕ → List ℕ → ℕ → Type 0
-WritesAccepted text written status =
-    (found : Kind) × SpellsKind text found
-    × IsLine (codes "accepted " ++ kind_word found) 0 written status
-
 -- the refusal of a text, with status 1
 abbrev pub WritesRefusal : List ℕ → List ℕ → ℕ → Type 0
 WritesRefusal text written status =
     (refusal : RefusedAt) × Refuses text refusal
     × IsLine (refused_text refusal.number refusal.place) 1 written status
 
--- what `canon` writes for a text, and its status
+-- what `canon` writes for a text: its canonical text at this level, with status 0, or its refusal
 unfoldable pub IsCanonOutput : Level → List ℕ → List ℕ → ℕ → Type 0
 IsCanonOutput level text written status =
-    WritesCanonical level text written status ⊎ WritesRefusal text written status
+    ((canonical : List ℕ) × IsCanonicalOf level text canonical × IsLine canonical 0 written status)
+    ⊎ WritesRefusal text written status
 
--- what `check` writes for a text, and its status
+-- what `check` writes for a text: `accepted` and the kind of its CRS, with status 0, or its refusal
 unfoldable pub IsCheckOutput : List ℕ → List ℕ → ℕ → Type 0
 IsCheckOutput text written status =
-    WritesAccepted text written status ⊎ WritesRefusal text written status
+    ((found : Kind) × SpellsKind text found × IsLine (codes "accepted " ++ kind_word found) 0 written status)
+    ⊎ WritesRefusal text written status

@@ -18,15 +18,11 @@ use Rattle.crs_desk.specs.SameOutput.{IsSameOutput, WritesRefusalOf}
 use Rattle.crs_desk.specs.declared.runs.manner.Manner.{Manner}
 use Rattle.crs_desk.specs.declared.runs.manner.Manner.TheVariants as manner
 
--- the form of a text under rules at a level, with status 0
-abbrev pub WritesForm : RulesParts → Level → List ℕ → List ℕ → ℕ → Type 0
-WritesForm rules level text written status =
-    (form : List ℕ) × IsForm rules level text form × IsLine form 0 written status
-
--- what `canon` writes for a text under rules, and its status
+-- what `canon` writes for a text under rules: its form at this level, with status 0, or its refusal
 unfoldable pub IsFormOutput : RulesParts → Level → List ℕ → List ℕ → ℕ → Type 0
 IsFormOutput rules level text written status =
-    WritesForm rules level text written status ⊎ WritesRefusal text written status
+    ((form : List ℕ) × IsForm rules level text form × IsLine form 0 written status)
+    ⊎ WritesRefusal text written status
 
 -- how a refusal is written: after the word for its text
 abbrev pub Refusals : Type 1

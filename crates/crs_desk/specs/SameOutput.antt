@@ -36,20 +36,13 @@ WritesRefusalOf which text written status =
     (refusal : RefusedAt) × Refuses text refusal × IsLine (which
     ++ refused_text refusal.number refusal.place) 1 written status
 
--- two CRSs are the same: `same` is written, with status 0
-abbrev pub WritesSame : Level → Crs → Crs → List ℕ → ℕ → Type 0
-WritesSame level a b written status = SameCrs level a b × IsLine (codes "same") 0 written status
-
--- two CRSs differ: `different` and the first part that differs are written, with status 1
-abbrev pub WritesDifferent : Level → Crs → Crs → List ℕ → ℕ → Type 0
-WritesDifferent level a b written status =
-    (path : List Step) × FirstInCrs level a b (Some path)
-    × IsLine (codes "different " ++ path_text path) 1 written status
-
--- whether two CRSs are the same, or the first part that differs
+-- `same`, with status 0, where two CRSs are the same, or `different` and the first part that
+-- differs, with status 1
 abbrev pub WritesWhetherSame : Level → Crs → Crs → List ℕ → ℕ → Type 0
 WritesWhetherSame level a b written status =
-    WritesSame level a b written status ⊎ WritesDifferent level a b written status
+    (SameCrs level a b × IsLine (codes "same") 0 written status)
+    ⊎ ((path : List Step) × FirstInCrs level a b (Some path)
+    × IsLine (codes "different " ++ path_text path) 1 written status)
 
 -- what `same` writes for two texts, and its status
 abbrev pub IsSameOutput : Level → List ℕ → List ℕ → List ℕ → ℕ → Type 0

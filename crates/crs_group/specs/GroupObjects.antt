@@ -27,15 +27,9 @@ group_object listing names number lines text =
     codes "{\"group\":" ++ decimal number ++ key (codes "lines") ++ json_array (json_line false names) lines
     ++ names_member listing names lines ++ text_member (codes "canonical") text ++ codes "}\n"
 
--- the number of a refusal, its name and its place
-abbrev pub refusal_members : RefusedAt → List ℕ
-refusal_members refusal =
-    number_member (codes "refused") refusal.number
-    ++ text_member (codes "name") (name_of refusal.number)
-    ++ number_member (codes "place") refusal.place
-
--- a refused line: its number, its name, and the refusal
+-- a refused line: its number, its name, and the number, the name and the place of the refusal
 abbrev pub refused_object : Listing → List (List ℕ) → ℕ × RefusedAt → List ℕ
 refused_object listing names (line, refusal) =
     codes "{\"line\":" ++ decimal line ++ name_member listing names line
-    ++ refusal_members refusal ++ codes "}\n"
+    ++ (number_member (codes "refused") refusal.number ++ text_member (codes "name") (name_of refusal.number)
+    ++ number_member (codes "place") refusal.place) ++ codes "}\n"

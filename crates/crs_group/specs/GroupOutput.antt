@@ -25,13 +25,10 @@ abbrev pub label : Listing → List (List ℕ) → ℕ → List ℕ
 label listing names number =
     if listing.names then escaped (name_at number names) else decimal number
 
--- a blank and a line's number; a tab and its name, which may have blanks
-abbrev pub labelled : Listing → List (List ℕ) → ℕ → List ℕ
-labelled listing names number = (if listing.names then 9 else 32) ∷ label listing names number
-
--- ` L1 L2 ..`
+-- ` L1 L2 ..`; names, which may have blanks, after tabs
 abbrev pub labels_text : Listing → List (List ℕ) → List ℕ → List ℕ
-labels_text listing names numbers = flat_map (labelled listing names) numbers
+labels_text listing names numbers =
+    flat_map (λ number. (if listing.names then 9 else 32) ∷ label listing names number) numbers
 
 -- `group N: L1 L2 ..`, and a line feed
 abbrev pub group_line : Listing → List (List ℕ) → ℕ → GroupParts → List ℕ

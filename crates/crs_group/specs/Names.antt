@@ -3,13 +3,9 @@ use Rattle.std.specs.Prelude.{ℕ, ◌+◌, ◌==◌, [], ◌∷◌, Bool, true,
 use Rattle.std.specs.List.{prefix_len}
 use Rattle.crs_group.specs.Catalogue.{nth}
 
--- whether a byte is none that ends a name, a tab
-abbrev pub is_of_name : ℕ → Bool
-is_of_name b = not (b == 9)
-
 -- how many bytes are before the first tab
 abbrev pub tab_at : List ℕ → ℕ
-tab_at line = prefix_len is_of_name line
+tab_at line = prefix_len (λ b. not (b == 9)) line
 
 -- whether a line has a tab, and so a name
 abbrev pub has_name : List ℕ → Bool

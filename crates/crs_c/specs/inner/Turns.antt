@@ -9,10 +9,6 @@ use Rattle.crs_c.specs.Each.{IsAnsweredBy, NeedsMore}
 abbrev pub with_bytes : ℕ → List ℕ → List ℕ → List ℕ
 with_bytes at bytes out = take at out ++ (bytes ++ drop (at + length bytes) out)
 
--- an entry whose canonical text is written at a place
-abbrev pub written_entry : ℕ → List ℕ → Entry → Entry
-written_entry at bytes entry = record entry { written_end = at + length bytes; place = 0; number = 0; code = 0 }
-
 -- an entry whose text is refused, with code 0 for the turn; without a refusal there was no memory,
 -- with code 3
 abbrev pub refused_entry : ℕ → Option RefusedAt → Entry → Entry × ℕ
@@ -23,7 +19,8 @@ refused_entry at None entry = (entry, 3)
 -- bytes are written at a place, with code 0; or they need more room, with code 5
 unfoldable pub IsWritten : List ℕ → ℕ → Entry → List ℕ → Entry → List ℕ → ℕ → Type 0
 IsWritten bytes at entry out new_entry new_out code =
-    ((at + length bytes ≤ length out) × (new_entry ≡ written_entry at bytes entry)
+    ((at + length bytes ≤ length out)
+    × (new_entry ≡ record entry { written_end = at + length bytes; place = 0; number = 0; code = 0 })
     × (new_out ≡ with_bytes at bytes out) × (code ≡ 0))
     ⊎ ((length out < at + length bytes) × (new_out ≡ out) × (code ≡ 5))
 
