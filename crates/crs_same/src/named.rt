@@ -2,13 +2,14 @@
 ghost use Rattle.std.specs.Prelude.{◌↔◌, IsTrue, None};
 ghost use Rattle.std.specs.Option.{option_copied};
 ghost use Rattle.crs_same.specs.SameParts.{SameGeoidModel, SameDeformationModel, SameMember, SameParameter};
-ghost use Rattle.crs_same.specs.SameIdents.{SameIdent, SameIdents, BothOrNeither};
+ghost use Rattle.crs_same.specs.SameIdents.{SameIdent, SameIdents, SameNamed, BothOrNeither};
 
 use crate::laws;
 use crate::sets::{SetMember, SetMembers, same_set};
 use crate::single::{same_optional_text, same_text, same_units_as, same_value};
 use crs_value::{
-    CounterpartHints, DeformationModel, GeoidModel, Ident, Level, List, Member, Parameter, UnitKind,
+    CounterpartHints, DeformationModel, GeoidModel, Ident, Level, List, Member, Named, Parameter,
+    UnitKind,
 };
 
 /// Whether two identifiers are the same: authority and code, and version, citation and URI, each in both or in
@@ -57,11 +58,12 @@ pub fn same_idents<'a>(a: &List<Ident<'a>>, b: &List<Ident<'a>>, level: Level) -
     same_kept_idents(a.as_set(), b.as_set(), hints, level)
 }
 
-impl SetMember for Member<'_> {
-    ghost Same = { λ level a b. SameMember level a b };
+impl<const KIND: u8> SetMember for Named<'_, KIND> {
+    ghost Same = { λ level a b. SameNamed level a b };
 
     fn is_same(&self, other: &Self, level: Level) -> bool {
-        same_member(self, other, level)
+        same_text(self.name, other.name)
+            && same_idents(&self.identifiers, &other.identifiers, level)
     }
 
     fn same_is_equivalence(&self) {
@@ -73,26 +75,14 @@ impl SetMember for Member<'_> {
 pub fn same_member<'a>(a: &Member<'a>, b: &Member<'a>, level: Level) -> bool
     ensures { IsTrue result ↔ SameMember level a.now b.now }
 {
-    same_text(a.name, b.name) && same_idents(&a.identifiers, &b.identifiers, level)
-}
-
-impl SetMember for GeoidModel<'_> {
-    ghost Same = { λ level a b. SameGeoidModel level a b };
-
-    fn is_same(&self, other: &Self, level: Level) -> bool {
-        same_geoid_model(self, other, level)
-    }
-
-    fn same_is_equivalence(&self) {
-        laws::parts::same_part_is_equivalence();
-    }
+    a.is_same(b, level)
 }
 
 /// Whether two geoid models are the same: name and identifiers. ISO 19162:2019, "Geoid model".
 pub fn same_geoid_model<'a>(a: &GeoidModel<'a>, b: &GeoidModel<'a>, level: Level) -> bool
     ensures { IsTrue result ↔ SameGeoidModel level a.now b.now }
 {
-    same_text(a.name, b.name) && same_idents(&a.identifiers, &b.identifiers, level)
+    a.is_same(b, level)
 }
 
 /// Whether two deformation models are the same: name and identifiers. ISO 19162:2019, "Deformation model".
@@ -103,7 +93,7 @@ pub fn same_deformation_model<'a>(
 ) -> bool
     ensures { IsTrue result ↔ SameDeformationModel level a.now b.now }
 {
-    same_text(a.name, b.name) && same_idents(&a.identifiers, &b.identifiers, level)
+    a.is_same(b, level)
 }
 
 /// Whether two deformation models are the same, or both are missing. Profile.
