@@ -16,8 +16,7 @@ pub record AnswerPlaces (A : Type 0) : Type 0 where
 abbrev pub Answer : Type 0 → Type 1
 Answer A = AnswerPlaces A → AnswerPlaces A → ℕ → Type 0
 
--- the text is refused: the refusal is at its place, with this code, and the answer's place is as
--- before
+-- the text is refused: the refusal is at its place, with this code, and the answer's place is as before
 abbrev pub IsRefusedBy : {A : Type 0} → ℕ → List ℕ → Answer A
 IsRefusedBy refusing text old new code =
     (refusal : RefusedAt) × Refuses text refusal × (code ≡ refusing)

@@ -5,8 +5,7 @@ use Rattle.crs_writer.specs.Canonical.{IsCanonicalOf}
 use Rattle.crs_c.specs.Answers.{Answer, IsAtLevel, IsRefusedBy, IsWithoutMemory}
 use Rattle.crs_c.specs.Buffers.{Buffer, Gives}
 
--- the canonical text is given, with its code; or the refusal with code 1; or code 3; all else is as
--- before
+-- the canonical text is given, with its code; or the refusal with code 1; or code 3; all else is as before
 unfoldable pub IsCanonAt : Level → List ℕ → Answer (Buffer ℕ)
 IsCanonAt level text old new code =
     Gives (IsCanonicalOf level text) old new code

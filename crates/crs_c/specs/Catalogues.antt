@@ -31,16 +31,14 @@ IsMadeEmpty number made code =
 -- where a line was placed, as C sees it; group 0 is none
 abbrev pub standing_of : Placed → Standing
 standing_of placed.Blank = record { group = 0; refused = no_refusal; code = 0 }
-standing_of (placed.Refused refusal) =
-    record { group = 0; refused = place_and_number refusal; code = 1 }
+standing_of (placed.Refused refusal) = record { group = 0; refused = place_and_number refusal; code = 1 }
 standing_of (placed.Group n) = record { group = n; refused = no_refusal; code = 0 }
 
 -- where a line was placed for which there was no memory: nowhere, with code 3
 abbrev pub without_memory : Standing
 without_memory = record { group = 0; refused = no_refusal; code = 3 }
 
--- the line is added, and its place is answered; or out of memory, with code 3, and the catalogue is
--- as before
+-- the line is added, and its place is answered; or out of memory, with code 3, and the catalogue is as before
 unfoldable pub IsAdded : ℕ → List ℕ → CatalogueParts → CatalogueParts → Standing → Type 0
 IsAdded number text old new told =
     ((place : Placed) × (told ≡ standing_of place)
@@ -53,8 +51,7 @@ IsAdded number text old new told =
 
 -- the line is added under the rules, and its place is answered; or out of memory, with code 3, and
 -- the catalogue is as before
-unfoldable pub IsAddedUnder : RulesParts → ℕ → List ℕ → CatalogueParts → CatalogueParts → Standing →
-    Type 0
+unfoldable pub IsAddedUnder : RulesParts → ℕ → List ℕ → CatalogueParts → CatalogueParts → Standing → Type 0
 IsAddedUnder rules number text old new told =
     ((place : Placed) × (told ≡ standing_of place)
     × ((places : List PlacedLine) → IsCatalogueUnder rules places old →

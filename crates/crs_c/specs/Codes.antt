@@ -15,5 +15,4 @@ kind_number kind.Compound = 5
 
 -- the level of this number
 abbrev pub level_numbered : ℕ → Option Level
-level_numbered n =
-    if n == 0 then Some level.Full else (if n == 1 then Some level.Definition else None)
+level_numbered n = if n == 0 then Some level.Full else (if n == 1 then Some level.Definition else None)

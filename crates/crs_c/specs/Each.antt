@@ -44,11 +44,9 @@ NeedsMore level texts room entry =
 -- next needs more room, with code 5; or out of memory, with code 3
 abbrev pub EndsAt : Level → List ℕ → ℕ → List Entry → ℕ → Type 0
 EndsAt level texts room [] code = code ≡ 0
-EndsAt level texts room (next ∷ others) code =
-    (NeedsMore level texts room next × (code ≡ 5)) ⊎ (code ≡ 3)
+EndsAt level texts room (next ∷ others) code = (NeedsMore level texts room next × (code ≡ 5)) ⊎ (code ≡ 3)
 
--- the first entries are answered, one after the other at the front of the buffer, and the others are
--- as before
+-- the first entries are answered, one after the other at the front of the buffer, and the others are as before
 unfoldable pub IsEachAt : Level → List ℕ → EachPlaces → EachPlaces → ℕ → Type 0
 IsEachAt level texts old new code =
     (done answered left : List Entry) × (written : List ℕ) × (old.entries ≡ done ++ left)

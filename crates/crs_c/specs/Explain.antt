@@ -20,8 +20,7 @@ unfoldable pub IsExplainAnswer : List ℕ → Buffer ℕ → Buffer ℕ → ℕ 
 IsExplainAnswer text old new code =
     ((told : List ℕ) × IsExplanation text told × IsGiven told old new code) ⊎ ((code ≡ 3) × (new ≡ old))
 
--- the lines of all parts in which the CRSs of two texts differ at the level of this number, where
--- there is such a level
+-- the lines of all parts in which the CRSs of two texts differ at the level of this number, where there is such a level
 abbrev pub IsDifferencesAnswer : ℕ → List ℕ → List ℕ → Answer (Buffer ℕ)
 IsDifferencesAnswer level first second =
     IsAtLevel level (λ l. IsPairAnswer (λ a b. Gives (IsDifferencesText l a b)) first second)

@@ -31,8 +31,7 @@ refusal_and_numbers refusal told = record {
   node = told.node;
 }
 
--- an explanation of this refusal is given: its numbers, and its pieces, with code 1 where they have
--- room
+-- an explanation of this refusal is given: its numbers, and its pieces, with code 1 where they have room
 unfoldable pub IsExplanationGiven : RefusedAt → ExplainedPieces → ExplainedPlaces → ExplainedPlaces → ℕ → Type 0
 IsExplanationGiven refusal told old new code =
     (given : ℕ) × AreGiven told.pieces old.buffers new.buffers given

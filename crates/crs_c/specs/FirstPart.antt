@@ -21,8 +21,7 @@ IsFirstPartText level a b words =
     (found : Option (List Step)) × FirstInCrs level a b found × ((found ≡ None) ↔ SameCrs level a b)
     × (words ≡ words_of found) × ((words ≡ []) ↔ SameCrs level a b)
 
--- the first part in which the CRSs of two texts differ at the level of this number, where there is
--- such a level
+-- the first part in which the CRSs of two texts differ at the level of this number, where there is such a level
 abbrev pub IsPartAnswer : ℕ → List ℕ → List ℕ → Answer (Buffer ℕ)
 IsPartAnswer level first second =
     IsAtLevel level (λ l. IsPairAnswer (λ a b. Gives (IsFirstPartText l a b)) first second)

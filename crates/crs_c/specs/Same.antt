@@ -13,7 +13,6 @@ TellsSame level a b old new code =
     (found : Bool) × (IsTrue found ↔ SameCrs level a b) × (code ≡ 0)
     × (new ≡ record old { answer = from_bool found })
 
--- whether the CRSs of two texts are the same at the level of this number, where there is such a
--- level
+-- whether the CRSs of two texts are the same at the level of this number, where there is such a level
 abbrev pub IsSameAnswer : ℕ → List ℕ → List ℕ → Answer ℕ
 IsSameAnswer level first second = IsAtLevel level (λ l. IsPairAnswer (TellsSame l) first second)

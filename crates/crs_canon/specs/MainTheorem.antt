@@ -25,17 +25,14 @@ pub record MainTheorem (level : Level) : Type 0 where
   -- each accepted text has a canonical text, and just one
   pub there : (text : List ℕ) → IsAccepted text → (bytes : List ℕ) × IsCanonicalOf level text bytes
   pub one : (text a b : List ℕ) → IsCanonicalOf level text a → IsCanonicalOf level text b → a ≡ b
-  -- two accepted texts have equal canonical bytes exactly when the CRSs that they spell are the
-  -- same
+  -- two accepted texts have equal canonical bytes exactly when the CRSs that they spell are the same
   pub equal : (first second a b : List ℕ) (x y : Crs) → Spells first x → Spells second y →
       IsCanonicalOf level first a → IsCanonicalOf level second b → (a ≡ b) ↔ SameCrs level x y
-  -- a canonical text is itself accepted, spells the same CRS as its source, and is its own
-  -- canonical text
+  -- a canonical text is itself accepted, spells the same CRS as its source, and is its own canonical text
   pub accepted : (text bytes : List ℕ) → IsCanonicalOf level text bytes → IsAccepted bytes
   pub same : (text bytes : List ℕ) (x y : Crs) → IsCanonicalOf level text bytes → Spells text x →
       Spells bytes y →
       SameCrs level x y
   pub own : (text bytes : List ℕ) → IsCanonicalOf level text bytes → IsCanonicalOf level bytes bytes
   -- a text that spells no CRS is refused, with one number and at one place
-  pub refused : (text : List ℕ) → ¬ (IsAccepted text) → (refusal : RefusedAt)
-      × IsItsRefusal text refusal
+  pub refused : (text : List ℕ) → ¬ (IsAccepted text) → (refusal : RefusedAt) × IsItsRefusal text refusal

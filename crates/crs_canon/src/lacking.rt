@@ -21,8 +21,7 @@ pub(crate) fn append_lacking(
     these: &BTreeSet<Vec<u8>>,
     others: &BTreeSet<Vec<u8>>,
 ) -> Result<(), AllocError>
-    ensures { MatchResult result
-        (λ _. out.new.items
+    ensures { MatchResult result (λ _. out.new.items
         ≡ out.old.items ++ comma_separated (lacking (spellings these.now.keys) (spellings others.now.keys)))
         (λ _. out.new.items ≡ out.old.items) }
 {

@@ -52,8 +52,7 @@ pub fn paired_names<'a>(
     these: &[Parameter<'a>],
     others: &[Parameter<'a>],
 ) -> Result<BTreeSet<Vec<u8>>, AllocError>
-    ensures { IfOk result (λ names.
-        ArePairedNames these.now others.now (map (λ name. name.items) names.keys)) }
+    ensures { IfOk result (λ names. ArePairedNames these.now others.now (map (λ name. name.items) names.keys)) }
 {
     sets::texts_are_in_order();
     let mut names = BTreeSet::new(alloc);

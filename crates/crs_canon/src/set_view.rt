@@ -116,8 +116,7 @@ pub(crate) fn are_spelled<T: Canonical>(members: &[T])
 // Members with a comma before each, without the first comma.
 pub(crate) fn append_members(out: &mut Vec<u8>, text: &[u8]) -> Result<(), AllocError>
     ensures { (members : List (List ℕ)) → text.now ≡ commas members → MatchResult result
-        (λ _. out.new.items ≡ out.old.items ++ comma_separated members)
-        (λ _. out.new.items ≡ out.old.items) }
+        (λ _. out.new.items ≡ out.old.items ++ comma_separated members) (λ _. out.new.items ≡ out.old.items) }
 {
     match text {
         [] => Ok(()),

@@ -45,8 +45,7 @@ abbrev pub is_zero_power : ℤ → Bool
 is_zero_power (pos n) = n == 0
 is_zero_power (negsuc n) = false
 
--- zero is neither negative nor has a power; any other number
--- has at most 38 digits, the last not a zero
+-- zero is neither negative nor has a power; any other number has at most 38 digits, the last not a zero
 abbrev pub is_normal : Value → Bool
 is_normal v =
     nat_lt v.digits (10 ^ 38) && is_power v.power && (not (v.digits % 10 == 0)
@@ -68,8 +67,7 @@ down_of (negsuc n) = suc n
 
 -- the number that the decimal denotes
 abbrev pub exact : Value → Number
-exact v =
-    record { negative = v.negative; digits = v.digits; up = up_of v.power; down = down_of v.power }
+exact v = record { negative = v.negative; digits = v.digits; up = up_of v.power; down = down_of v.power }
 
 -- ---- how a number is spelled: [sign] (digits [. [digits]] | . digits) [E [sign] digits]
 
@@ -89,8 +87,7 @@ pub record Exponent : Type 0 where
   pub sign : Sign
   pub digits : List ℕ
 
--- the parts of a number as they are written; the fraction is what follows the period, if there is
--- one
+-- the parts of a number as they are written; the fraction is what follows the period, if there is one
 pub record Parts : Type 0 where
   pub sign : Sign
   pub whole : List ℕ
@@ -131,11 +128,9 @@ mantissa p = p.whole ++ fraction_digits p.fraction
 -- an exponent, where one is written, has the letter E or e and at least one digit
 abbrev pub IsExponent : Option Exponent → Type 0
 IsExponent None = Unit {0}
-IsExponent (Some e) =
-    IsTrue (e.letter == 69 || e.letter == 101) × AreDigits e.digits × (0 < length e.digits)
+IsExponent (Some e) = IsTrue (e.letter == 69 || e.letter == 101) × AreDigits e.digits × (0 < length e.digits)
 
--- the parts are of the number form: the mantissa is digits, at least one, and an exponent has its
--- letter and its digits
+-- the parts are of the number form: the mantissa is digits, at least one, and an exponent has its letter and its digits
 pub record IsForm (p : Parts) : Type 0 where
   pub digits : AreDigits (mantissa p)
   pub some : 0 < length (mantissa p)
@@ -204,8 +199,7 @@ number_of p = record {
 abbrev pub Strips : ℕ → ℕ → ℕ → Type 0
 Strips n m k = (n ≡ m * 10 ^ k) × (m % 10 ≢ 0)
 
--- at most 38 digits from the first to the last that isn't
--- zero, and those times a power of ten from -40 to 40
+-- at most 38 digits from the first to the last that isn't zero, and those times a power of ten from -40 to 40
 abbrev pub IsMeasured : Number → Type 0
 IsMeasured n =
     (m k : ℕ) × Strips n.digits m k × (m < 10 ^ 38) × (n.down ≤ n.up + k + 40)
@@ -240,8 +234,7 @@ EndsTrim (d ∷ e ∷ ds) = EndsTrim (e ∷ ds)
 
 -- there is a minus only where the number isn't zero
 abbrev pub IsSignNeeded : Parts → Type 0
-IsSignNeeded p =
-    (p.sign ≡ unsigned) ⊎ ((p.sign ≡ minus) × ((p.whole ≢ 48 ∷ []) ⊎ (p.fraction ≢ None)))
+IsSignNeeded p = (p.sign ≡ unsigned) ⊎ ((p.sign ≡ minus) × ((p.whole ≢ 48 ∷ []) ⊎ (p.fraction ≢ None)))
 
 -- a fraction, where one is written, has a digit and doesn't end in a zero
 abbrev pub IsFractionNeeded : Option (List ℕ) → Type 0

@@ -28,11 +28,9 @@ struct Run<'a> {
 }
 
 pub(crate) fn read(bytes: &[u8]) -> Option<Spelled>
-    ensures cut { MatchOption result
-        (¬ (IsCutWhole bytes.now))
+    ensures cut { MatchOption result (¬ (IsCutWhole bytes.now))
         (λ s. IsCutWhole bytes.now × IsCut (parts_of bytes.now) s) }
-    ensures counts { MatchOption result
-        (Unit {0})
+    ensures counts { MatchOption result (Unit {0})
         (λ s. (s.mantissa.zeros ≤ s.count) × (s.fraction ≤ s.count) × AreDigits s.exponent.now) }
 {
     let (negative, rest) = split_sign(bytes);
@@ -113,8 +111,7 @@ fn split_fraction(bytes: &[u8], before: Mantissa) -> Run
 // Whether a minus is before the digits of an exponent, and these, no digits where nothing is here; None where anything
 // else is.
 fn split_exponent(bytes: &[u8]) -> Option<(bool, &[u8])>
-    ensures { MatchOption result
-        (¬ (IsExponentWhole bytes.now))
+    ensures { MatchOption result (¬ (IsExponentWhole bytes.now))
         (λ e. IsExponentWhole bytes.now × IsExponentCut bytes.now e.0 e.1.now) }
 {
     match bytes {

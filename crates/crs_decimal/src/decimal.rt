@@ -10,8 +10,7 @@ use std::marker::Model;
 #[derive(Clone, Copy, PartialEq, Eq, Debug)]
 pub struct Decimal {
     digits: u128,
-    // `Decimal` has no padding: a struct with padding is copied by overlapping loads, which stall on store
-    // forwarding.
+    // `Decimal` has no padding: a struct with padding is copied by overlapping loads, which stall on store forwarding.
     power: i64,
     // 1 below zero, 0 elsewhere
     sign: u64,
@@ -28,8 +27,7 @@ impl Model for Decimal {
 
     ghost view = { λ d. record { negative = d.sign == 1; digits = d.digits; power = d.power } };
 
-    ghost invariant = { λ d. (d.sign < 2)
-        × IsNormal (view d) };
+    ghost invariant = { λ d. (d.sign < 2) × IsNormal (view d) };
 
     ghost inverse = { λ v. record { digits = v.digits; power = v.power; sign = from_bool v.negative } };
 
@@ -121,8 +119,7 @@ impl Decimal {
 
     /// The number as a `u64`; None where it is negative, not whole or above the largest `u64`.
     pub fn whole(&self) -> Option<u64>
-        ensures { MatchOption result
-            ((n : ℕ) → n < 2 ^ 64 → ¬ (SameNumber (exact self.now) (whole_number n)))
+        ensures { MatchOption result ((n : ℕ) → n < 2 ^ 64 → ¬ (SameNumber (exact self.now) (whole_number n)))
             (λ n. SameNumber (exact self.now) (whole_number n)) }
     {
         if self.is_negative() || self.power() < 0 {

@@ -47,20 +47,17 @@ pub fn few_digits()
 /// At most 18 digits alone are a number in bounds.
 #[tactic(auto, using(crate::proofs::DigitLemmas::digits_in_bounds))]
 pub fn digits_alone()
-    ensures { (bytes : List ℕ) → AreDigits bytes → 0 < length bytes → length bytes ≤ 18 →
-        IsInBounds bytes }
+    ensures { (bytes : List ℕ) → AreDigits bytes → 0 < length bytes → length bytes ≤ 18 → IsInBounds bytes }
 {}
 
 /// Bytes are a number in bounds, or of the number form and out of bounds, or not of that form.
 pub fn decided()
-    ensures { (bytes : List ℕ) →
-        (IsInBounds bytes ⊎ (HasForm bytes × ¬ (IsInBounds bytes))) ⊎ (¬ (HasForm bytes)) }
+    ensures { (bytes : List ℕ) → (IsInBounds bytes ⊎ (HasForm bytes × ¬ (IsInBounds bytes))) ⊎ (¬ (HasForm bytes)) }
 {}
 
 /// Bytes that are a number in bounds denote a normal value.
 pub fn denotes_some()
-    ensures { (bytes : List ℕ) → IsInBounds bytes →
-        (v : Value) × (IsNormal v × Denotes bytes (exact v)) }
+    ensures { (bytes : List ℕ) → IsInBounds bytes → (v : Value) × (IsNormal v × Denotes bytes (exact v)) }
 {}
 
 /// The plain spelling of a normal value is plain, denotes the value, is no longer than 79 bytes,

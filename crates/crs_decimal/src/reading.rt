@@ -12,15 +12,12 @@ impl Decimal {
     /// Reads a number, `[sign] (digits [. [digits]] | . digits) [E [sign] digits]`, with `e` for
     /// `E` as well. ISO 19162:2019, "Numbers"; the bounds are the profile's.
     ///
-    /// `Malformed`: the bytes don't have that form. `Range`: they have it, but more than 100
-    /// mantissa or 3 exponent digits are written, or the number isn't zero and has more than 38
-    /// digits from the first to the last that isn't zero, or those times a power of ten that isn't
-    /// from -40 to 40.
+    /// `Malformed`: the bytes don't have that form. `Range`: they have it, but more than 100 mantissa or 3 exponent
+    /// digits are written, or the number isn't zero and has more than 38 digits from the first to the last that isn't
+    /// zero, or those times a power of ten that isn't from -40 to 40.
     #[inline(always)]
     pub fn parse(bytes: &[u8]) -> Result<Decimal, NumberFault>
-        ensures { MatchResult result
-            (λ d. IsNormal d × Denotes bytes.now (exact d))
-            (IsFault bytes.now) }
+        ensures { MatchResult result (λ d. IsNormal d × Denotes bytes.now (exact d)) (IsFault bytes.now) }
     {
         match read_short(bytes) {
             Some(number) => Ok(number.decimal()),
@@ -32,9 +29,7 @@ impl Decimal {
 // the number that the bytes spell, short or not
 #[inline(never)]
 fn parse_any(bytes: &[u8]) -> Result<Decimal, NumberFault>
-    ensures { MatchResult result
-        (λ d. IsNormal d × Denotes bytes.now (exact d))
-        (IsFault bytes.now) }
+    ensures { MatchResult result (λ d. IsNormal d × Denotes bytes.now (exact d)) (IsFault bytes.now) }
 {
     match read(bytes) {
         None => Err(NumberFault::Malformed),
@@ -49,8 +44,7 @@ impl Spelled<'_> {
         requires fraction { self.now.fraction ≤ self.now.count }
         requires digits { AreDigits self.now.exponent.now }
         requires cut { (p : Parts) × IsCut p self.now × AreDigits (mantissa p) }
-        ensures { (p : Parts) → IsCut p self.now → AreDigits (mantissa p) → MatchOption result
-            (¬ (IsBounded p))
+        ensures { (p : Parts) → IsCut p self.now → AreDigits (mantissa p) → MatchOption result (¬ (IsBounded p))
             (λ d. IsNormal d × IsBounded p × SameNumber (number_of p) (exact d)) }
     {
         if self.count > 100 || self.exponent.len() > 3 || self.mantissa.is_long {

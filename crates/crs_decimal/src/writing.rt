@@ -8,13 +8,11 @@ use itoa::Buffer;
 use std::alloc::AllocError;
 
 impl Decimal {
-    /// Appends the plain spelling: no exponent, no plus sign, no needless zero. Nothing is rounded.
-    /// Profile.
+    /// Appends the plain spelling: no exponent, no plus sign, no needless zero. Nothing is rounded. Profile.
     ///
     /// `AllocError`: there is no memory for it, and `out` is as before.
     pub fn write(&self, out: &mut Vec<u8>) -> Result<(), AllocError>
-        ensures spelled { MatchResult result
-            (λ _. AppendsPlain self.now out.old.items out.new.items)
+        ensures spelled { MatchResult result (λ _. AppendsPlain self.now out.old.items out.new.items)
             (λ _. out.new.items ≡ out.old.items) }
         ensures normal { IsNormal self.now }
     {

@@ -82,8 +82,7 @@ desk =
 
 -- what the words ask for, where the command takes them; the first of them is the program's name
 abbrev pub asked : List Text → Option Request
-asked words =
-    if takes desk words then option_and_then request_of (subcommand_of desk words) else None
+asked words = if takes desk words then option_and_then request_of (subcommand_of desk words) else None
 
 -- a word that is no flag: it doesn't begin with a hyphen, or is one
 abbrev pub is_plain_word : Text → Bool

@@ -15,8 +15,7 @@ pub record IsWritten (Output : List ℕ → ℕ → Type 0) (old new : SinkState
   pub is_used : new.used ≡ true
   pub is_healthy : new.failed ≡ false
 
--- a run over one text, with this status: the source gave a whole text, and the sink got what is
--- written for it
+-- a run over one text, with this status: the source gave a whole text, and the sink got what is written for it
 pub record IsAnswered (Output : List ℕ → List ℕ → ℕ → Type 0) (old_source new_source : SourceState)
     (old_sink new_sink : SinkState) (status : ℕ) : Type 0 where
   pub text : List ℕ
@@ -34,10 +33,8 @@ IsWriteFault old new Memory = new ≡ old
 -- what a run's fault says of its source, and of its sink before and after: a fault of the reading
 -- goes before all others, and then nothing was written
 abbrev pub IsRunFault : SourceState → SinkState → SinkState → RunFault → Type 0
-IsRunFault source old new ReadFailed =
-    (source.failed ≡ true) × (source.taken ≤ 1048576) × (new ≡ old)
-IsRunFault source old new (TooLong line) =
-    (line ≡ 0) × (source.failed ≡ false) × (1048576 < source.taken) × (new ≡ old)
+IsRunFault source old new ReadFailed = (source.failed ≡ true) × (source.taken ≤ 1048576) × (new ≡ old)
+IsRunFault source old new (TooLong line) = (line ≡ 0) × (source.failed ≡ false) × (1048576 < source.taken) × (new ≡ old)
 IsRunFault source old new TooManyReads =
     (source.failed ≡ false) × (source.taken ≤ 1048576) × (source.reads ≡ 1048576)
     × (source.ended ≡ false) × (new ≡ old)
@@ -56,8 +53,7 @@ pub record IsRun (Output : List ℕ → List ℕ → ℕ → Type 0) (old_source
   pub read_failed : IsErrOf result ReadFailed ↔ (new_source.failed ≡ true)
   pub write_failed : IsErrOf result WriteFailed ↔ (new_sink.failed ≡ true)
   pub past_failure : new_sink.past_failure ≡ false
-  pub too_long :
-      IsErrOf result (TooLong 0) ↔ (1048576 < new_source.taken) × (new_source.failed ≡ false)
+  pub too_long : IsErrOf result (TooLong 0) ↔ (1048576 < new_source.taken) × (new_source.failed ≡ false)
 
 -- how a run without a source ends
 pub record IsSent (Output : List ℕ → ℕ → Type 0) (old new : SinkState)

@@ -18,13 +18,11 @@ abbrev pub kind_told : Manner → Kind → List ℕ
 kind_told manner.Lines kind = codes "accepted " ++ kind_word kind
 kind_told manner.Objects kind = codes "{\"accepted\":\"" ++ kind_word kind ++ codes "\"}"
 
--- the refusal of a text is told in some lines after the word that says which text it is, or as an
--- object with that word
+-- the refusal of a text is told in some lines after the word that says which text it is, or as an object with that word
 abbrev pub IsRefusalTold : Manner → List ℕ → List ℕ → RefusedAt → List ℕ → Type 0
 IsRefusalTold manner.Lines which text refusal written =
     (told : List ℕ) × IsExplained text refusal told × (written ≡ which ++ told)
-IsRefusalTold manner.Objects which text refusal written =
-    IsRefusalObject which text refusal written
+IsRefusalTold manner.Objects which text refusal written = IsRefusalObject which text refusal written
 
 -- that two CRSs are the same is told as `same`, or as `{"same":true}`
 abbrev pub same_told : Manner → List ℕ
@@ -35,8 +33,7 @@ same_told manner.Objects = codes "{\"same\":true}"
 -- or as an object each
 abbrev pub AreDifferencesTold : Manner → List (List ℕ) → Level → Crs → Crs → List ℕ → Type 0
 AreDifferencesTold manner.Lines words level a b written = IsOrderedText words level a b written
-AreDifferencesTold manner.Objects words level a b written =
-    AreOrderedObjects words level a b written
+AreDifferencesTold manner.Objects words level a b written = AreOrderedObjects words level a b written
 
 -- the kind of the CRS that a text spells is told, with status 0
 abbrev pub TellsKind : Manner → List ℕ → List ℕ → ℕ → Type 0
@@ -51,11 +48,9 @@ TellsRefusalOf how which text written status =
 
 -- what `explain` writes for a text, and its status
 unfoldable pub IsExplainOutput : Manner → List ℕ → List ℕ → ℕ → Type 0
-IsExplainOutput how text written status =
-    TellsKind how text written status ⊎ TellsRefusalOf how [] text written status
+IsExplainOutput how text written status = TellsKind how text written status ⊎ TellsRefusalOf how [] text written status
 
--- it is told that two CRSs are the same, with status 0, or each part in which they differ, with
--- status 1
+-- it is told that two CRSs are the same, with status 0, or each part in which they differ, with status 1
 abbrev pub TellsWhetherSame : Manner → List (List ℕ) → Level → Crs → Crs → List ℕ → ℕ → Type 0
 TellsWhetherSame how words level a b written status =
     (SameCrs level a b × IsLine (same_told how) 0 written status)

@@ -17,8 +17,7 @@ use Rattle.crs_desk.specs.LinesRun.{IsFrontOutput, IsLineOutput, IsLinesOutput, 
 use Rattle.crs_desk.specs.Output.{IsCanonOutput, IsCheckOutput}
 use Rattle.crs_desk.specs.RulesOutput.{IsFormOutput}
 
--- what `group` writes for some bytes, by what its run writes; the status is 1 where a line was
--- refused
+-- what `group` writes for some bytes, by what its run writes; the status is 1 where a line was refused
 abbrev pub IsGroupedOutput : (List ℕ → List ℕ → Summary → Type 0) → Outputs
 IsGroupedOutput Output bytes written status =
     (summary : Summary) × Output bytes written summary
@@ -33,18 +32,15 @@ IsTaskOutput (task.Group level listing) = IsGroupedOutput (IsGroupOutput listing
 IsTaskOutput (task.CanonLines level) = IsLinesOutput (IsLineOutput (IsCanonOutput level))
 IsTaskOutput task.CheckLines = IsLinesOutput (IsLineOutput IsCheckOutput)
 IsTaskOutput (task.Form level rules) = IsFormOutput rules.now level
-IsTaskOutput (task.FormGroup level listing rules) =
-    IsGroupedOutput (IsGroupOutputUnder rules.now listing level)
-IsTaskOutput (task.FormLines level rules) =
-    IsLinesOutput (IsLineOutput (IsFormOutput rules.now level))
+IsTaskOutput (task.FormGroup level listing rules) = IsGroupedOutput (IsGroupOutputUnder rules.now listing level)
+IsTaskOutput (task.FormLines level rules) = IsLinesOutput (IsLineOutput (IsFormOutput rules.now level))
 
 -- what is written for the first bytes of a file of which no more can be read: the answers to whole
 -- lines where each line is a text, and else nothing
 abbrev pub IsTaskFront : FileTask → List ℕ → List ℕ → Type 0
 IsTaskFront (task.CanonLines level) bytes written =
     IsFrontOutput (IsLineOutput (IsCanonOutput level)) bytes false written
-IsTaskFront task.CheckLines bytes written =
-    IsFrontOutput (IsLineOutput IsCheckOutput) bytes false written
+IsTaskFront task.CheckLines bytes written = IsFrontOutput (IsLineOutput IsCheckOutput) bytes false written
 IsTaskFront (task.FormLines level rules) bytes written =
     IsFrontOutput (IsLineOutput (IsFormOutput rules.now level)) bytes false written
 IsTaskFront other bytes written = written ≡ []
@@ -99,8 +95,7 @@ AreFileOutputs asked prefix known (name ∷ names) written status =
     × (written ≡ one ++ rest) × (status ≡ max first others)
 
 -- the sink got that
-abbrev pub AreFilesAnswered : FileTask → (List ℕ → Option (List ℕ)) → List (List ℕ) → SinkState →
-    SinkState → ℕ → Type 0
+abbrev pub AreFilesAnswered : FileTask → (List ℕ → Option (List ℕ)) → List (List ℕ) → SinkState → SinkState → ℕ → Type 0
 AreFilesAnswered asked known names before after status =
     (written : List ℕ) × AreFileOutputs asked (name_prefix asked names) known names written status
     × Appends before.contents after.contents written × (after.failed ≡ false)

@@ -32,8 +32,7 @@ prefixed prefix bytes = prefixed_from true prefix bytes
 
 -- what is written is what a command writes, each line of it after a prefix
 abbrev pub IsPrefixed : PrefixParts → (List ℕ → ℕ → Type 0) → List ℕ → ℕ → Type 0
-IsPrefixed prefix Output written status =
-    (plain : List ℕ) × Output plain status × (written ≡ prefixed prefix plain)
+IsPrefixed prefix Output written status = (plain : List ℕ) × Output plain status × (written ≡ prefixed prefix plain)
 
 -- ---- what a run over lines writes, and how it ends
 
@@ -41,8 +40,7 @@ IsPrefixed prefix Output written status =
 abbrev pub Outputs : Type 1
 Outputs = List ℕ → List ℕ → ℕ → Type 0
 
--- for a line of white space alone an empty line is written, for any other what the command writes
--- for its text
+-- for a line of white space alone an empty line is written, for any other what the command writes for its text
 abbrev pub IsLineOutput : Outputs → Outputs
 IsLineOutput Output text written status =
     (IsTrue (list_all is_white text) × IsLine [] 0 written status)
@@ -79,8 +77,7 @@ HasSent Output bytes ended before after unsent =
     (written : List ℕ) × IsFrontOutput Output bytes ended (written ++ unsent)
     × Appends before.contents after.contents written
 
--- the source gave all its bytes, none of its lines is too long, and the sink got what is written
--- for them
+-- the source gave all its bytes, none of its lines is too long, and the sink got what is written for them
 pub record IsLinesAnswered (Output : Outputs) (old new : SourceState) (before after : SinkState)
     (status : ℕ) : Type 0 where
   pub bytes : List ℕ
@@ -103,14 +100,12 @@ pub record HasSentAll (Output : Outputs) (lines : List ℕ) (before after : Sink
   pub is_output : IsLinesOutput Output lines written status
   pub is_sent : Appends before.contents after.contents written
 
--- the line of this number is the first that is too long, and the sink got what is written for all
--- lines before it
+-- the line of this number is the first that is too long, and the sink got what is written for all lines before it
 abbrev pub LongLineAfter : Outputs → List ℕ → ℕ → SinkState → SinkState → Type 0
 LongLineAfter Output bytes number before after =
     (long : IsTooLong bytes number) × HasSentAll Output long.front before after
 
--- the source gave bytes of which no line is too long, and the sink got what is written for all
--- their whole lines
+-- the source gave bytes of which no line is too long, and the sink got what is written for all their whole lines
 abbrev pub HasBegun : Outputs → SourceState → SourceState → SinkState → SinkState → Type 0
 HasBegun Output old new before after =
     (bytes : List ℕ) × (lines : List ℕ) × HasGiven old new bytes × HasShortLines bytes
@@ -119,8 +114,7 @@ HasBegun Output old new before after =
 -- what a run's fault says of its source and of its sink: where a read fails, reads show no end or a
 -- line is too long, all whole lines before were answered; out of memory any number of them; where a
 -- write failed, a front of such answers was taken
-abbrev pub IsLinesFault : Outputs → SourceState → SourceState → SinkState → SinkState → RunFault
-    → Type 0
+abbrev pub IsLinesFault : Outputs → SourceState → SourceState → SinkState → SinkState → RunFault → Type 0
 IsLinesFault Output old new before after ReadFailed =
     (new.failed ≡ true) × (after.failed ≡ false) × HasBegun Output old new before after
 IsLinesFault Output old new before after WriteFailed =

@@ -75,8 +75,7 @@ request_for level order (work.Standard (task.Group listing)) =
     if (listing.repeated || listing.names) || listing.json then
     Other level order (work.Standard (task.Group listing))
     else Group level
-request_for level order (work.Pair comparison.Same pair) =
-    same_for level order pair.kind pair.rules pair
+request_for level order (work.Pair comparison.Same pair) = same_for level order pair.kind pair.rules pair
 request_for level order other = Other level order other
 
 -- the request for some work, with the level and the words of `--first` among a command's matches
@@ -91,8 +90,7 @@ file_work asked names rules = work.Files asked names rules
 
 -- a task over the files among a command's matches, or over standard input where it names none
 abbrev pub over_files : Task → List Row → Request
-over_files asked rows =
-    asked_for (file_work asked (words_of (codes "file") rows) (rules_of rows)) rows
+over_files asked rows = asked_for (file_work asked (words_of (codes "file") rows) (rules_of rows)) rows
 
 -- two operands, and the rules among a command's matches
 abbrev pub pair_of : List Row → Text → Text → LinePair
@@ -106,8 +104,7 @@ same_operands rows first second = None
 
 -- those among its matches
 abbrev pub same_of : List Row → Option Request
-same_of rows =
-    same_operands rows (first_of (codes "first") rows) (first_of (codes "second") rows)
+same_of rows = same_operands rows (first_of (codes "first") rows) (first_of (codes "second") rows)
 
 -- both operands of `explain` are compared, the first alone is explained, or else standard input
 abbrev pub explain_operands : List Row → Option Text → Option Text → Work
@@ -121,8 +118,7 @@ explain_operands rows (Some first) (Some second) =
 
 -- those among its matches
 abbrev pub explain_work : List Row → Work
-explain_work rows =
-    explain_operands rows (first_of (codes "first") rows) (first_of (codes "second") rows)
+explain_work rows = explain_operands rows (first_of (codes "first") rows) (first_of (codes "second") rows)
 
 -- the request of a command's name and of its matches
 abbrev pub request_of : Text × List Row → Option Request

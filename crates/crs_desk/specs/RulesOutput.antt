@@ -51,12 +51,10 @@ IsSameUnderOutput rules level = IsPairOf (IsForm rules level) WritesRefusalOf (I
 
 -- ---- what `explain` writes for two texts
 
--- the texts of the parts in which two CRSs differ, in the order of some words; none where they are
--- the same
+-- the texts of the parts in which two CRSs differ, in the order of some words; none where they are the same
 abbrev pub ArePartsThatDiffer : List (List ℕ) → Level → Crs → Crs → Option (List PartTexts) → Type 0
 ArePartsThatDiffer words level a b None = SameCrs level a b
-ArePartsThatDiffer words level a b (Some texts) =
-    (¬ SameCrs level a b) × AreOrderedTexts words level a b texts
+ArePartsThatDiffer words level a b (Some texts) = (¬ SameCrs level a b) × AreOrderedTexts words level a b texts
 
 -- all of them
 abbrev pub texts_in : Option (List PartTexts) → List PartTexts
@@ -110,19 +108,16 @@ TellsUnder how words rules level a b written status =
     × (status ≡ status_of after)
 
 -- of a CRS and the one that a canonical text spells, its axes in the order of the form
-abbrev pub IsExplainedBehind : Manner → List (List ℕ) → RulesParts → Level → Crs → List ℕ → List ℕ →
-    ℕ → Type 0
+abbrev pub IsExplainedBehind : Manner → List (List ℕ) → RulesParts → Level → Crs → List ℕ → List ℕ → ℕ → Type 0
 IsExplainedBehind how words rules level first b written status =
     (second : Crs) × IsInFormOrder rules b second × TellsUnder how words rules level first second written status
 
 -- of two that canonical texts spell
-abbrev pub IsExplainedUnder : Manner → List (List ℕ) → RulesParts → Level → List ℕ → List ℕ → List ℕ →
-    ℕ → Type 0
+abbrev pub IsExplainedUnder : Manner → List (List ℕ) → RulesParts → Level → List ℕ → List ℕ → List ℕ → ℕ → Type 0
 IsExplainedUnder how words rules level a b written status =
     (first : Crs) × IsInFormOrder rules a first × IsExplainedBehind how words rules level first b written status
 
 -- what `explain` writes for two texts under rules
-abbrev pub IsExplainUnderOutput : Manner → List (List ℕ) → RulesParts → Level → List ℕ → List ℕ →
-    List ℕ → ℕ → Type 0
+abbrev pub IsExplainUnderOutput : Manner → List (List ℕ) → RulesParts → Level → List ℕ → List ℕ → List ℕ → ℕ → Type 0
 IsExplainUnderOutput how words rules level =
     IsPairOf (IsCanonicalOf level) (TellsRefusalOf how) (IsExplainedUnder how words rules level)

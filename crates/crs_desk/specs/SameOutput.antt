@@ -36,8 +36,7 @@ WritesRefusalOf which text written status =
     (refusal : RefusedAt) × Refuses text refusal × IsLine (which
     ++ refused_text refusal.number refusal.place) 1 written status
 
--- `same`, with status 0, where two CRSs are the same, or `different` and the first part that
--- differs, with status 1
+-- `same`, with status 0, where two CRSs are the same, or `different` and the first part that differs, with status 1
 abbrev pub WritesWhetherSame : Level → Crs → Crs → List ℕ → ℕ → Type 0
 WritesWhetherSame level a b written status =
     (SameCrs level a b × IsLine (codes "same") 0 written status)

@@ -18,8 +18,7 @@ is_called k item = is_word k (keyword_in item)
 -- the last of these items that begins at a place or before it; another item where none does
 abbrev pub last_at : ℕ → Item → Siblings → Item
 last_at place other End = other
-last_at place other (More item items) =
-    last_at place (if nat_le (place_of item) place then item else other) items
+last_at place other (More item items) = last_at place (if nat_le (place_of item) place then item else other) items
 
 -- the argument of an item that is at or around a place
 abbrev pub around : ℕ → Item → Item
@@ -27,8 +26,7 @@ around place item = last_at place item (arguments item)
 
 -- the CRS that is around a place: that of the text, or one of the two of a compound
 abbrev pub crs_around : ℕ → Item → Item
-crs_around place tree =
-    if is_called keyword.CompoundCrs tree then around place tree else tree
+crs_around place tree = if is_called keyword.CompoundCrs tree then around place tree else tree
 
 -- the argument of that CRS that is at or around the place, such as its `CS` or an `AXIS`
 abbrev pub part_around : ℕ → Item → Item

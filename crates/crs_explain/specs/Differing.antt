@@ -68,8 +68,7 @@ AreTextsOfName level path name (Some x) (Some y) texts =
 AreTextsOfName level path name x y texts = texts ≡ []
 
 -- the texts of each of these names, in order
-abbrev pub AreTextsOfNames : Level → List ℕ → (xs ys : List ParameterParts) → List (List ℕ) → List PartTexts →
-    Type 0
+abbrev pub AreTextsOfNames : Level → List ℕ → (xs ys : List ParameterParts) → List (List ℕ) → List PartTexts → Type 0
 AreTextsOfNames level path xs ys [] texts = texts ≡ []
 AreTextsOfNames level path xs ys (name ∷ names) texts =
     (these : List PartTexts) × (others : List PartTexts) × (texts ≡ these ++ others)

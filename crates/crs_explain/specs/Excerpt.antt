@@ -43,8 +43,7 @@ blanks_below bytes = flat_map (λ c. blanks (char_width false (printed c))) (los
 
 -- the place that is shown: at the text's end the end of what it says, before its last white space
 abbrev pub shown_place : List ℕ → ℕ → ℕ
-shown_place text place =
-    if place == length text then length text - suffix_len is_ascii_whitespace text else place
+shown_place text place = if place == length text then length text - suffix_len is_ascii_whitespace text else place
 
 -- bytes of one line before the place and from it on, as they are printed, and in the line below the
 -- caret under the place

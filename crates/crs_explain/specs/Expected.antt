@@ -22,8 +22,7 @@ pub use Rattle.crs_explain.specs.Expectation.{Expectation}
 -- how many of these items are axes
 abbrev pub axes_among : Siblings → ℕ
 axes_among End = 0
-axes_among (More item items) =
-    (if is_called keyword.Axis item then 1 else 0) + axes_among items
+axes_among (More item items) = (if is_called keyword.Axis item then 1 else 0) + axes_among items
 
 -- `1 axis`, `2 axes`
 abbrev pub axes_text : ℕ → List ℕ
@@ -52,8 +51,7 @@ class_names c =
 
 -- the names of classes, and the end of the node where it may end
 abbrev pub names_of : List Class → Bool → List (List ℕ)
-names_of classes may_end =
-    flat_map class_names classes ++ (if may_end then codes "its closing delimiter" ∷ [] else [])
+names_of classes may_end = flat_map class_names classes ++ (if may_end then codes "its closing delimiter" ∷ [] else [])
 
 -- the keyword of the node with which these bytes begin; nothing where it is of no class
 abbrev pub node_word : Option Class → List ℕ → List ℕ

@@ -11,8 +11,7 @@ use Rattle.crs_explain.specs.Expected.{IsExpected}
 abbrev pub AreWords : List ℕ → Type 0
 AreWords words = (feeds words ≡ 0) × (length words ≤ 1000)
 
--- what is open, was meant or is asked for; what the number means; and hints; no words where nothing is
--- to be said
+-- what is open, was meant or is asked for; what the number means; and hints; no words where nothing is to be said
 pub record Sentences : Type 0 where
   pub open_or_meant : List ℕ
   pub meaning : List ℕ
@@ -59,8 +58,7 @@ explanation_text refusal e =
 
 -- the lines explain the text's refusal
 abbrev pub IsExplained : List ℕ → RefusedAt → List ℕ → Type 0
-IsExplained text refusal told =
-    (e : Explanation) × Explains text refusal e × (told ≡ explanation_text refusal e)
+IsExplained text refusal told = (e : Explanation) × Explains text refusal e × (told ≡ explanation_text refusal e)
 
 -- in this order the piece of the line with the caret; the line of what could stand there, the keyword of
 -- the node, and what is found; the three sentences; and the names of what could stand there
@@ -88,5 +86,4 @@ explanation_pieces e = record {
 
 -- the pieces explain the text's refusal
 abbrev pub AreExplainedPieces : List ℕ → RefusedAt → ExplainedPieces → Type 0
-AreExplainedPieces text refusal told =
-    (e : Explanation) × Explains text refusal e × (told ≡ explanation_pieces e)
+AreExplainedPieces text refusal told = (e : Explanation) × Explains text refusal e × (told ≡ explanation_pieces e)

@@ -10,8 +10,7 @@ use Rattle.crs_value.specs.declared.values.level.Level.{Level}
 use Rattle.crs_explain.specs.Differing.{AreDifferenceTexts, PartTexts, difference_line}
 use Rattle.crs_explain.specs.Json.{difference_object}
 
--- a byte of a word of a path: a slash, the digits of an axis's position or the bracket before a name
--- ends it
+-- a byte of a word of a path: a slash, the digits of an axis's position or the bracket before a name ends it
 abbrev pub is_of_word : ℕ → Bool
 is_of_word b = is_ascii_lowercase b
 
@@ -27,8 +26,7 @@ begins_behind is_quoted b = not is_quoted && b == 47
 abbrev pub is_quoted_behind : Bool → ℕ → Bool
 is_quoted_behind is_quoted b = if b == 34 then not is_quoted else is_quoted
 
--- whether a step of a path has this word, where a step begins or goes on, and a name of a member does
--- or doesn't
+-- whether a step of a path has this word, where a step begins or goes on, and a name of a member does or doesn't
 abbrev pub has_step_from : (begins is_quoted : Bool) → List ℕ → List ℕ → Bool
 has_step_from begins is_quoted word [] = false
 has_step_from begins is_quoted word (b ∷ path) =

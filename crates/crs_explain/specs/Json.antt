@@ -29,8 +29,7 @@ sentence_members s =
     value_member (codes "clue") s.open_or_meant ++ text_member (codes "meaning") s.meaning
     ++ value_member (codes "hints") s.hints
 
--- which of two texts it is, by the word that begins these bytes, as the first member; nothing where there
--- is one text
+-- which of two texts it is, by the word that begins these bytes, as the first member; nothing where there is one text
 abbrev pub which_member : List ℕ → List ℕ
 which_member [] = []
 which_member (b ∷ which) = codes "\"text\":" ++ json_text (word_of (b ∷ which)) ++ codes ","

@@ -85,8 +85,7 @@ pub(crate) fn append_texts(
 }
 
 fn append_part(alloc: Global, level: Level, part: &Difference<'_, '_>, out: &mut Texts) -> Made<()>
-    ensures { OnOk result (AppendsTexts
-        (AreTextsOf level (path_text part.now.path) part.now.first part.now.second)
+    ensures { OnOk result (AppendsTexts (AreTextsOf level (path_text part.now.path) part.now.first part.now.second)
         out.old.items out.new.items) }
 {
     let mut path = Vec::new(alloc);

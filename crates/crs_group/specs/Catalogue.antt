@@ -22,8 +22,7 @@ pub record GroupParts : Type 0 where
 abbrev pub canons : List GroupParts → List CanonicalText
 canons groups = map (λ group. group.canon) groups
 
--- the level at which texts are compared, the groups in the order of their numbers, and the refused
--- lines
+-- the level at which texts are compared, the groups in the order of their numbers, and the refused lines
 pub record CatalogueParts : Type 0 where
   pub level : Level
   pub groups : List GroupParts

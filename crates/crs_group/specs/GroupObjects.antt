@@ -17,11 +17,9 @@ names_member listing names lines =
 
 -- the name of this line, where lines have names
 abbrev pub name_member : Listing → List (List ℕ) → ℕ → List ℕ
-name_member listing names line =
-    if listing.names then text_member (codes "line_name") (name_at line names) else []
+name_member listing names line = if listing.names then text_member (codes "line_name") (name_at line names) else []
 
--- a group: its number, the numbers of its lines, their names, and their canonical text, or under
--- rules their form
+-- a group: its number, the numbers of its lines, their names, and their canonical text, or under rules their form
 abbrev pub group_object : Listing → List (List ℕ) → ℕ → List ℕ → List ℕ → List ℕ
 group_object listing names number lines text =
     codes "{\"group\":" ++ decimal number ++ key (codes "lines") ++ json_array (json_line false names) lines

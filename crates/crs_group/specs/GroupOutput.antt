@@ -22,8 +22,7 @@ plain = record { repeated = false; names = false; json = false }
 
 -- what stands for a line: its number, or its name, in which what steers a terminal is escaped
 abbrev pub label : Listing → List (List ℕ) → ℕ → List ℕ
-label listing names number =
-    if listing.names then escaped (name_at number names) else decimal number
+label listing names number = if listing.names then escaped (name_at number names) else decimal number
 
 -- ` L1 L2 ..`; names, which may have blanks, after tabs
 abbrev pub labels_text : Listing → List (List ℕ) → List ℕ → List ℕ
@@ -102,5 +101,4 @@ IsGroupOutput listing level = IsGroupOutputBy IsCanonicalOf ShareWhereSame listi
 
 -- that, where two texts share a group if they are the same under rules
 abbrev pub IsGroupOutputUnder : RulesParts → Listing → Level → List ℕ → List ℕ → Summary → Type 0
-IsGroupOutputUnder rules listing level =
-    IsGroupOutputBy (IsForm rules) (ShareWhereSameUnder rules) listing level
+IsGroupOutputUnder rules listing level = IsGroupOutputBy (IsForm rules) (ShareWhereSameUnder rules) listing level

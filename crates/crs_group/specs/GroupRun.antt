@@ -34,10 +34,8 @@ abbrev pub IsGroupFault : SourceState → SourceState → SinkState → SinkStat
 IsGroupFault old new before after ReadFailed = IsReadingFault old new ReadFailed × (after ≡ before)
 IsGroupFault old new before after WriteFailed =
     (new.failed ≡ false) × (new.ended ≡ true) × GivesShortLines old new × (after.failed ≡ true)
-IsGroupFault old new before after (TooLong number) =
-    IsReadingFault old new (TooLong number) × (after ≡ before)
-IsGroupFault old new before after TooManyReads =
-    IsReadingFault old new TooManyReads × (after ≡ before)
+IsGroupFault old new before after (TooLong number) = IsReadingFault old new (TooLong number) × (after ≡ before)
+IsGroupFault old new before after TooManyReads = IsReadingFault old new TooManyReads × (after ≡ before)
 IsGroupFault old new before after Memory = IsReadingFault old new Memory × (after ≡ before)
 
 -- how a run ends: what is written is sent, or a fault says which side failed or which bound a line

@@ -14,5 +14,4 @@ ShareWhereSameUnder rules level p q = (m n : ℕ) → p.place ≡ Group m → q.
 
 -- the catalogue is that of lines at these places under the rules, and its texts are their forms
 abbrev pub IsCatalogueUnder : RulesParts → List PlacedLine → CatalogueParts → Type 0
-IsCatalogueUnder rules placed catalogue =
-    IsCatalogueBy (IsForm rules) (ShareWhereSameUnder rules) placed catalogue
+IsCatalogueUnder rules placed catalogue = IsCatalogueBy (IsForm rules) (ShareWhereSameUnder rules) placed catalogue

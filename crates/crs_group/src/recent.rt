@@ -164,9 +164,8 @@ fn replace_bytes(bytes: &mut Vec<u8>, text: &[u8]) -> Result<(), AllocError>
 }
 
 // The first place of a text's pair, by its length and its bytes, but the first few, which are of a keyword. None: the
-// text is too long.
-// Texts can be made to share a pair of places. Then none is known, and each costs what any new line does: a look at its
-// bytes and a copy.
+// text is too long. Texts can be made to share a pair of places. Then none is known, and each costs what any new line
+// does: a look at its bytes and a copy.
 pub(crate) fn place_of(text: &[u8]) -> Option<usize>
     ensures { IfSome result (λ place. place < 256) }
 {

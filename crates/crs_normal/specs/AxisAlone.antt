@@ -1,5 +1,4 @@
--- Axes by themselves: normal, except that a unit may also be a normal `UNIT`, which is a kind of
--- its own there.
+-- Axes by themselves: normal, except that a unit may also be a normal `UNIT`, which is a kind of its own there.
 use Rattle.std.specs.Prelude.{◌≡◌, ◌⊎◌, ℕ, List}
 use Rattle.crs_text.specs.Items.{Item, leaf, node, Siblings, End, More}
 use Rattle.crs_shape.specs.declared.class.Class.{Class}

@@ -14,5 +14,4 @@ pub record IsCanonicalForm {V : Type 0} (IsValue : V → Type 0) (Same : V → V
   pub equal : (a b : V) (first second : List ℕ) → IsValue a → IsValue b → IsSpelling a first →
       IsSpelling b second → (first ≡ second) ↔ Same a b
   -- each is a word, `[`, and all up to the `]` that first closes it, outside quotes
-  pub closed : (value : V) (bytes : List ℕ) → IsValue value → IsSpelling value bytes →
-      IsClosed bytes
+  pub closed : (value : V) (bytes : List ℕ) → IsValue value → IsSpelling value bytes → IsClosed bytes

@@ -18,9 +18,8 @@ opening_count bytes = unquoted 91 false bytes
 abbrev pub closing_count : List ℕ → ℕ
 closing_count bytes = unquoted 93 false bytes
 
--- a word, `[`, and bytes of which the last one closes that bracket, and none before it: outside
--- quotes every proper front of these bytes has as many `[` as `]` or more, and all of them have one
--- `]` more
+-- a word, `[`, and bytes of which the last one closes that bracket, and none before it: outside quotes every proper
+-- front of these bytes has as many `[` as `]` or more, and all of them have one `]` more
 pub record IsClosed (bytes : List ℕ) : Type 0 where
   pub word : List ℕ
   pub is_word : IsWord word

@@ -64,8 +64,7 @@ Ascend items = Ascends item_text items
 
 -- the nodes that are members of sets
 abbrev pub set_classes : List Class
-set_classes =
-    class.Identifier ∷ class.Usage ∷ class.Member ∷ class.Parameter ∷ class.GeoidModel ∷ []
+set_classes = class.Identifier ∷ class.Usage ∷ class.Member ∷ class.Parameter ∷ class.GeoidModel ∷ []
 
 -- the members of each set ascend
 abbrev pub HasSets : Class → Item → Type 0
@@ -107,8 +106,7 @@ rank other = 0
 -- the ranks of the arguments never fall, from this one on
 abbrev pub Rise : Class → ℕ → Siblings → Type 0
 Rise c least End = Unit {0}
-Rise c least (More item items) =
-    AtClass (class_in c item) (λ d. (least ≤ rank d) × Rise c (rank d) items)
+Rise c least (More item items) = AtClass (class_in c item) (λ d. (least ≤ rank d) × Rise c (rank d) items)
 
 -- the parts of a usage
 abbrev pub bare_classes : List Class
@@ -135,8 +133,7 @@ IsCode item =
 
 -- the code and the version of an identifier, each written as such
 abbrev pub HasCodes : Item → Type 0
-HasCodes item =
-    Each IsCode (single_of (skip 1 (arguments item)) ++ single_of (skip 2 (arguments item)))
+HasCodes item = Each IsCode (single_of (skip 1 (arguments item)) ++ single_of (skip 2 (arguments item)))
 
 -- ---- each class
 
@@ -161,8 +158,7 @@ HasOwnForm class.GeodeticCrs item =
 HasOwnForm class.GeographicCrs item =
     Has class.GeographicCrs class.PrimeMeridian item × HasAxes class.GeographicCrs item
     × HasTail class.GeographicCrs item
-HasOwnForm class.ProjectedCrs item =
-    HasAxes class.ProjectedCrs item × HasTail class.ProjectedCrs item
+HasOwnForm class.ProjectedCrs item = HasAxes class.ProjectedCrs item × HasTail class.ProjectedCrs item
 HasOwnForm class.VerticalCrs item = HasAxes class.VerticalCrs item × HasTail class.VerticalCrs item
 HasOwnForm class.CompoundCrs item = HasTail class.CompoundCrs item
 HasOwnForm class.BaseCrs item = Has class.BaseCrs class.PrimeMeridian item
@@ -181,11 +177,9 @@ abbrev pub IsFirst : List ℕ → List Keyword → Type 0
 IsFirst keyword [] = ⊥
 IsFirst keyword (first ∷ others) = keyword ≡ spelling_of first
 
--- the keyword is the first of those of this class; for a unit on an axis it is the one that says
--- its kind
+-- the keyword is the first of those of this class; for a unit on an axis it is the one that says its kind
 abbrev pub IsFirstKeyword : Class → List ℕ → Type 0
-IsFirstKeyword class.AxisUnit keyword =
-    (keyword ≡ codes "LENGTHUNIT") ⊎ (keyword ≡ codes "ANGLEUNIT")
+IsFirstKeyword class.AxisUnit keyword = (keyword ≡ codes "LENGTHUNIT") ⊎ (keyword ≡ codes "ANGLEUNIT")
 IsFirstKeyword c keyword = IsFirst keyword (keywords_of c)
 
 -- a number in a node of this class is plain, but for a code or version
@@ -193,8 +187,7 @@ abbrev pub IsNumberIn : Class → List ℕ → Type 0
 IsNumberIn class.Identifier raw = Unit {0}
 IsNumberIn c raw = IsPlain raw
 
--- a type of coordinate system or a direction in a node of this class has its own letters, capitals
--- and small ones
+-- a type of coordinate system or a direction in a node of this class has its own letters, capitals and small ones
 abbrev pub IsWordIn : Class → List ℕ → Type 0
 IsWordIn class.CoordinateSystem raw = (system_type : SystemType) × (raw ≡ system_word system_type)
 IsWordIn class.Axis raw = (direction : Direction) × (raw ≡ direction_word direction)

@@ -31,9 +31,8 @@ use Rattle.crs_value.specs.declared.values.frame.Frame.TheVariants as frame
 use Rattle.crs_value.specs.declared.values.level.Level.TheVariants as levels
 pub use Rattle.crs_same.specs.SameCrs.{IsHorizontalPart}
 
--- the bytes are a node of this class, written without white space and in square delimiters; it has
--- the shape of its class, breaks no check and is normal in this sense, and a value that is the same
--- is read from it
+-- the bytes are a node of this class, written without white space and in square delimiters; it has the shape of its
+-- class, breaks no check and is normal in this sense, and a value that is the same is read from it
 pub record IsSpelledBy {V : Type 0} (c : Class) (IsNormal : Item → Type 0)
     (Reads : Class → Item → V → Type 0) (Same : V → V → Type 0) (value : V) (bytes : List ℕ) : Type 0 where
   pub item : Item
@@ -66,8 +65,7 @@ unit_class kinds.Plain = class.PlainUnit
 
 -- the one spelling of a unit by itself
 abbrev pub IsSpelledUnit : Level → UnitParts → List ℕ → Type 0
-IsSpelledUnit level unit =
-    IsSpelledAs level (unit_class unit.kind) ReadsUnit (SameUnit kinds.Plain level) unit
+IsSpelledUnit level unit = IsSpelledAs level (unit_class unit.kind) ReadsUnit (SameUnit kinds.Plain level) unit
 
 -- the one spelling of the meridian of an axis by itself: its unit is one of angle
 abbrev pub IsSpelledAxisMeridian : Level → AxisMeridianParts → List ℕ → Type 0
@@ -141,8 +139,7 @@ IsSpelledParameter level = IsSpelledAs level class.Parameter ReadsParameter (Sam
 
 -- the one spelling of a conversion by itself
 abbrev pub IsSpelledConversion : Level → ConversionParts → List ℕ → Type 0
-IsSpelledConversion level =
-    IsSpelledAs level class.Conversion ReadsConversion (AreSame parts_of_conversion level)
+IsSpelledConversion level = IsSpelledAs level class.Conversion ReadsConversion (AreSame parts_of_conversion level)
 
 -- the one spelling of a geoid model by itself
 abbrev pub IsSpelledGeoidModel : Level → GeoidModelParts → List ℕ → Type 0
@@ -175,8 +172,7 @@ geodetic_class types.Cartesian = class.GeodeticCrs
 geodetic_class types.Spherical = class.GeodeticCrs
 geodetic_class types.Vertical = class.GeodeticCrs
 
--- the one spelling of a geodetic CRS, which is geographic where its coordinate system is
--- ellipsoidal
+-- the one spelling of a geodetic CRS, which is geographic where its coordinate system is ellipsoidal
 abbrev pub IsSpelledGeodetic : Level → GeodeticParts → List ℕ → Type 0
 IsSpelledGeodetic level geodetic =
     IsSpelledAs level (geodetic_class geodetic.system.system_type) ReadsGeodetic
@@ -184,8 +180,7 @@ IsSpelledGeodetic level geodetic =
 
 -- the one spelling of a projected CRS
 abbrev pub IsSpelledProjected : Level → ProjectedParts → List ℕ → Type 0
-IsSpelledProjected level =
-    IsSpelledAs level class.ProjectedCrs ReadsProjected (AreSame parts_of_projected level)
+IsSpelledProjected level = IsSpelledAs level class.ProjectedCrs ReadsProjected (AreSame parts_of_projected level)
 
 -- the one spelling of a vertical CRS
 abbrev pub IsSpelledVertical : Level → VerticalParts → List ℕ → Type 0

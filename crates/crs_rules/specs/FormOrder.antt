@@ -47,8 +47,7 @@ put_crs text (crs.Compound c) = crs.Compound (put_compound text c)
 -- a CRS; where the order of axes doesn't count, its axes in order of the texts that they have under
 -- the rules, which is their order in the form
 abbrev pub in_form_order : (AxisParts → List ℕ) → Meaning → Crs → Crs
-in_form_order text r x =
-    if r.uncounted.axis_order then put_crs (λ a. text (axis r a)) x else x
+in_form_order text r x = if r.uncounted.axis_order then put_crs (λ a. text (axis r a)) x else x
 
 -- the CRS that a text spells, its axes in the order of the form
 pub record IsInFormOrder (rules : RulesParts) (text : List ℕ) (x : Crs) : Type 0 where

@@ -43,8 +43,7 @@ pub record MemberParts : Type 0 where
 abbrev pub SaysFactor : Option UnitKind → Siblings → Value → Type 0
 SaysFactor None items factor = (items ≡ End) × (factor ≡ zero)
 SaysFactor (Some k) End factor = ⊥
-SaysFactor (Some k) (More item items) factor =
-    (items ≡ End) × IsNumberOf item (Some factor) × IsAboveZero factor
+SaysFactor (Some k) (More item items) factor = (items ≡ End) × IsNumberOf item (Some factor) × IsAboveZero factor
 
 -- the arguments of a node: the name, and what follows it
 abbrev pub SaysName : Siblings → MemberParts → Type 0

@@ -11,8 +11,7 @@ use Rattle.crs_value.specs.declared.values.crs.Crs.TheVariants as crs
 -- the second list has the members of the first in some order
 abbrev pub IsReordered : {A : Type 0} → List A → List A → Type 0
 IsReordered [] ys = ys ≡ []
-IsReordered (x ∷ xs) ys =
-    (front back : _) × (ys ≡ front ++ x ∷ back) × IsReordered xs (front ++ back)
+IsReordered (x ∷ xs) ys = (front back : _) × (ys ≡ front ++ x ∷ back) × IsReordered xs (front ++ back)
 
 -- an axis, but for its order
 abbrev pub unordered : AxisParts → AxisParts

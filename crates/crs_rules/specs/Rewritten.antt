@@ -47,13 +47,11 @@ named r c n = record n { name = r.name c n.name }
 
 -- an ellipsoid
 abbrev pub ellipsoid : Meaning → EllipsoidParts → EllipsoidParts
-ellipsoid r e =
-    record e { name = r.name class.Ellipsoid e.name; unit = units r e.unit }
+ellipsoid r e = record e { name = r.name class.Ellipsoid e.name; unit = units r e.unit }
 
 -- a prime meridian
 abbrev pub meridian : Meaning → MeridianParts → MeridianParts
-meridian r m =
-    record m { name = r.name class.PrimeMeridian m.name; unit = units r m.unit }
+meridian r m = record m { name = r.name class.PrimeMeridian m.name; unit = units r m.unit }
 
 -- a reference frame of this class
 abbrev pub datum : Meaning → Class → DatumParts → DatumParts
@@ -143,8 +141,7 @@ tail r t = record t { usages = map (usage r) t.usages; bare_parts = option_map (
 
 -- a parameter of a conversion
 abbrev pub parameter : Meaning → ParameterParts → ParameterParts
-parameter r p =
-    record p { name = r.name class.Parameter p.name; unit = units r p.unit }
+parameter r p = record p { name = r.name class.Parameter p.name; unit = units r p.unit }
 
 -- a conversion
 abbrev pub conversion : Meaning → ConversionParts → ConversionParts
@@ -167,14 +164,12 @@ geodetic r g = record g {
   tail = tail r g.tail;
 }
 
--- whether the longitude of a prime meridian isn't in the unit of the base CRS: it is 0, or has its
--- own
+-- whether the longitude of a prime meridian isn't in the unit of the base CRS: it is 0, or has its own
 abbrev pub has_own_unit : Option MeridianParts → Bool
 has_own_unit None = true
 has_own_unit (Some m) = m.longitude.digits == 0 || is_some m.unit
 
--- whether the unit of a base CRS says nothing: its prime meridian and these parameters have their
--- own
+-- whether the unit of a base CRS says nothing: its prime meridian and these parameters have their own
 abbrev pub is_idle : Option MeridianParts → List ParameterParts → Bool
 is_idle m parameters = has_own_unit m && list_all (λ p. is_some p.unit) parameters
 
@@ -200,8 +195,7 @@ projected r p = record p {
 
 -- the geoid models of a vertical CRS
 abbrev pub geoid_models : Meaning → List NamedParts → List NamedParts
-geoid_models r models =
-    if r.uncounted.geoid_models then [] else map (named r class.GeoidModel) models
+geoid_models r models = if r.uncounted.geoid_models then [] else map (named r class.GeoidModel) models
 
 -- a vertical CRS
 abbrev pub vertical : Meaning → VerticalParts → VerticalParts
@@ -286,8 +280,7 @@ arranged_crs text (crs.Compound c) = crs.Compound (arranged_compound text c)
 
 -- a CRS under rules, where these are the texts of axes
 abbrev pub rewritten : (AxisParts → List ℕ) → Meaning → Crs → Crs
-rewritten text r x =
-    if r.uncounted.axis_order then arranged_crs text (renamed r x) else renamed r x
+rewritten text r x = if r.uncounted.axis_order then arranged_crs text (renamed r x) else renamed r x
 
 -- ---- the form of a text under rules, and which texts are the same under them
 

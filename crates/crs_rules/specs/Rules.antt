@@ -20,8 +20,7 @@ pub record NameAliasParts : Type 0 where
   pub alias : List ℕ
   pub name : List ℕ
 
--- a name and a factor of units of a kind that count as another name and factor, which are written
--- for them
+-- a name and a factor of units of a kind that count as another name and factor, which are written for them
 pub record UnitAliasParts : Type 0 where
   pub kind : UnitKind
   pub alias : List ℕ
@@ -81,8 +80,7 @@ meaning r = record { name = first_name r.names; unit = first_unit r.units; uncou
 
 -- a name without one ` ensemble` at its end
 abbrev pub without_ensemble : List ℕ → List ℕ
-without_ensemble name =
-    if ends_with nat_eq name (codes " ensemble") then take (length name - 9) name else name
+without_ensemble name = if ends_with nat_eq name (codes " ensemble") then take (length name - 9) name else name
 
 -- ---- no rules
 
@@ -134,8 +132,7 @@ unit_that_counts a = record { kind = a.kind; name = a.alias; factor = a.alias_fa
 abbrev pub unit_written : UnitAliasParts → UnitParts
 unit_written a = record { kind = a.kind; name = a.name; factor = a.factor; identifiers = [] }
 
--- two aliases of names: what the one writes is no alias of the other; if both are of one name, both
--- write one name
+-- two aliases of names: what the one writes is no alias of the other; if both are of one name, both write one name
 pub record NamesAgree (a b : NameAliasParts) : Type 0 where
   pub steady : is_name_alias a.class a.name b ≡ false
   pub clear : is_name_alias a.class a.alias b ≡ true → a.name ≡ b.name

@@ -32,8 +32,7 @@ FaultOfLine r line f =
 
 -- a file leads from one reading to another; its lines are counted from 1
 abbrev pub ReadsFile : Reading → List ℕ → Reading → Type 0
-ReadsFile r bytes s =
-    (lines : List (List ℕ)) × AreLines bytes lines × Over Reads (record r { line = 0 }) lines s
+ReadsFile r bytes s = (lines : List (List ℕ)) × AreLines bytes lines × Over Reads (record r { line = 0 }) lines s
 
 -- the fault of a file
 abbrev pub RefusesFile : Reading → List ℕ → RulesRefusal → Type 0

@@ -12,8 +12,7 @@ use Rattle.crs_rules.specs.declared.file.fault.RulesFault.TheVariants as faults
 use Rattle.crs_rules.specs.declared.file.fault.RulesRefusal.{RulesRefusal}
 use Rattle.crs_rules.specs.Members.{MemberParts, Says, kind_of}
 
--- what is known of a file before a statement: the number of its line, the nodes of all sets so
--- far, and the rules
+-- what is known of a file before a statement: the number of its line, the nodes of all sets so far, and the rules
 pub record Reading : Type 0 where
   pub line : ℕ
   pub seen : List MemberParts
@@ -30,8 +29,7 @@ Over Step r (x ∷ xs) s = (q : Reading) × Step r x q × Over Step q xs s
 abbrev pub FaultOver : {A : Type 0} → (Reading → A → Reading → Type 0) →
     (Reading → A → RulesRefusal → Type 0) → Reading → List A → RulesRefusal → Type 0
 FaultOver Step Fault r [] f = ⊥
-FaultOver Step Fault r (x ∷ xs) f =
-    Fault r x f ⊎ ((q : Reading) × Step r x q × FaultOver Step Fault q xs f)
+FaultOver Step Fault r (x ∷ xs) f = Fault r x f ⊎ ((q : Reading) × Step r x q × FaultOver Step Fault q xs f)
 
 -- the items in order
 abbrev pub listed : Siblings → List Item

@@ -44,9 +44,8 @@ infixr 10 ◌⨾◌
 abbrev pub ◌▸◌ : List Step → Step → List Step
 at ▸ step = at ++ step ∷ []
 
--- The parts of two values: none; one, with its path, what holds where it is the same in both, and
--- its value in the first and in the second; some and then others; or those within something of
--- which a property holds.
+-- The parts of two values: none; one, with its path, what holds where it is the same in both, and its value in the
+-- first and in the second; some and then others; or those within something of which a property holds.
 pub data Parts : Type 1 where
   none : Parts
   part : List Step → Type 0 → (first second : Content) → Parts
@@ -66,8 +65,7 @@ First none found = found ≡ None
 First (part path Same first second) None = Same
 First (part path Same first second) (Some found) = (¬ Same) × (found ≡ path)
 First (these ⨾ others) None = First these None × First others None
-First (these ⨾ others) (Some found) =
-    First these (Some found) ⊎ (First these None × First others (Some found))
+First (these ⨾ others) (Some found) = First these (Some found) ⊎ (First these None × First others (Some found))
 First (within {X} Is parts) found = (x : X) × Is x × First (parts x) found
 
 -- a part that differs: its path, and its value in the first and in the second
@@ -135,8 +133,7 @@ units path level asked other a b =
     (given (content.Unit asked) a) (given (content.Unit other) b)
 
 -- two lists that are taken as sets
-abbrev pub sets : {V : Type 0} → List Step → (V → V → Type 0) → (List V → List V → Content) →
-    List V → List V → Parts
+abbrev pub sets : {V : Type 0} → List Step → (V → V → Type 0) → (List V → List V → Content) → List V → List V → Parts
 sets path Same members_of a b = part path (SameSet Same a b) (members_of a b) (members_of b a)
 
 -- the identifiers that the level keeps of two parts
@@ -185,8 +182,7 @@ parts_of_system at level a b =
 
 -- ---- the parts of ellipsoids, prime meridians, reference frames and ensembles, in order
 
--- the parts of two ellipsoids: name,
--- semi-major axis, inverse flattening, unit, identifiers
+-- the parts of two ellipsoids: name, semi-major axis, inverse flattening, unit, identifiers
 abbrev pub parts_of_ellipsoid : PartsOf EllipsoidParts
 parts_of_ellipsoid at level a b =
     texts (at ▸ step.Name) a.name b.name
@@ -224,8 +220,7 @@ parts_of_meridian at level a b = parts_of_given at level (or_greenwich a) (or_gr
 
 -- ---- frames
 
--- the parts of two reference frames: name,
--- ellipsoid, anchor, the anchor's epoch, identifiers
+-- the parts of two reference frames: name, ellipsoid, anchor, the anchor's epoch, identifiers
 abbrev pub parts_of_datum : PartsOf DatumParts
 parts_of_datum at level a b =
     texts (at ▸ step.Name) a.name b.name
@@ -234,8 +229,7 @@ parts_of_datum at level a b =
     ⨾ optional_numbers (at ▸ step.AnchorEpoch) a.anchor_epoch b.anchor_epoch
     ⨾ identifiers (at ▸ step.Id) level a.identifiers b.identifiers
 
--- the parts of two datum ensembles: name,
--- members, ellipsoid, accuracy, identifiers
+-- the parts of two datum ensembles: name, members, ellipsoid, accuracy, identifiers
 abbrev pub parts_of_ensemble : PartsOf EnsembleParts
 parts_of_ensemble at level a b =
     texts (at ▸ step.Name) a.name b.name
@@ -315,8 +309,7 @@ parts_of_geodetic at level a b =
     ⨾ parts_of_system (at ▸ step.System) level a.system b.system
     ⨾ parts_of_tail at level a.tail b.tail
 
--- the parts of two base CRSs: name, dynamic
--- part, frame, prime meridian, unit, identifiers
+-- the parts of two base CRSs: name, dynamic part, frame, prime meridian, unit, identifiers
 unfoldable pub parts_of_base : PartsOf BaseParts
 parts_of_base at level a b =
     texts (at ▸ step.Name) a.name b.name
@@ -326,8 +319,7 @@ parts_of_base at level a b =
     ⨾ units (at ▸ step.Unit) level kinds.Angle kinds.Angle a.unit b.unit
     ⨾ identifiers (at ▸ step.Id) level a.identifiers b.identifiers
 
--- the parts of two projected CRSs: name,
--- base CRS, conversion, coordinate system, end
+-- the parts of two projected CRSs: name, base CRS, conversion, coordinate system, end
 unfoldable pub parts_of_projected : PartsOf ProjectedParts
 parts_of_projected at level a b =
     texts (at ▸ step.Name) a.name b.name
@@ -336,8 +328,7 @@ parts_of_projected at level a b =
     ⨾ parts_of_system (at ▸ step.System) level a.system b.system
     ⨾ parts_of_tail at level a.tail b.tail
 
--- the parts of two vertical CRSs: name,
--- dynamic part, frame, coordinate system, geoid models, end
+-- the parts of two vertical CRSs: name, dynamic part, frame, coordinate system, geoid models, end
 unfoldable pub parts_of_vertical : PartsOf VerticalParts
 parts_of_vertical at level a b =
     texts (at ▸ step.Name) a.name b.name
@@ -354,10 +345,8 @@ horizontal_word (horizontal.Projected projected) = kind_word kind.Projected
 
 -- the parts of the horizontal parts of two compound CRSs; a geodetic and a projected one differ in kind
 unfoldable pub parts_of_horizontal : PartsOf Horizontal
-parts_of_horizontal at level (horizontal.Geodetic a) (horizontal.Geodetic b) =
-    parts_of_geodetic at level a b
-parts_of_horizontal at level (horizontal.Projected a) (horizontal.Projected b) =
-    parts_of_projected at level a b
+parts_of_horizontal at level (horizontal.Geodetic a) (horizontal.Geodetic b) = parts_of_geodetic at level a b
+parts_of_horizontal at level (horizontal.Projected a) (horizontal.Projected b) = parts_of_projected at level a b
 parts_of_horizontal at level a b = unlike (at ▸ step.Kind) (horizontal_word a) (horizontal_word b)
 
 -- the parts of two compound CRSs: name, horizontal part, vertical part, end
@@ -368,8 +357,7 @@ parts_of_compound at level a b =
     ⨾ parts_of_vertical (at ▸ step.Vertical) level a.vertical b.vertical
     ⨾ parts_of_tail at level a.tail b.tail
 
--- the parts of two CRSs; where they aren't both
--- geodetic, projected, vertical or compound, they differ in kind
+-- the parts of two CRSs; where they aren't both geodetic, projected, vertical or compound, they differ in kind
 abbrev pub parts_of_crs : Level → Crs → Crs → Parts
 parts_of_crs level (crs.Geodetic a) (crs.Geodetic b) = parts_of_geodetic [] level a b
 parts_of_crs level (crs.Projected a) (crs.Projected b) = parts_of_projected [] level a b

@@ -61,8 +61,7 @@ pub record SameAxisAlone (level : Level) (a b : AxisParts) : Type 0 where
 
 -- ---- positions
 
--- this is the position of the axis that is written at this
--- place: its order, or without one its place
+-- this is the position of the axis that is written at this place: its order, or without one its place
 abbrev pub IsPositionOf : ℕ → ℕ → Option Value → Type 0
 IsPositionOf position place None = place ≡ position
 IsPositionOf position place (Some order) = SameNumber (exact order) (whole_number position)
@@ -105,8 +104,7 @@ pub record SameExtent (level : Level) (a b : ExtentParts) : Type 0 where
   pub maximum : SameValue a.maximum b.maximum
   pub unit : SameLength level a.unit b.unit
 
--- two usages are the same: scope, area, box and extent in
--- height, with all that these hold, at each level
+-- two usages are the same: scope, area, box and extent in height, with all that these hold, at each level
 pub record SameUsage (a b : UsageParts) : Type 0 where
   pub scope : a.scope ≡ b.scope
   pub area : a.area ≡ b.area

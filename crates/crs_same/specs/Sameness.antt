@@ -1,7 +1,6 @@
 -- What makes a relation one of sameness: it is an equivalence.
 
--- a relation of sameness holds of each value and itself, in
--- either order, and from one value over a second to a third
+-- a relation of sameness holds of each value and itself, in either order, and from one value over a second to a third
 pub record IsSameness {A : Type 0} (Same : A → A → Type 0) : Type 0 where
   pub reflexive : (a : A) → Same a a
   pub symmetric : (a b : A) → Same a b → Same b a

@@ -35,8 +35,7 @@ use crs_decimal::laws;
 /// Each position of a coordinate system, from 1 to the number of its axes, has one axis.
 pub fn one_axis_each()
     ensures some { (system : SystemParts) → IsSystem system → (position : ℕ) → 1 ≤ position →
-        position ≤ length system.axes →
-        HasAt position (λ axis. ⊤) 1 system.axes }
+        position ≤ length system.axes → HasAt position (λ axis. ⊤) 1 system.axes }
     ensures one { (system : SystemParts) → IsSystem system → (position : ℕ) (x y : AxisParts) →
         HasAt position (λ axis. axis ≡ x) 1 system.axes → HasAt position (λ axis. axis ≡ y) 1 system.axes → x ≡ y }
 {

@@ -50,8 +50,7 @@ impl Path {
 
     /// Appends the words of the steps, with `/` between them. `AllocError`: no memory for them, and `out` is as before.
     pub fn write(&self, out: &mut Vec<u8>) -> Result<(), AllocError>
-        ensures { MatchResult result
-            (λ _. out.new.items ≡ out.old.items ++ path_text self.now)
+        ensures { MatchResult result (λ _. out.new.items ≡ out.old.items ++ path_text self.now)
             (λ _. out.new.items ≡ out.old.items) }
     {
         let before = out.len();

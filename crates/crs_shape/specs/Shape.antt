@@ -8,8 +8,7 @@ use Rattle.crs_shape.specs.declared.slot.Slot.{Slot}
 use Rattle.crs_shape.specs.Keywords.{first_named}
 use Rattle.crs_shape.specs.declared.class.Class.TheVariants as class
 
--- a slot takes arguments of its classes: at least one if it is
--- required, and more than one only if it takes many
+-- a slot takes arguments of its classes: at least one if it is required, and more than one only if it takes many
 pub record SlotParts : Type 0 where
   pub classes : List Class
   pub required : Bool
@@ -103,8 +102,7 @@ slots_of class.BaseCrs =
     one class.Text ∷ optional class.Dynamic ∷
     one_of (class.GeodeticFrame ∷ class.GeodeticEnsemble ∷ []) ∷ optional class.PrimeMeridian
     ∷ optional class.AngleUnit ∷ any class.Identifier ∷ []
-slots_of class.GeodeticFrame =
-    one class.Text ∷ one class.Ellipsoid ∷ anchor_slot ∷ any class.Identifier ∷ []
+slots_of class.GeodeticFrame = one class.Text ∷ one class.Ellipsoid ∷ anchor_slot ∷ any class.Identifier ∷ []
 slots_of class.VerticalFrame = one class.Text ∷ anchor_slot ∷ any class.Identifier ∷ []
 slots_of class.Dynamic = one class.FrameEpoch ∷ optional class.DeformationModel ∷ []
 slots_of class.FrameEpoch = one class.Number ∷ []
@@ -121,8 +119,7 @@ slots_of class.Anchor = one class.Text ∷ []
 slots_of class.Ellipsoid =
     one class.Text ∷ one class.Number ∷ one class.Number ∷ optional class.LengthUnit
     ∷ any class.Identifier ∷ []
-slots_of class.PrimeMeridian =
-    one class.Text ∷ one class.Number ∷ optional class.AngleUnit ∷ any class.Identifier ∷ []
+slots_of class.PrimeMeridian = one class.Text ∷ one class.Number ∷ optional class.AngleUnit ∷ any class.Identifier ∷ []
 slots_of class.LengthUnit = unit_slots
 slots_of class.AngleUnit = unit_slots
 slots_of class.ScaleUnit = unit_slots
@@ -134,8 +131,7 @@ slots_of class.Axis =
     ∷ optional class.AxisUnit ∷ any class.Identifier ∷ []
 slots_of class.AxisMeridian = one class.Number ∷ one class.AngleUnit ∷ []
 slots_of class.Order = one class.Number ∷ []
-slots_of class.Conversion =
-    one class.Text ∷ one class.Method ∷ any class.Parameter ∷ any class.Identifier ∷ []
+slots_of class.Conversion = one class.Text ∷ one class.Method ∷ any class.Parameter ∷ any class.Identifier ∷ []
 slots_of class.Method = named_slots
 slots_of class.Parameter =
     one class.Text ∷ one class.Number ∷
@@ -147,8 +143,7 @@ slots_of class.Usage =
     ∷ optional class.VerticalExtent ∷ []
 slots_of class.Scope = one class.Text ∷ []
 slots_of class.Area = one class.Text ∷ []
-slots_of class.BoundingBox =
-    one class.Number ∷ one class.Number ∷ one class.Number ∷ one class.Number ∷ []
+slots_of class.BoundingBox = one class.Number ∷ one class.Number ∷ one class.Number ∷ one class.Number ∷ []
 slots_of class.VerticalExtent = one class.Number ∷ one class.Number ∷ optional class.LengthUnit ∷ []
 slots_of class.Identifier =
     one class.Text ∷ one_of (class.Number ∷ class.Text ∷ []) ∷
@@ -161,8 +156,7 @@ slots_of class.Remark = one class.Text ∷ []
 abbrev pub takes : SlotParts → Class → Bool
 takes slot c = list_any (λ d. sameb the_type d c) slot.classes
 
--- the class that a keyword names among these slots: that of
--- the first slot which has one, and in it the first
+-- the class that a keyword names among these slots: that of the first slot which has one, and in it the first
 abbrev pub named_in : List SlotParts → List ℕ → Option Class
 named_in [] word = None
 named_in (s ∷ ss) word = or_later (first_named s.classes word) (named_in ss word)

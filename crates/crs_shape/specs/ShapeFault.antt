@@ -1,5 +1,4 @@
--- Faults of shape: where an item isn't what it is asked to be,
--- with the number and place of the refusal.
+-- Faults of shape: where an item isn't what it is asked to be, with the number and place of the refusal.
 use Rattle.std.specs.Prelude.{◌≡◌, ℕ, ◌⊎◌, Bool, IsTrue, IsFalse, Option, Some, None, List, [], ◌∷◌, ◌++◌, if◌then◌else◌}
 use denote.Enum.Bare.{sameb}
 use Rattle.crs_text.specs.Tokens.{Kind, number, text, word}
@@ -94,8 +93,7 @@ AtRoot item fault =
 -- ---- shaped items: those without a fault of shape, said of the whole item at once
 
 abbrev mutual
-  -- the item is of the class, and a node's arguments are an
-  -- allowed list, each of the shape of its own class
+  -- the item is of the class, and a node's arguments are an allowed list, each of the shape of its own class
   pub Shaped : Class → Item → Type 0
   Shaped c (leaf kind place raw) = IsTrue (is_of c (leaf kind place raw))
   Shaped c (node place keyword square first others close) =
@@ -109,5 +107,4 @@ abbrev mutual
   AreShaped c [] End = Unit {0}
   AreShaped c [] (More item items) = ⊥
   AreShaped c (d ∷ ds) End = ⊥
-  AreShaped c (d ∷ ds) (More item items) =
-      (class_in c item ≡ Some d) × (Shaped d item × AreShaped c ds items)
+  AreShaped c (d ∷ ds) (More item items) = (class_in c item ≡ Some d) × (Shaped d item × AreShaped c ds items)

@@ -1,5 +1,4 @@
--- Words: those of coordinate system types, axis directions and
--- units, and how bytes spell a word in either case.
+-- Words: those of coordinate system types, axis directions and units, and how bytes spell a word in either case.
 use Rattle.std.specs.Prelude.{◌≡◌, ◌∷◌, [], ℕ, List, codes}
 use Rattle.std.specs.Str.{str_to_ascii_lowercase}
 use Rattle.crs_shape.specs.declared.direction.Direction.{Direction}
@@ -76,8 +75,7 @@ kind_by_direction direction.Up = kinds.Length
 kind_by_direction direction.Down = kinds.Length
 kind_by_direction other = kinds.Angle
 
--- the kind of unit that an axis asks for, by the type of its
--- coordinate system and its own direction
+-- the kind of unit that an axis asks for, by the type of its coordinate system and its own direction
 abbrev pub asked_kind : SystemType → Direction → UnitKind
 asked_kind types.Cartesian d = kinds.Length
 asked_kind types.Ellipsoidal d = kind_by_direction d

@@ -22,9 +22,7 @@ use crs_text::{ItemId, ItemKind, Items, Refusal, laws};
 /// complete. Profile.
 pub fn fit(items: &Items<'_>, id: ItemId, class: Class) -> Result<(), Refusal>
     requires { HasId items.now id }
-    ensures { MatchResult
-        result
-        (λ _. IsFree (Inside class (first_of (here items.now id))))
+    ensures { MatchResult result (λ _. IsFree (Inside class (first_of (here items.now id))))
         (λ refusal. IsOnly (Inside class (first_of (here items.now id))) refusal) }
 {
     if !is_of(items, id, class) {
@@ -40,9 +38,7 @@ pub fn fit(items: &Items<'_>, id: ItemId, class: Class) -> Result<(), Refusal>
 ///
 /// The error is the first fault as in `fit`, and 11 or 12 at the root if it has no such class. Profile.
 pub fn fit_root(items: &Items<'_>) -> Result<Class, Refusal>
-    ensures { MatchResult
-        result
-        (λ class. (class_of_root items.now ≡ Some class) × IsFree (AtRoot items.now))
+    ensures { MatchResult result (λ class. (class_of_root items.now ≡ Some class) × IsFree (AtRoot items.now))
         (λ refusal. IsOnly (AtRoot items.now) refusal) }
 {
     let root = items.root();
@@ -95,8 +91,7 @@ pub(crate) fn fault_within(
     requires has { HasId items.now id }
     requires class { IsTrue (is_of class (first_of (here items.now id))) }
     ensures fault { option_map (λ f. f.0) result ≡ first_inside class (first_of (here items.now id)) }
-    ensures expected { MatchOption result
-        (IsFree (Inside class (first_of (here items.now id))))
+    ensures expected { MatchOption result (IsFree (Inside class (first_of (here items.now id))))
         (λ f. ExpectedIn class (first_of (here items.now id)) f.1) }
 {
     // A leaf has no argument that could be at fault.

@@ -35,9 +35,8 @@ macro_rules! slots_of {
     };
 }
 
-/// The slots of a class, in order; none for an item that isn't a node.
-/// ISO 19162:2019, the part of the standard that is named above each row; tails and anchors in any order are the
-/// profile's.
+/// The slots of a class, in order; none for an item that isn't a node. ISO 19162:2019, the part of the standard that is
+/// named above each row; tails and anchors in any order are the profile's.
 pub fn slots(class: Class) -> &'static [Slot]
     ensures { map shown result.now ≡ slots_of class }
 {

@@ -15,8 +15,7 @@ steers c =
 abbrev pub hex_byte : ℕ → List ℕ
 hex_byte b = hex_digit (b / 16) ∷ hex_digit (b % 16) ∷ []
 
--- a character as a line shows it: a backslash and what steers are escaped, as `\\`, `\n`, `\x1B`
--- and `\u202E`
+-- a character as a line shows it: a backslash and what steers are escaped, as `\\`, `\n`, `\x1B` and `\u202E`
 abbrev pub shown_char : ℕ → List ℕ
 shown_char c =
     if c == 32 then c ∷ []

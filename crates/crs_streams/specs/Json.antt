@@ -41,8 +41,7 @@ json_more spelled members = flat_map (λ member. codes "," ++ spelled member) me
 -- an array of members, each spelled so
 abbrev pub json_array : {A : Type 0} → (A → List ℕ) → List A → List ℕ
 json_array spelled [] = codes "[]"
-json_array spelled (member ∷ members) =
-    codes "[" ++ spelled member ++ json_more spelled members ++ codes "]"
+json_array spelled (member ∷ members) = codes "[" ++ spelled member ++ json_more spelled members ++ codes "]"
 
 -- the name of a further member of an object
 unfoldable pub key : List ℕ → List ℕ

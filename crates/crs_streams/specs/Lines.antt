@@ -17,13 +17,11 @@ IsSplit bytes line rest = (bytes ≡ line ++ 10 ∷ rest) × HasNoFeed line
 abbrev pub EndsInReturn : List ℕ → Type 0
 EndsInReturn bytes = (front : List ℕ) × (bytes ≡ front ++ 13 ∷ [])
 
--- the text of a line that ends at a line feed: its bytes before that, but for one return directly
--- before the feed
+-- the text of a line that ends at a line feed: its bytes before that, but for one return directly before the feed
 abbrev pub IsTextOf : List ℕ → List ℕ → Type 0
 IsTextOf bytes text = (bytes ≡ text ++ 13 ∷ []) ⊎ ((bytes ≡ text) × ¬ (EndsInReturn bytes))
 
--- the texts of all lines: a line ends at a line feed, and what follows the last feed is one if it
--- has a byte
+-- the texts of all lines: a line ends at a line feed, and what follows the last feed is one if it has a byte
 abbrev pub AreLines : List ℕ → List (List ℕ) → Type 0
 AreLines bytes [] = bytes ≡ []
 AreLines bytes (text ∷ texts) =

@@ -5,9 +5,8 @@ use Rattle.crs_streams.specs.Lines.{HasShortLines, IsTooLong}
 
 -- ---- a counted reader and writer as callers see them
 
--- a reader: the bytes that it has left where they are known, the reads made, the bytes that they
--- gave, whether a read gave no byte, which shows the end, whether a read was made past the end, and
--- whether a read answered a failure
+-- a reader: the bytes that it has left where they are known, the reads made, the bytes that they gave, whether a read
+-- gave no byte, which shows the end, whether a read was made past the end, and whether a read answered a failure
 pub record SourceState : Type 0 where
   pub remaining : Option (List ℕ)
   pub reads : ℕ
@@ -27,19 +26,11 @@ pub record SinkState : Type 0 where
 -- a reader with these bytes left, of which nothing was read
 abbrev pub fresh_source : Option (List ℕ) → SourceState
 fresh_source remaining =
-    record {
-      remaining = remaining;
-      reads = 0;
-      taken = 0;
-      ended = false;
-      past_end = false;
-      failed = false;
-    }
+    record { remaining = remaining; reads = 0; taken = 0; ended = false; past_end = false; failed = false }
 
 -- a writer with these bytes, to which nothing was written
 abbrev pub fresh_sink : Option (List ℕ) → SinkState
-fresh_sink contents =
-    record { contents = contents; used = false; past_failure = false; failed = false }
+fresh_sink contents = record { contents = contents; used = false; past_failure = false; failed = false }
 
 -- a writer that was given these bytes, and wasn't asked where there are none
 abbrev pub IsAskedFor : List ℕ → SinkState → SinkState → Type 0
@@ -48,11 +39,9 @@ IsAskedFor (byte ∷ bytes) old new = new.used ≡ true
 
 -- bytes of which a write failed: a writer whose bytes are known holds the first of them
 abbrev pub AppendsFront : Option (List ℕ) → Option (List ℕ) → List ℕ → Type 0
-AppendsFront old new bytes =
-    (front : List ℕ) × (rest : List ℕ) × (bytes ≡ front ++ rest) × Appends old new front
+AppendsFront old new bytes = (front : List ℕ) × (rest : List ℕ) × (bytes ≡ front ++ rest) × Appends old new front
 
--- one more read: whether the end was shown before, the bytes that it gave, whether there were none,
--- or its failure
+-- one more read: whether the end was shown before, the bytes that it gave, whether there were none, or its failure
 pub record CountsRead {E : Type 0} (old new : SourceState) (answer : Result ℕ E) : Type 0 where
   pub one_more : new.reads ≡ old.reads + 1
   pub past_end : new.past_end ≡ (old.past_end || old.ended)
@@ -61,8 +50,7 @@ pub record CountsRead {E : Type 0} (old new : SourceState) (answer : Result ℕ 
       × (new.failed ≡ old.failed))
       (λ _. (new.taken ≡ old.taken) × (new.ended ≡ old.ended) × (new.failed ≡ true))
 
--- bytes that are handed over in one write after another up to a failure: nothing is asked of a
--- writer after one
+-- bytes that are handed over in one write after another up to a failure: nothing is asked of a writer after one
 pub record CountsWrites {E : Type 0} (old new : SinkState)
     (answer : Result (Unit {0}) E) : Type 0 where
   pub is_used : new.used ≡ true

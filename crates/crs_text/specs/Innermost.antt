@@ -4,8 +4,7 @@ use Rattle.std.specs.List.{fold}
 use Rattle.crs_text.specs.Tokens.{Token, opening, opening_byte, Fronts}
 use Rattle.crs_text.specs.Viable.{open_after}
 
--- the tokens close each delimiter that they open, and no other: what is open before them is open
--- after them
+-- the tokens close each delimiter that they open, and no other: what is open before them is open after them
 abbrev pub IsClosed : List Token → Type 0
 IsClosed ts = (held : List Bool) → fold open_after held ts ≡ held
 

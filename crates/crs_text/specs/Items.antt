@@ -13,8 +13,7 @@ mutual
   -- the others, and the place of its closing delimiter
   pub data Item : Type 0 where
     leaf : (kind : Kind) (place : ℕ) (raw : List ℕ) → Item
-    node : (place : ℕ) (keyword : List ℕ) (square : Bool) (first : Item) (others : Siblings)
-        (close : ℕ) → Item
+    node : (place : ℕ) (keyword : List ℕ) (square : Bool) (first : Item) (others : Siblings) (close : ℕ) → Item
 
   -- some items in order: none, or one and those after it
   pub data Siblings : Type 0 where
@@ -101,8 +100,7 @@ abbrev pub raw_of : Item → List ℕ
 raw_of (leaf kind place raw) = raw
 raw_of (node place keyword square first others close) = keyword
 
--- the keyword that raw bytes of this kind are; none where they
--- are no keyword, or those of a number or text
+-- the keyword that raw bytes of this kind are; none where they are no keyword, or those of a number or text
 abbrev pub keyword_at : ItemKind → List ℕ → Option Keyword
 keyword_at Number raw = None
 keyword_at Text raw = None
@@ -135,12 +133,10 @@ abbrev mutual
   sizes (More item items) = size_of item + sizes items
 
 abbrev mutual
-  -- the items within an item in the order in which they begin,
-  -- each with the later arguments of its node
+  -- the items within an item in the order in which they begin, each with the later arguments of its node
   pub inside : Item → List Siblings
   inside (leaf kind place raw) = []
-  inside (node place keyword square first others close) =
-      More first others ∷ (inside first ++ inside_items others)
+  inside (node place keyword square first others close) = More first others ∷ (inside first ++ inside_items others)
 
   -- some items and those within them, likewise
   pub inside_items : Siblings → List Siblings
@@ -164,5 +160,4 @@ IsAt tree items (Some id) = (here tree id ≡ items) × HasId tree id
 -- the value of an item that is a number; none where it isn't one
 abbrev pub IsNumberOf : Item → Option Value → Type 0
 IsNumberOf item None = kind_of_item item ≢ Number
-IsNumberOf item (Some value) =
-    (kind_of_item item ≡ Number) × IsNormal value × Denotes (raw_of item) (exact value)
+IsNumberOf item (Some value) = (kind_of_item item ≡ Number) × IsNormal value × Denotes (raw_of item) (exact value)

@@ -79,8 +79,7 @@ every_keyword =
 -- the first of these keywords whose spelling the word is, letter case aside
 abbrev pub first_spelled : List Keyword → List ℕ → Option Keyword
 first_spelled [] word = None
-first_spelled (k ∷ ks) word =
-    if str_eq_ignore_ascii_case (spelling_of k) word then Some k else first_spelled ks word
+first_spelled (k ∷ ks) word = if str_eq_ignore_ascii_case (spelling_of k) word then Some k else first_spelled ks word
 
 -- the keyword that a word is; none where it is no keyword's spelling
 unfoldable pub keyword_of : List ℕ → Option Keyword

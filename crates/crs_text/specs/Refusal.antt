@@ -8,11 +8,9 @@ pub record RefusedAt : Type 0 where
 
 -- the numbers that refusals have: of the text, of a shape, of a value
 abbrev pub is_refusal : ℕ → Bool
-is_refusal n =
-    (nat_le 1 n && nat_le n 8) || (nat_le 11 n && nat_le n 13) || (nat_le 21 n && nat_le n 29)
+is_refusal n = (nat_le 1 n && nat_le n 8) || (nat_le 11 n && nat_le n 13) || (nat_le 21 n && nat_le n 29)
 
--- whether one refusal goes before another: it has the lower number,
--- or the same number and the earlier place
+-- whether one refusal goes before another: it has the lower number, or the same number and the earlier place
 abbrev pub is_before : RefusedAt → RefusedAt → Bool
 is_before a b = nat_lt a.number b.number || (a.number == b.number && nat_lt a.place b.place)
 

@@ -39,8 +39,7 @@ abbrev pub BeginsNoToken : List ℕ → Type 0
 BeginsNoToken [] = ⊥
 BeginsNoToken (b ∷ bs) = IsFalse (begins_token b)
 
--- the bytes begin with a run: a digit, a sign or a period, and
--- all bytes after it that a number could take
+-- the bytes begin with a run: a digit, a sign or a period, and all bytes after it that a number could take
 pub record IsFirstRun (left run rest : List ℕ) : Type 0 where
   pub parts : left ≡ run ++ rest
   pub starts : BeginsWith is_run_start run
@@ -50,15 +49,13 @@ pub record IsFirstRun (left run rest : List ℕ) : Type 0 where
 -- no token can be formed at the front of what is left; the fault is `skip` bytes further on
 abbrev pub IsFlaw : Reason → List ℕ → ℕ → Type 0
 IsFlaw BadCharacter left skip = BeginsNoToken left × (skip ≡ 0)
-IsFlaw BadNumber left skip =
-    (run rest : List ℕ) × IsFirstRun left run rest × ¬ (HasForm run) × (skip ≡ 0)
+IsFlaw BadNumber left skip = (run rest : List ℕ) × IsFirstRun left run rest × ¬ (HasForm run) × (skip ≡ 0)
 IsFlaw NumberRange left skip =
     (run rest : List ℕ) × IsFirstRun left run rest × HasForm run × ¬ (IsInBounds run) × (skip ≡ 0)
 IsFlaw NotUtf8 left skip =
     (after inside : List ℕ) × (left ≡ 34 ∷ after) × Through after inside × ¬ (IsUtf8Front inside)
     × (n : ℕ) × IsLongestUtf8 after n × (skip ≡ 1 + n)
-IsFlaw OpenText left skip =
-    (after : List ℕ) × (left ≡ 34 ∷ after) × IsInside after × IsUtf8Front after × (skip ≡ 0)
+IsFlaw OpenText left skip = (after : List ℕ) × (left ≡ 34 ∷ after) × IsInside after × IsUtf8Front after × (skip ≡ 0)
 IsFlaw Unexpected left skip = ⊥
 IsFlaw UnexpectedEnd left skip = ⊥
 IsFlaw TooDeep left skip = ⊥
@@ -89,8 +86,7 @@ IsStop UnexpectedEnd total ts left skip = (left ≡ []) × IsNoNode ts × (skip 
 IsStop TooDeep total ts left skip =
     (t : Token) × (rest : List ℕ) × Forms total t left rest × IsTooDeep ts t × (skip ≡ 0)
 
--- the text is refused with this number at this place: the tokens before are viable, and there it
--- stops
+-- the text is refused with this number at this place: the tokens before are viable, and there it stops
 pub record RefusesText (bytes : List ℕ) (number place : ℕ) : Type 0 where
   pub reason : Reason
   pub before : List Token
@@ -121,8 +117,7 @@ pub record FormsSettled (total : ℕ) (t : Token) (left rest : List ℕ) : Type 
   pub forms : Forms total t left rest
   pub settled : IsSettled t rest
 
--- the bytes are settled tokens with white space before,
--- between and after them, and then what is left
+-- the bytes are settled tokens with white space before, between and after them, and then what is left
 abbrev pub SettledFronts : ℕ → List ℕ → List Token → List ℕ → Type 0
 SettledFronts total bytes [] left = IsAfterWhite bytes left
 SettledFronts total bytes (t ∷ ts) left =
@@ -133,8 +128,7 @@ SettledFronts total bytes (t ∷ ts) left =
 abbrev pub IsRunSettled : List ℕ → Type 0
 IsRunSettled left = IsFalse (list_all is_run_byte left)
 
--- why nothing goes on after these tokens, whatever comes after what is left of a text of this
--- length
+-- why nothing goes on after these tokens, whatever comes after what is left of a text of this length
 abbrev pub IsSettledStop : Reason → ℕ → List Token → List ℕ → ℕ → Type 0
 IsSettledStop BadCharacter total ts left skip = IsFlaw BadCharacter left skip
 IsSettledStop BadNumber total ts left skip = IsFlaw BadNumber left skip × IsRunSettled left
@@ -164,16 +158,13 @@ pub record IsSettledRefusal (bytes : List ℕ) (number place : ℕ) : Type 0 whe
   pub is_number : number ≡ reason_number reason
   pub is_place : place + length left ≡ length bytes + skip
 
--- nothing that is settled refuses the bytes: the settled tokens before are viable, and no refusal
--- is settled
+-- nothing that is settled refuses the bytes: the settled tokens before are viable, and no refusal is settled
 pub record IsTakenSoFar (bytes : List ℕ) : Type 0 where
-  pub viable : (ts : List Token) (left : List ℕ) → SettledFronts (length bytes) bytes ts left →
-      IsViable ts
+  pub viable : (ts : List Token) (left : List ℕ) → SettledFronts (length bytes) bytes ts left → IsViable ts
   pub unrefused : (number place : ℕ) → ¬ (IsSettledRefusal bytes number place)
 
--- why a piece after these bytes isn't taken, and which bytes are held then: the refusal is settled,
--- and was settled before where the piece isn't held; out of memory, the bytes are as before, and
--- nothing settled refuses them
+-- why a piece after these bytes isn't taken, and which bytes are held then: the refusal is settled, and was settled
+-- before where the piece isn't held; out of memory, the bytes are as before, and nothing settled refuses them
 abbrev pub IsPieceFault : List ℕ → List ℕ → List ℕ → Fault → Type 0
 IsPieceFault bytes piece held (faults.Refused refusal) =
     IsSettledRefusal held refusal.number refusal.place × ((held ≡ bytes ++ piece) ⊎ (held ≡ bytes))

@@ -56,10 +56,9 @@ pub record IsLongestUtf8 (bytes : List ℕ) (n : ℕ) : Type 0 where
 pub data Kind : Type 0 where
   number text word : Kind
 
--- A token: a single one with its raw bytes, a comma, or an opening or closing
--- delimiter, square or round. A place counts bytes from the text's first, which
--- is 0. The raw bytes of a quoted text are those between its quotes, each quote
--- inside still doubled; those of a number or word are the bytes themselves.
+-- A token: a single one with its raw bytes, a comma, or an opening or closing delimiter, square or round. A place
+-- counts bytes from the text's first, which is 0. The raw bytes of a quoted text are those between its quotes, each
+-- quote inside still doubled; those of a number or word are the bytes themselves.
 pub data Token : Type 0 where
   single : (kind : Kind) (place : ℕ) (raw : List ℕ) → Token
   comma : Token
@@ -87,11 +86,9 @@ abbrev pub IsWord : List ℕ → Type 0
 IsWord [] = ⊥
 IsWord (b ∷ bs) = IsTrue (is_letter b) × IsTrue (list_all is_word_byte bs)
 
--- the raw bytes of a single token: a run that is a number
--- within the bounds, the inside of a text in UTF-8, a word
+-- the raw bytes of a single token: a run that is a number within the bounds, the inside of a text in UTF-8, a word
 abbrev pub IsSingle : Kind → List ℕ → Type 0
-IsSingle number raw =
-    BeginsWith is_run_start raw × IsTrue (list_all is_run_byte raw) × IsInBounds raw
+IsSingle number raw = BeginsWith is_run_start raw × IsTrue (list_all is_run_byte raw) × IsInBounds raw
 IsSingle text raw = IsInside raw × IsUtf8 raw
 IsSingle word raw = IsWord raw
 
@@ -125,8 +122,7 @@ IsFormed comma = Unit {0}
 IsFormed (opening square) = Unit {0}
 IsFormed (closing place square) = Unit {0}
 
--- a byte that a token of this kind would take if it came next; for a text this is the quote, which
--- would be doubled
+-- a byte that a token of this kind would take if it came next; for a text this is the quote, which would be doubled
 abbrev pub takes_byte : Kind → ℕ → Bool
 takes_byte number = is_run_byte
 takes_byte text = is_quote

@@ -10,11 +10,9 @@ IsViable ts = (more : List Token) × (item : Item) × AreNode item (ts ++ more)
 
 -- some tokens after these complete them to one node, however many delimiters are open at once
 abbrev pub IsViableAtAnyDepth : List Token → Type 0
-IsViableAtAnyDepth ts =
-    (more : List Token) × (item : Item) × IsNode item × (ts ++ more ≡ tokens item)
+IsViableAtAnyDepth ts = (more : List Token) × (item : Item) × IsNode item × (ts ++ more ≡ tokens item)
 
--- the delimiters that are open after one more token: an opening
--- one is added, a closing one takes the last opened away
+-- the delimiters that are open after one more token: an opening one is added, a closing one takes the last opened away
 abbrev pub open_after : List Bool → Token → List Bool
 open_after held (single kind place raw) = held
 open_after held comma = held
@@ -71,8 +69,7 @@ MayFollow (Some comma) held t = IsSingleToken t
 MayFollow (Some (single word _ _)) [] t = IsOpening t
 -- after any other word a comma, the closing delimiter of the
 -- last open one, or an opening one where fewer than 12 are open
-MayFollow (Some (single word _ _)) (square ∷ held) t =
-    GoesOn square t ⊎ (IsOpening t × (length (square ∷ held) < 12))
+MayFollow (Some (single word _ _)) (square ∷ held) t = GoesOn square t ⊎ (IsOpening t × (length (square ∷ held) < 12))
 -- after the root's end nothing
 MayFollow (Some _) [] t = ⊥
 -- after any other token a comma or the closing delimiter of the last open one

@@ -20,8 +20,7 @@ abbrev mutual
   -- each single token and each keyword in the item is well formed
   pub AreFormed : Item → Type 0
   AreFormed (leaf kind place raw) = IsSingle kind raw
-  AreFormed (node place keyword square first others close) =
-      IsWord keyword × AreFormed first × AreAllFormed others
+  AreFormed (node place keyword square first others close) = IsWord keyword × AreFormed first × AreAllFormed others
 
   -- each single token and each keyword in these items is well formed
   pub AreAllFormed : Siblings → Type 0

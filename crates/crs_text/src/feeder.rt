@@ -58,8 +58,7 @@ impl Feeder {
     /// later call answers it, and no later piece is held. `Memory`: the piece counts as not fed.
     /// Time is linear in the text, however it is cut.
     pub fn feed(&mut self, piece: &[u8]) -> Result<(), Fault>
-        ensures { MatchResult result
-            (λ _. (self.new ≡ self.old ++ piece.now) × IsTakenSoFar self.new)
+        ensures { MatchResult result (λ _. (self.new ≡ self.old ++ piece.now) × IsTakenSoFar self.new)
             (IsPieceFault self.old piece.now self.new) }
     {
         refused(&self.refusal)?;

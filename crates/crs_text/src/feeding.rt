@@ -60,8 +60,7 @@ fn is_settled(left: &[u8], lexed: Lexed) -> bool
 // isn't settled.
 fn settle_all(table: &mut Table, text: &[u8], from: usize) -> Result<usize, Fault>
     requires { IsSettledTo text.now table.old from }
-    ensures { MatchResult result
-        (λ at. IsSettledTo text.now table.new at × IsUnsettledAt text.now at)
+    ensures { MatchResult result (λ at. IsSettledTo text.now table.new at × IsUnsettledAt text.now at)
         (IsSettledFault text.now) }
 {
     let mut at = from;

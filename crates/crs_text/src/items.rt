@@ -147,8 +147,7 @@ impl<'a> Items<'a> {
         self.row(id).count
     }
 
-    /// The characters of a number or word, a node's keyword, the inside of a quoted text with its
-    /// quotes still doubled.
+    /// The characters of a number or word, a node's keyword, the inside of a quoted text with its quotes still doubled.
     pub fn raw(&self, id: ItemId) -> &'a [u8]
         requires { HasId self.now id }
         ensures { result.now ≡ raw_of (first_of (here self.now id)) }

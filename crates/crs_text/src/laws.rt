@@ -24,8 +24,7 @@ pub fn viability()
 
     // Only the limit refuses an opening delimiter directly after a word.
     ensures full { (ts : List Token) (square : Bool) → IsViable ts →
-        ((IsViableAtAnyDepth (ts ++ opening square ∷ []) × ¬ (IsViable (ts ++ opening square ∷ [])))
-        ↔ IsFull ts) }
+        ((IsViableAtAnyDepth (ts ++ opening square ∷ []) × ¬ (IsViable (ts ++ opening square ∷ []))) ↔ IsFull ts) }
 {}
 
 /// Tokens are those of one item at most, and begin with one item at most. Profile.
@@ -56,8 +55,7 @@ pub fn one_answer()
     crs_decimal::laws::decided();
 }
 
-/// The written text of a well-formed node spells that node, and what a text spells is well formed.
-/// Profile.
+/// The written text of a well-formed node spells that node, and what a text spells is well formed. Profile.
 pub fn written_items()
     ensures spells { WrittenSpells }
     ensures formed { (bytes : List ℕ) (item : Item) → SpellsNode bytes item → AreFormed item }
@@ -77,8 +75,7 @@ pub fn worked_examples()
     ensures settled { AreSettledRows }
 {}
 
-/// A refusal that is settled is that of the text and of every text that begins so; bytes have one at
-/// most. Profile.
+/// A refusal that is settled is that of the text and of every text that begins so; bytes have one at most. Profile.
 pub fn settled_refusals()
     ensures refusal { (bytes : List ℕ) (n place : ℕ) → IsSettledRefusal bytes n place → RefusesText bytes n place }
     ensures one { (bytes : List ℕ) (n m place other : ℕ) →

@@ -89,8 +89,7 @@ pub(crate) fn plain_text(left: &[u8]) -> Option<Lexed>
 
 /// How many bytes in front are well-formed UTF-8: `Err` where no bytes to come complete the others. Profile.
 pub(crate) fn valid_length(bytes: &[u8]) -> Result<usize, usize>
-    ensures { MatchResult result
-        (λ n. IsValidTo bytes.now n × IsUtf8Front bytes.now)
+    ensures { MatchResult result (λ n. IsValidTo bytes.now n × IsUtf8Front bytes.now)
         (λ n. ¬ (IsUtf8Front bytes.now) × IsLongestUtf8 bytes.now n) }
 {
     match validate(bytes) {

@@ -4,8 +4,7 @@ ghost use Rattle.crs_text.specs.Refusal.{is_before, is_refusal, name_of};
 
 use std::marker::Model;
 
-/// A refusal: its number, and the place of the fault in bytes from the text's first, which is 0.
-/// Profile.
+/// A refusal: its number, and the place of the fault in bytes from the text's first, which is 0. Profile.
 #[derive(Clone, Copy, Debug, PartialEq, Eq)]
 pub struct Refusal {
     // As wide as a machine word, so that a refusal has no padding, which would be copied with it.

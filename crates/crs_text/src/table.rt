@@ -75,8 +75,7 @@ impl Model for Table {
 
     ghost view = { λ t. record { rows = t.rows.items; opens = held t.depth t.opens; progress = t.progress } };
 
-    ghost invariant = { λ t. (t.depth ≤ 12)
-        × IsRoomy (view t) };
+    ghost invariant = { λ t. (t.depth ≤ 12) × IsRoomy (view t) };
 }
 
 impl Table {

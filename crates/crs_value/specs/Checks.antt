@@ -36,8 +36,7 @@ FirstIs Is (item ∷ items) = Is item
 -- before it; none where there is no fault
 abbrev pub IsLeast : (RefusedAt → Type 0) → Option RefusedAt → Type 0
 IsLeast Fault None = (fault : RefusedAt) → ¬ (Fault fault)
-IsLeast Fault (Some least) =
-    Fault least × ((fault : RefusedAt) → Fault fault → IsFalse (is_before fault least))
+IsLeast Fault (Some least) = Fault least × ((fault : RefusedAt) → Fault fault → IsFalse (is_before fault least))
 
 -- ---- 22: each node of some classes after the first of its class
 
@@ -61,13 +60,11 @@ IsAboveZero value = (value.negative ≡ false) × (value.digits ≢ 0)
 
 -- a number that isn't above zero
 abbrev pub NotAbove : Item → RefusedAt → Type 0
-NotAbove item fault =
-    (fault ≡ at 28 item) × ((value : Value) × (ReadsNumber item value × ¬ (IsAboveZero value)))
+NotAbove item fault = (fault ≡ at 28 item) × ((value : Value) × (ReadsNumber item value × ¬ (IsAboveZero value)))
 
 -- a number below zero
 abbrev pub IsNegative : Item → RefusedAt → Type 0
-IsNegative item fault =
-    (fault ≡ at 28 item) × ((value : Value) × (ReadsNumber item value × (value.negative ≡ true)))
+IsNegative item fault = (fault ≡ at 28 item) × ((value : Value) × (ReadsNumber item value × (value.negative ≡ true)))
 
 -- ---- 27: a unit that is missing, doesn't fit, or is beside a shared one
 
@@ -92,8 +89,7 @@ LacksUnit axis fault = (fault ≡ at 27 axis) × (units_in axis ≡ [])
 
 -- a unit on an axis that isn't of the kind that the axis asks for
 abbrev pub Misfits : Item → Item → Item → RefusedAt → Type 0
-Misfits cs axis unit fault =
-    (fault ≡ at 27 unit) × ((kind : UnitKind) × (Asks cs axis kind × ¬ (Fits unit kind)))
+Misfits cs axis unit fault = (fault ≡ at 27 unit) × ((kind : UnitKind) × (Asks cs axis kind × ¬ (Fits unit kind)))
 
 -- with no shared unit: an axis without a unit, or a unit that doesn't fit
 abbrev pub BadOwnUnit : Item → Item → RefusedAt → Type 0
@@ -123,8 +119,7 @@ BadShared cs axes unit fault = (fault ≡ at 27 unit) × ¬ (SharedFits cs axes 
 -- where no unit is shared the axes' own are judged, else the shared one and those beside it
 abbrev pub BadUnit : List Item → List Item → Item → RefusedAt → Type 0
 BadUnit axes [] cs fault = AnyOf (BadOwnUnit cs) axes fault
-BadUnit axes (unit ∷ units) cs fault =
-    AnyOf HasOwnUnit axes fault ⊎ BadShared cs axes unit fault
+BadUnit axes (unit ∷ units) cs fault = AnyOf HasOwnUnit axes fault ⊎ BadShared cs axes unit fault
 
 -- ---- 23: a type and dimension of a coordinate system that the CRS doesn't allow
 
@@ -150,8 +145,7 @@ IsUnsteady part fault = fault ≡ at 29 part
 
 -- an ensemble is among the arguments, and beside it a dynamic part, which is refused
 abbrev pub BadDynamic : Class → Item → RefusedAt → Type 0
-BadDynamic c item fault =
-    HasEnsemble c item × AnyOf IsUnsteady (those c class.Dynamic (arguments item)) fault
+BadDynamic c item fault = HasEnsemble c item × AnyOf IsUnsteady (those c class.Dynamic (arguments item)) fault
 
 -- ---- 21: a type or a direction that is no such word
 
@@ -161,8 +155,7 @@ UnknownType item fault = (fault ≡ at 21 item) × ((value : SystemType) → ¬ 
 
 -- the word for the direction of an axis is none, and is refused at its first byte
 abbrev pub UnknownDirection : Item → RefusedAt → Type 0
-UnknownDirection item fault =
-    (fault ≡ at 21 item) × ((value : Direction) → ¬ (ReadsDirection item value))
+UnknownDirection item fault = (fault ≡ at 21 item) × ((value : Direction) → ¬ (ReadsDirection item value))
 
 -- ---- 25: the number of axes isn't the dimension
 
@@ -176,8 +169,7 @@ AxisCount axes cs fault =
 
 -- the CRS's node `CS` has a known type that isn't ellipsoidal
 abbrev pub IsNotEllipsoidal : Item → Type 0
-IsNotEllipsoidal cs =
-    (type_read : SystemType) × (HasType cs type_read × (type_read ≢ types.Ellipsoidal))
+IsNotEllipsoidal cs = (type_read : SystemType) × (HasType cs type_read × (type_read ≢ types.Ellipsoidal))
 
 -- the dimension of the node `CS` isn't 2
 abbrev pub IsNotPlane : Item → Type 0
@@ -191,8 +183,7 @@ IsNotHorizontal class.GeodeticCrs cs = IsNotEllipsoidal cs ⊎ IsNotPlane cs
 IsNotHorizontal class.GeographicCrs cs = IsNotEllipsoidal cs ⊎ IsNotPlane cs
 IsNotHorizontal other cs = IsNotPlane cs
 
--- a compound's part of this class, refused where its node `CS`
--- is one that a horizontal part may not have
+-- a compound's part of this class, refused where its node `CS` is one that a horizontal part may not have
 abbrev pub BadComponent : Class → Item → RefusedAt → Type 0
 BadComponent c part fault =
     (fault ≡ at 24 part)
@@ -200,8 +191,7 @@ BadComponent c part fault =
 
 -- a part of one of these classes among a compound's arguments is refused
 abbrev pub BadComponents : List Class → Siblings → RefusedAt → Type 0
-BadComponents cs items fault =
-    OneIs (λ c. AnyOf (BadComponent c) (those class.CompoundCrs c items) fault) cs
+BadComponents cs items fault = OneIs (λ c. AnyOf (BadComponent c) (those class.CompoundCrs c items) fault) cs
 
 -- ---- 26: an order on some axes and not on all, or orders that aren't the whole numbers from 1 on, each once
 
@@ -242,8 +232,7 @@ abbrev pub IsWrongOrder : ℕ → List Item → Item → Type 0
 IsWrongOrder n before order =
     (value : Value) × (ReadsOrder order value × (¬ (IsPosition n value) ⊎ OneHas value before))
 
--- an order that is no position among n axes, or that an axis
--- before has, is refused at its first byte
+-- an order that is no position among n axes, or that an axis before has, is refused at its first byte
 abbrev pub IsBadOrder : ℕ → List Item → Item → RefusedAt → Type 0
 IsBadOrder n before order fault = (fault ≡ at 26 order) × IsWrongOrder n before order
 
@@ -254,8 +243,7 @@ BadOrders n before (axis ∷ axes) fault =
     AnyOf (IsBadOrder n before) (orders_in axis) fault
     ⊎ BadOrders n (before ++ axis ∷ []) axes fault
 
--- some axes have an order, and this one lacks it; or all have one, and this is no position or is
--- repeated
+-- some axes have an order, and this one lacks it; or all have one, and this is no position or is repeated
 abbrev pub BadOrder : List Item → RefusedAt → Type 0
 BadOrder axes fault =
     (SomeHasOrder axes × AnyOf LacksOrder axes fault)
@@ -280,8 +268,7 @@ abbrev pub OfAxes : List Item → List Item → List Item → RefusedAt → Type
 OfAxes systems axes units fault = BadOrder axes fault ⊎ AnyOf (BadUnit axes units) systems fault
 
 -- the checks of a coordinate system: the nodes `CS`, the axes and the shared units
-abbrev pub BadSystems : (SystemType → List ℕ) → List Item → List Item → List Item → RefusedAt →
-    Type 0
+abbrev pub BadSystems : (SystemType → List ℕ) → List Item → List Item → List Item → RefusedAt → Type 0
 BadSystems dimensions systems axes units fault =
     AnyOf (OfHead dimensions axes) systems fault ⊎ OfAxes systems axes units fault
 
@@ -299,18 +286,15 @@ horizontal_classes = class.GeodeticCrs ∷ class.GeographicCrs ∷ class.Project
 
 -- the checks of a compound CRS
 abbrev pub OfCompound : Siblings → RefusedAt → Type 0
-OfCompound items fault =
-    RepeatsAny class.CompoundCrs items once fault ⊎ BadComponents horizontal_classes items fault
+OfCompound items fault = RepeatsAny class.CompoundCrs items once fault ⊎ BadComponents horizontal_classes items fault
 
 -- the check of a unit: its factor is above zero
 abbrev pub OfUnit : Class → Item → RefusedAt → Type 0
 OfUnit c item fault = AnyOf NotAbove (those c class.Number (arguments item)) fault
 
--- the checks of an ellipsoid: its semi-major axis is above
--- zero, and its inverse flattening isn't below
+-- the checks of an ellipsoid: its semi-major axis is above zero, and its inverse flattening isn't below
 abbrev pub OfEllipsoid : List Item → RefusedAt → Type 0
-OfEllipsoid numbers fault =
-    AnyOf NotAbove (take 1 numbers) fault ⊎ AnyOf IsNegative (drop 1 numbers) fault
+OfEllipsoid numbers fault = AnyOf NotAbove (take 1 numbers) fault ⊎ AnyOf IsNegative (drop 1 numbers) fault
 
 -- the checks that a node of this class breaks by itself
 unfoldable pub Own : Class → Item → RefusedAt → Type 0
@@ -322,8 +306,7 @@ Own class.BaseCrs item fault = BadDynamic class.BaseCrs item fault
 Own class.CompoundCrs item fault = OfCompound (arguments item) fault
 Own class.GeodeticFrame item fault = RepeatsAny class.GeodeticFrame (arguments item) anchors fault
 Own class.VerticalFrame item fault = RepeatsAny class.VerticalFrame (arguments item) anchors fault
-Own class.Ellipsoid item fault =
-    OfEllipsoid (those class.Ellipsoid class.Number (arguments item)) fault
+Own class.Ellipsoid item fault = OfEllipsoid (those class.Ellipsoid class.Number (arguments item)) fault
 Own class.LengthUnit item fault = OfUnit class.LengthUnit item fault
 Own class.AngleUnit item fault = OfUnit class.AngleUnit item fault
 Own class.ScaleUnit item fault = OfUnit class.ScaleUnit item fault
@@ -331,8 +314,7 @@ Own class.PlainUnit item fault = OfUnit class.PlainUnit item fault
 Own class.AxisUnit item fault = OfUnit class.AxisUnit item fault
 Own class.CoordinateSystem item fault =
     AnyOf UnknownType (those class.CoordinateSystem class.Word (arguments item)) fault
-Own class.Axis item fault =
-    AnyOf UnknownDirection (those class.Axis class.Word (arguments item)) fault
+Own class.Axis item fault = AnyOf UnknownDirection (those class.Axis class.Word (arguments item)) fault
 Own other item fault = ⊥
 
 -- what holds at an item's class, where it has one

@@ -30,8 +30,7 @@ is_a parent c item = is_class c (class_in parent item)
 -- the arguments that are of this class in their parent, in order
 abbrev pub those : Class → Class → Siblings → List Item
 those parent c End = []
-those parent c (More item items) =
-    if is_a parent c item then item ∷ those parent c items else those parent c items
+those parent c (More item items) = if is_a parent c item then item ∷ those parent c items else those parent c items
 
 -- the value is read from the first of these items
 abbrev pub ReadsFirst : {V : Type 0} → (Item → V → Type 0) → List Item → V → Type 0
@@ -63,21 +62,18 @@ ReadsOne Reads d c item value = ReadsFirst (Reads d) (those c d (arguments item)
 
 -- the value is read from the first argument of class `d` of an item
 -- of class `c`, and there is none where there is no such argument
-abbrev pub ReadsIfAny : {V : Type 0} → (Class → Item → V → Type 0) → Class → Class → Item →
-    Option V → Type 0
+abbrev pub ReadsIfAny : {V : Type 0} → (Class → Item → V → Type 0) → Class → Class → Item → Option V → Type 0
 ReadsIfAny Reads d c item value = ReadsOptional (Reads d) (those c d (arguments item)) value
 
 -- a value is read from each argument of class `d` of an item of class `c`, in order
-abbrev pub ReadsAll : {V : Type 0} → (Class → Item → V → Type 0) → Class → Class → Item →
-    List V → Type 0
+abbrev pub ReadsAll : {V : Type 0} → (Class → Item → V → Type 0) → Class → Class → Item → List V → Type 0
 ReadsAll Reads d c item values = ReadsEach (Reads d) (those c d (arguments item)) values
 
 -- the value is read from the first argument of class `d` of an item
 -- of class `c`, and where there is none as the rest says of the item
 abbrev pub ReadsOneElse : {V : Type 0} → (Class → Item → V → Type 0) → Class →
     (Class → Item → V → Type 0) → Class → Item → V → Type 0
-ReadsOneElse Reads d Otherwise c item value =
-    ReadsElse (Reads d) (those c d (arguments item)) (Otherwise c item) value
+ReadsOneElse Reads d Otherwise c item value = ReadsElse (Reads d) (those c d (arguments item)) (Otherwise c item) value
 
 -- ---- what identifiers say, and nodes that have a name and identifiers alone
 
@@ -87,8 +83,7 @@ ReadsText item characters = raw_of item ≡ characters
 
 -- the node's text
 abbrev pub ReadsTextOf : Class → Item → List ℕ → Type 0
-ReadsTextOf c item characters =
-    ReadsFirst ReadsText (those c class.Text (arguments item)) characters
+ReadsTextOf c item characters = ReadsFirst ReadsText (those c class.Text (arguments item)) characters
 
 -- an item that is no node, as a list of one; any other gives none
 abbrev pub single_of : Siblings → List Item
@@ -110,8 +105,7 @@ pub record ReadsIdent (c : Class) (item : Item) (parts : IdentParts) : Type 0 wh
 
 -- the identifiers of a node
 abbrev pub ReadsIds : Class → Item → List IdentParts → Type 0
-ReadsIds c item identifiers =
-    ReadsAll ReadsIdent class.Identifier c item identifiers
+ReadsIds c item identifiers = ReadsAll ReadsIdent class.Identifier c item identifiers
 
 -- a node that has a name and identifiers alone
 pub record ReadsNamed (c : Class) (item : Item) (parts : NamedParts) : Type 0 where

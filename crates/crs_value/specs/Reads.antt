@@ -38,8 +38,7 @@ ReadsNumberOf c item value = ReadsFirst ReadsNumber (those c class.Number (argum
 
 -- the number at this place among the node's numbers, the first at 0
 abbrev pub ReadsNumberAt : ℕ → Class → Item → Value → Type 0
-ReadsNumberAt k c item value =
-    ReadsFirst ReadsNumber (drop k (those c class.Number (arguments item))) value
+ReadsNumberAt k c item value = ReadsFirst ReadsNumber (drop k (those c class.Number (arguments item))) value
 
 -- ---- nodes
 
@@ -55,8 +54,7 @@ pub record ReadsAxisMeridian (c : Class) (item : Item) (parts : AxisMeridianPart
   pub longitude : ReadsNumberOf c item parts.longitude
   pub unit : ReadsOne ReadsUnit class.AngleUnit c item parts.unit
 
--- an axis: its name and direction, its meridian, order and
--- unit, where they are written, and its identifiers
+-- an axis: its name and direction, its meridian, order and unit, where they are written, and its identifiers
 pub record ReadsAxis (c : Class) (item : Item) (parts : AxisParts) : Type 0 where
   pub name : ReadsTextOf c item parts.name
   pub direction : ReadsFirst ReadsDirection (those c class.Word (arguments item)) parts.direction
@@ -67,8 +65,7 @@ pub record ReadsAxis (c : Class) (item : Item) (parts : AxisParts) : Type 0 wher
 
 -- the node `CS` has this type
 abbrev pub HasType : Item → SystemType → Type 0
-HasType cs value =
-    ReadsFirst ReadsType (those class.CoordinateSystem class.Word (arguments cs)) value
+HasType cs value = ReadsFirst ReadsType (those class.CoordinateSystem class.Word (arguments cs)) value
 
 -- the node `CS` has this dimension
 abbrev pub HasDimension : Item → Value → Type 0
@@ -86,8 +83,7 @@ pub record ReadsSystem (c : Class) (item : Item) (parts : SystemParts) : Type 0 
   pub axes : ReadsAll ReadsAxis class.Axis c item parts.axes
   pub unit : ReadsIfAny ReadsUnit class.AxisUnit c item parts.unit
 
--- an ellipsoid: its name, its semi-major axis, its inverse
--- flattening, its unit, if one is written, and its identifiers
+-- an ellipsoid: its name, its semi-major axis, its inverse flattening, its unit, if one is written, and its identifiers
 pub record ReadsEllipsoid (c : Class) (item : Item) (parts : EllipsoidParts) : Type 0 where
   pub name : ReadsTextOf c item parts.name
   pub semi_major_axis : ReadsNumberAt 0 c item parts.semi_major_axis
@@ -95,8 +91,7 @@ pub record ReadsEllipsoid (c : Class) (item : Item) (parts : EllipsoidParts) : T
   pub unit : ReadsIfAny ReadsUnit class.LengthUnit c item parts.unit
   pub identifiers : ReadsIds c item parts.identifiers
 
--- a prime meridian: its name, its longitude, the unit of that,
--- if one is written, and its identifiers
+-- a prime meridian: its name, its longitude, the unit of that, if one is written, and its identifiers
 pub record ReadsMeridian (c : Class) (item : Item) (parts : MeridianParts) : Type 0 where
   pub name : ReadsTextOf c item parts.name
   pub longitude : ReadsNumberOf c item parts.longitude
@@ -112,8 +107,7 @@ pub record ReadsDatum (c : Class) (item : Item) (parts : DatumParts) : Type 0 wh
   pub anchor_epoch : ReadsIfAny ReadsNumberOf class.AnchorEpoch c item parts.anchor_epoch
   pub identifiers : ReadsIds c item parts.identifiers
 
--- a datum ensemble: its name, its members in order, its
--- ellipsoid, if one is written, its accuracy and its identifiers
+-- a datum ensemble: its name, its members in order, its ellipsoid, if one is written, its accuracy and its identifiers
 pub record ReadsEnsemble (c : Class) (item : Item) (parts : EnsembleParts) : Type 0 where
   pub name : ReadsTextOf c item parts.name
   pub members : ReadsAll ReadsNamed class.Member c item parts.members
@@ -121,8 +115,7 @@ pub record ReadsEnsemble (c : Class) (item : Item) (parts : EnsembleParts) : Typ
   pub accuracy : ReadsOne ReadsNumberOf class.EnsembleAccuracy c item parts.accuracy
   pub identifiers : ReadsIds c item parts.identifiers
 
--- a bounding box: its southern latitude, western longitude,
--- northern latitude and eastern longitude, in this order
+-- a bounding box: its southern latitude, western longitude, northern latitude and eastern longitude, in this order
 pub record ReadsBox (c : Class) (item : Item) (parts : BoxParts) : Type 0 where
   pub south : ReadsNumberAt 0 c item parts.south
   pub west : ReadsNumberAt 1 c item parts.west
@@ -174,15 +167,13 @@ abbrev pub ReadsAsUnit : Class → Item → Option UnitParts → Type 0
 ReadsAsUnit d item None = ⊥
 ReadsAsUnit d item (Some unit) = ReadsUnit d item unit
 
--- the unit is the argument of one of these classes, if there
--- is one; a node of the right shape has one at most
+-- the unit is the argument of one of these classes, if there is one; a node of the right shape has one at most
 abbrev pub ReadsUnitOf : List Class → Class → Item → Option UnitParts → Type 0
 ReadsUnitOf [] c item None = Unit {0}
 ReadsUnitOf [] c item (Some unit) = ⊥
 ReadsUnitOf (d ∷ ds) c item unit = ReadsOneElse ReadsAsUnit d (ReadsUnitOf ds) c item unit
 
--- a parameter of a conversion: its name, its number, the unit
--- of that, if one is written, and its identifiers
+-- a parameter of a conversion: its name, its number, the unit of that, if one is written, and its identifiers
 pub record ReadsParameter (c : Class) (item : Item) (parts : ParameterParts) : Type 0 where
   pub name : ReadsTextOf c item parts.name
   pub value : ReadsNumberOf c item parts.value

@@ -28,13 +28,11 @@ abbrev pub ReadsAsEnsemble : Class → Item → Frame → Type 0
 ReadsAsEnsemble e item (frame.Datum datum) = ⊥
 ReadsAsEnsemble e item (frame.Ensemble ensemble) = ReadsEnsemble e item ensemble
 
--- the frame of a CRS: its reference frame, of the one class,
--- or where there is none its ensemble, of the other
+-- the frame of a CRS: its reference frame, of the one class, or where there is none its ensemble, of the other
 abbrev pub ReadsFrame : Class → Class → Class → Item → Frame → Type 0
 ReadsFrame d e = ReadsOneElse ReadsAsDatum d (ReadsOne ReadsAsEnsemble e)
 
--- the frame of a geodetic CRS or of a base CRS: its geodetic
--- reference frame, or else its datum ensemble
+-- the frame of a geodetic CRS or of a base CRS: its geodetic reference frame, or else its datum ensemble
 abbrev pub ReadsGeodeticFrame : Class → Item → Frame → Type 0
 ReadsGeodeticFrame = ReadsFrame class.GeodeticFrame class.GeodeticEnsemble
 
@@ -48,8 +46,7 @@ IsGeodeticClass class.GeodeticCrs = Unit {0}
 IsGeodeticClass class.GeographicCrs = Unit {0}
 IsGeodeticClass other = ⊥
 
--- a geodetic or geographic CRS: its name, dynamic part, frame,
--- prime meridian, coordinate system and end
+-- a geodetic or geographic CRS: its name, dynamic part, frame, prime meridian, coordinate system and end
 pub record ReadsGeodetic (c : Class) (item : Item) (parts : GeodeticParts) : Type 0 where
   pub name : ReadsTextOf c item parts.name
   pub dynamic : ReadsIfAny ReadsDynamic class.Dynamic c item parts.dynamic
@@ -87,10 +84,8 @@ pub record ReadsVertical (c : Class) (item : Item) (parts : VerticalParts) : Typ
 
 -- the item is a horizontal CRS of this class, and this is its value
 abbrev pub ReadsAsHorizontal : Class → Item → Horizontal → Type 0
-ReadsAsHorizontal c item (horizontal.Geodetic geodetic) =
-    IsGeodeticClass c × ReadsGeodetic c item geodetic
-ReadsAsHorizontal c item (horizontal.Projected projected) =
-    (c ≡ class.ProjectedCrs) × ReadsProjected c item projected
+ReadsAsHorizontal c item (horizontal.Geodetic geodetic) = IsGeodeticClass c × ReadsGeodetic c item geodetic
+ReadsAsHorizontal c item (horizontal.Projected projected) = (c ≡ class.ProjectedCrs) × ReadsProjected c item projected
 
 -- a compound's horizontal part: its geodetic, geographic or projected CRS
 abbrev pub ReadsHorizontal : Class → Item → Horizontal → Type 0
@@ -109,8 +104,7 @@ pub record ReadsCompound (c : Class) (item : Item) (parts : CompoundParts) : Typ
 -- the value of a whole text of this class
 abbrev pub ReadsCrs : Class → Item → Crs → Type 0
 ReadsCrs c item (crs.Geodetic geodetic) = IsGeodeticClass c × ReadsGeodetic c item geodetic
-ReadsCrs c item (crs.Projected projected) =
-    (c ≡ class.ProjectedCrs) × ReadsProjected c item projected
+ReadsCrs c item (crs.Projected projected) = (c ≡ class.ProjectedCrs) × ReadsProjected c item projected
 ReadsCrs c item (crs.Vertical vertical) = (c ≡ class.VerticalCrs) × ReadsVertical c item vertical
 ReadsCrs c item (crs.Compound compound) = (c ≡ class.CompoundCrs) × ReadsCompound c item compound
 

@@ -26,8 +26,7 @@ pub record IsIdent (ident : IdentParts) : Type 0 where
   pub citation : IfSome ident.citation IsText
   pub uri : IfSome ident.uri IsText
 
--- what is asked of a value that has a name and identifiers alone:
--- its name is a text, and its identifiers are as asked
+-- what is asked of a value that has a name and identifiers alone: its name is a text, and its identifiers are as asked
 pub record IsNamed (named : NamedParts) : Type 0 where
   pub name : IsText named.name
   pub identifiers : Each IsIdent named.identifiers
@@ -111,8 +110,7 @@ abbrev pub AreDistinct : List Value → Type 0
 AreDistinct [] = Unit {0}
 AreDistinct (order ∷ orders) = Each (λ other. order ≢ other) orders × AreDistinct orders
 
--- no axis has an order; or all have one, and these are whole
--- numbers from 1 to the number of axes, each once
+-- no axis has an order; or all have one, and these are whole numbers from 1 to the number of axes, each once
 abbrev pub HasOrders : List AxisParts → Type 0
 HasOrders axes =
     Each (λ axis. axis.order ≡ None) axes
@@ -136,13 +134,10 @@ SuitsAll system_type axes unit =
     (kind : UnitKind)
     × (Each (λ axis. asked_kind system_type axis.direction ≡ kind) axes × Suits kind unit.kind)
 
--- with no shared unit each axis has one of its own that fits;
--- else none has one, and the shared one fits all
+-- with no shared unit each axis has one of its own that fits; else none has one, and the shared one fits all
 abbrev pub HasUnits : SystemType → List AxisParts → Option UnitParts → Type 0
-HasUnits system_type axes None =
-    Each (λ axis. IsSomeAnd axis.unit (SuitsAxis system_type axis)) axes
-HasUnits system_type axes (Some shared) =
-    Each (λ axis. axis.unit ≡ None) axes × SuitsAll system_type axes shared
+HasUnits system_type axes None = Each (λ axis. IsSomeAnd axis.unit (SuitsAxis system_type axis)) axes
+HasUnits system_type axes (Some shared) = Each (λ axis. axis.unit ≡ None) axes × SuitsAll system_type axes shared
 
 -- ---- a coordinate system
 
@@ -150,8 +145,7 @@ HasUnits system_type axes (Some shared) =
 abbrev pub IsAllowed : (SystemType → List ℕ) → SystemParts → Type 0
 IsAllowed dimensions system = IsOneOf system.dimension (dimensions system.system_type)
 
--- what is asked of a coordinate system: it has an axis, and as
--- many as its dimension says; its orders and units fit
+-- what is asked of a coordinate system: it has an axis, and as many as its dimension says; its orders and units fit
 pub record IsSystem (system : SystemParts) : Type 0 where
   pub dimension : IsNormal system.dimension
   pub identifiers : Each IsIdent system.identifiers

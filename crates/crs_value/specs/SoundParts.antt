@@ -25,8 +25,7 @@ pub record IsConversion (conversion : ConversionParts) : Type 0 where
 
 -- ---- what is asked of dynamic parts by themselves
 
--- what is asked of a dynamic part: its epoch is a decimal in
--- its normal form, and its model, if it has one, is as asked
+-- what is asked of a dynamic part: its epoch is a decimal in its normal form, and its model, if it has one, is as asked
 pub record IsDynamic (dynamic : DynamicParts) : Type 0 where
   pub epoch : IsNormal dynamic.epoch
   pub model : IfSome dynamic.model IsNamed
@@ -51,8 +50,7 @@ pub record IsMeridian (meridian : MeridianParts) : Type 0 where
   pub unit : IfSome meridian.unit (IsUnitOf kinds.Angle)
   pub identifiers : Each IsIdent meridian.identifiers
 
--- what is asked of a reference frame: what it has of an
--- ellipsoid, an anchor and its epoch is as asked
+-- what is asked of a reference frame: what it has of an ellipsoid, an anchor and its epoch is as asked
 pub record IsDatum (datum : DatumParts) : Type 0 where
   pub name : IsText datum.name
   pub ellipsoid : IfSome datum.ellipsoid IsEllipsoid

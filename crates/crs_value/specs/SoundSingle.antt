@@ -26,8 +26,7 @@ IsDynamicOf None held = Unit {0}
 IsDynamicOf (Some dynamic) (frame.Datum datum) = IsDynamic dynamic
 IsDynamicOf (Some dynamic) (frame.Ensemble ensemble) = ⊥
 
--- what is asked of a geodetic CRS: its dimension is one that
--- it may have with the type of its coordinate system
+-- what is asked of a geodetic CRS: its dimension is one that it may have with the type of its coordinate system
 pub record IsGeodetic (geodetic : GeodeticParts) : Type 0 where
   pub name : IsText geodetic.name
   pub dynamic : IsDynamicOf geodetic.dynamic geodetic.frame
@@ -46,8 +45,7 @@ pub record IsBase (base : BaseParts) : Type 0 where
   pub unit : IfSome base.unit (IsUnitOf kinds.Angle)
   pub identifiers : Each IsIdent base.identifiers
 
--- what is asked of a projected CRS: its dimension is one that
--- it may have with the type of its coordinate system
+-- what is asked of a projected CRS: its dimension is one that it may have with the type of its coordinate system
 pub record IsProjected (projected : ProjectedParts) : Type 0 where
   pub name : IsText projected.name
   pub base : IsBase projected.base
@@ -56,8 +54,7 @@ pub record IsProjected (projected : ProjectedParts) : Type 0 where
   pub dimension : IsAllowed (dimensions_of class.ProjectedCrs) projected.system
   pub tail : IsTail projected.tail
 
--- what is asked of a vertical CRS: its dimension is one that
--- it may have with the type of its coordinate system
+-- what is asked of a vertical CRS: its dimension is one that it may have with the type of its coordinate system
 pub record IsVertical (vertical : VerticalParts) : Type 0 where
   pub name : IsText vertical.name
   pub dynamic : IsDynamicOf vertical.dynamic vertical.frame

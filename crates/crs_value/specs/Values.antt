@@ -30,8 +30,7 @@ pub record AxisParts : Type 0 where
   pub unit : Option UnitParts
   pub identifiers : List IdentParts
 
--- a coordinate system: its axes as they are written, and the
--- unit that they share, if they share one
+-- a coordinate system: its axes as they are written, and the unit that they share, if they share one
 pub record SystemParts : Type 0 where
   pub system_type : SystemType
   pub dimension : Value
@@ -92,8 +91,7 @@ pub record UsageParts : Type 0 where
 
 -- a usage has one of its parts at least
 abbrev pub SaysSome : UsageParts → Type 0
-SaysSome usage =
-    IsSome usage.scope ⊎ (IsSome usage.area ⊎ (IsSome usage.bbox ⊎ IsSome usage.extent))
+SaysSome usage = IsSome usage.scope ⊎ (IsSome usage.area ⊎ (IsSome usage.bbox ⊎ IsSome usage.extent))
 
 -- a CRS's end: its usages, the one whose parts are bare, if any is, its identifiers and its remark
 pub record TailParts : Type 0 where
@@ -120,8 +118,7 @@ pub record ConversionParts : Type 0 where
 
 -- ---- what a dynamic frame says, as it is written
 
--- the epoch at which the coordinates of the frame's points hold, and the
--- model by which they move, if one is written
+-- the epoch at which the coordinates of the frame's points hold, and the model by which they move, if one is written
 pub record DynamicParts : Type 0 where
   pub epoch : Value
   pub model : Option NamedParts

@@ -71,8 +71,7 @@ pub(crate) fn any_from<C: Check>(
     requires holds { Holds items.now from }
     requires fits { C.Fits check.now items.now class }
     requires shaped { AllShaped class (from_found items.now parent class from) }
-    ensures { IsLeast (AnyOf (C.Broken check.now items.now)
-        (from_found items.now parent class from)) result }
+    ensures { IsLeast (AnyOf (C.Broken check.now items.now) (from_found items.now parent class from)) result }
 {
     let mut least = None;
     let mut at = from;

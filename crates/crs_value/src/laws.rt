@@ -36,8 +36,7 @@ pub fn members_read_once()
 
 /// An item that spells a value isn't refused. Profile.
 pub fn spelled_or_refused()
-    ensures { (item : Item) (value : Crs) (fault : RefusedAt) → SpellsCrs item value → ¬
-        (RefusesCrs item fault) }
+    ensures { (item : Item) (value : Crs) (fault : RefusedAt) → SpellsCrs item value → ¬ (RefusesCrs item fault) }
 {}
 
 /// An item is refused with one number at one place at most. Profile.
@@ -47,13 +46,11 @@ pub fn refused_once()
     crs_shape::laws::fault_at_root_is_one();
 }
 
-/// A text spells one value at most, or is refused with one number at one place at most, and never both.
-/// Profile.
+/// A text spells one value at most, or is refused with one number at one place at most, and never both. Profile.
 pub fn one_answer()
     ensures value { (text : List ℕ) (a b : Crs) → Spells text a → Spells text b → a ≡ b }
     ensures refusal { (text : List ℕ) (a b : RefusedAt) → Refuses text a → Refuses text b → a ≡ b }
-    ensures apart { (text : List ℕ) (value : Crs) (fault : RefusedAt) → Spells text value → ¬
-        (Refuses text fault) }
+    ensures apart { (text : List ℕ) (value : Crs) (fault : RefusedAt) → Spells text value → ¬ (Refuses text fault) }
 
     // A refusal has a number from 1 to 8, 11 to 13 or 21 to 29, and a place in the text or at its end.
     ensures within { (text : List ℕ) (fault : RefusedAt) → Refuses text fault → IsRefusalNumber fault.number ×

@@ -58,8 +58,7 @@ pub fn gather_all<T: Spell, M: MembersPart<T>>(
     level: Level,
 ) -> Result<(), AllocError>
     requires { M.Hold members }
-    ensures { OnOk result ((values : List T) → M.Say members values →
-        spellings sorted.new.keys
+    ensures { OnOk result ((values : List T) → M.Say members values → spellings sorted.new.keys
         ≡ put_all (λ b. b) (spellings sorted.old.keys) (map (T.spelling level) values)) }
 {
     let mut left = members;

@@ -37,8 +37,7 @@ fn text_at(bytes: &[u8], span: Span) -> &[u8]
 // How many of the ordered texts go before a text. None: it is one of them.
 fn place_of(text: &[u8], bytes: &[u8], spans: &[Span]) -> Option<usize>
     requires { AreInOrder bytes.now spans.now }
-    ensures { MatchOption result
-        (put (λ b. b) text.now (texts_at bytes.now spans.now) ≡ texts_at bytes.now spans.now)
+    ensures { MatchOption result (put (λ b. b) text.now (texts_at bytes.now spans.now) ≡ texts_at bytes.now spans.now)
         (λ at. (at ≤ length spans.now) × (put (λ b. b) text.now (texts_at bytes.now spans.now)
         ≡ take at (texts_at bytes.now spans.now) ++ text.now ∷ drop at (texts_at bytes.now spans.now))) }
 {

@@ -9,8 +9,7 @@ use Rattle.crs_c.specs.Each.{IsAnsweredBy, NeedsMore}
 abbrev pub with_bytes : ℕ → List ℕ → List ℕ → List ℕ
 with_bytes at bytes out = take at out ++ (bytes ++ drop (at + length bytes) out)
 
--- an entry whose text is refused, with code 0 for the turn; without a refusal there was no memory,
--- with code 3
+-- an entry whose text is refused, with code 0 for the turn; without a refusal there was no memory, with code 3
 abbrev pub refused_entry : ℕ → Option RefusedAt → Entry → Entry × ℕ
 refused_entry at (Some refusal) entry =
     (record entry { written_end = at; place = refusal.place; number = refusal.number; code = 1 }, 0)

@@ -9,8 +9,7 @@ published_digest_of bytes = finish (write (with_keys 0x0706050403020100 0x0f0e0d
 
 -- the bytes 0 to 14
 abbrev pub fifteen_bytes : List ℕ
-fifteen_bytes =
-    0 ∷ 1 ∷ 2 ∷ 3 ∷ 4 ∷ 5 ∷ 6 ∷ 7 ∷ 8 ∷ 9 ∷ 10 ∷ 11 ∷ 12 ∷ 13 ∷ 14 ∷ []
+fifteen_bytes = 0 ∷ 1 ∷ 2 ∷ 3 ∷ 4 ∷ 5 ∷ 6 ∷ 7 ∷ 8 ∷ 9 ∷ 10 ∷ 11 ∷ 12 ∷ 13 ∷ 14 ∷ []
 
 -- digests as they are published for that key
 abbrev pub DigestsArePublished : Type 0

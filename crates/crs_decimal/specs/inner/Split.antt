@@ -40,17 +40,12 @@ abbrev pub exponent_of : List ℕ → Option Exponent
 exponent_of [] = None
 exponent_of (b ∷ bytes) =
     if is_exponent_letter b
-    then Some (record {
-      letter = b;
-      sign = sign_of bytes;
-      digits = leading_digits (behind_sign bytes);
-    }) else None
+    then Some (record { letter = b; sign = sign_of bytes; digits = leading_digits (behind_sign bytes) }) else None
 
 -- what follows the exponent in front
 abbrev pub behind_exponent : List ℕ → List ℕ
 behind_exponent [] = []
-behind_exponent (b ∷ bytes) =
-    if is_exponent_letter b then behind_digits (behind_sign bytes) else b ∷ bytes
+behind_exponent (b ∷ bytes) = if is_exponent_letter b then behind_digits (behind_sign bytes) else b ∷ bytes
 
 -- what follows the sign and the digits in front
 abbrev pub behind_whole : List ℕ → List ℕ

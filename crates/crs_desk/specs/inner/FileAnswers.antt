@@ -12,8 +12,7 @@ use Rattle.crs_desk.specs.declared.runs.files.FileTask.{FileTask}
 
 -- all that is written ends in a line feed
 unfoldable pub Ends : Outputs → Type 0
-Ends Output =
-    (text line : List ℕ) (status : ℕ) → Output text line status → EndsInFeed line
+Ends Output = (text line : List ℕ) (status : ℕ) → Output text line status → EndsInFeed line
 
 -- nothing is written for a file that fails
 abbrev pub NoFront : List ℕ → List ℕ → Type 0
@@ -26,8 +25,7 @@ IsAnswerSent Output prefix known before after status =
     × Appends before.contents after.contents written × IsHealthy after
 
 -- the sink got what is written for a file that fails
-abbrev pub IsFrontSent : (List ℕ → List ℕ → Type 0) → PrefixParts → Option (List ℕ) → SinkState →
-    SinkState → Type 0
+abbrev pub IsFrontSent : (List ℕ → List ℕ → Type 0) → PrefixParts → Option (List ℕ) → SinkState → SinkState → Type 0
 IsFrontSent Front prefix known before after =
     (written : List ℕ) × IsFileFront Front prefix known written
     × Appends before.contents after.contents written × IsHealthy after
@@ -35,14 +33,11 @@ IsFrontSent Front prefix known before after =
 -- what the fault of a file says
 abbrev pub IsFileFault : (List ℕ → List ℕ → Type 0) → PrefixParts → Option (List ℕ) → SinkState →
     SinkState → RunFault → Type 0
-IsFileFault Front prefix known before after WriteFailed =
-    (after.failed ≡ true) × (after.past_failure ≡ false)
+IsFileFault Front prefix known before after WriteFailed = (after.failed ≡ true) × (after.past_failure ≡ false)
 IsFileFault Front prefix known before after Memory = IsHealthy after
 IsFileFault Front prefix known before after ReadFailed = IsFrontSent Front prefix known before after
-IsFileFault Front prefix known before after (TooLong line) =
-    IsFrontSent Front prefix known before after
-IsFileFault Front prefix known before after TooManyReads =
-    IsFrontSent Front prefix known before after
+IsFileFault Front prefix known before after (TooLong line) = IsFrontSent Front prefix known before after
+IsFileFault Front prefix known before after TooManyReads = IsFrontSent Front prefix known before after
 
 -- the sink got the output of a file
 abbrev pub IsFileSent : FileTask → PrefixParts → Option (List ℕ) → SinkState → SinkState → ℕ → Type 0

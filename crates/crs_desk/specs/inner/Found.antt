@@ -9,12 +9,9 @@ use Rattle.crs_same.specs.Paths.{path_text}
 -- what is written of the first part that differs
 abbrev pub WritesPart : Option (List Step) → List ℕ → ℕ → Type 0
 WritesPart None written status = IsLine (codes "same") 0 written status
-WritesPart (Some path) written status =
-    IsLine (codes "different " ++ path_text path) 1 written status
+WritesPart (Some path) written status = IsLine (codes "different " ++ path_text path) 1 written status
 
 -- what is written for a kind or a refusal that was found
 abbrev pub WritesFound : Result Kind RefusedAt → List ℕ → ℕ → Type 0
-WritesFound (Ok found) written status =
-    IsLine (codes "accepted " ++ kind_word found) 0 written status
-WritesFound (Err refusal) written status =
-    IsLine (refused_text refusal.number refusal.place) 1 written status
+WritesFound (Ok found) written status = IsLine (codes "accepted " ++ kind_word found) 0 written status
+WritesFound (Err refusal) written status = IsLine (refused_text refusal.number refusal.place) 1 written status

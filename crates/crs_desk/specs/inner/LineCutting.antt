@@ -68,8 +68,7 @@ pub record IsCut (old : WriterParts) (before after : SinkState) (fault : RunFaul
   pub is_failed : after.failed ≡ true
   pub is_first : IsHealthy before → after.past_failure ≡ false
 
--- what is written for the lines of these bytes was sent or is kept; the last line has ended, or
--- this is the end
+-- what is written for the lines of these bytes was sent or is kept; the last line has ended, or this is the end
 pub record IsPutOut (Output : Outputs) (end : Bool) (before : SinkState) (bytes : List ℕ)
     (writer : WriterParts) (after : SinkState) : Type 0 where
   pub texts : List (List ℕ)
@@ -112,5 +111,4 @@ IsStopped Output end before bytes after WriteFailed =
 IsStopped Output end before bytes after (TooLong number) =
     IsHealthy after × LongLineAfter Output bytes number before after
 IsStopped Output end before bytes after TooManyReads = ⊥
-IsStopped Output end before bytes after Memory =
-    IsHealthy after × HasSent Output bytes end before after []
+IsStopped Output end before bytes after Memory = IsHealthy after × HasSent Output bytes end before after []

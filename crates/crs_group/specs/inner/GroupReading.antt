@@ -16,8 +16,7 @@ use Rattle.crs_streams.specs.Streams.{HasGivenAll, IsAskedFor, SourceState, Sink
 use Rattle.crs_group.specs.declared.listing.Listing.{Listing}
 use Rattle.crs_group.specs.declared.summary.Summary.{Summary}
 
--- a catalogue of numbered lines, their names if they have any, how many lines there are, and how
--- many of them are blank
+-- a catalogue of numbered lines, their names if they have any, how many lines there are, and how many of them are blank
 pub record LedgerParts : Type 0 where
   pub catalogue : CatalogueParts
   pub names : List (List ℕ)

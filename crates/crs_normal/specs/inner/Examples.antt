@@ -190,8 +190,7 @@ with_remark =
     codes "VERTCRS[\"H\",VDATUM[\"D\"],CS[vertical,1],"
     ++ codes "AXIS[\"h\",up,ORDER[1],LENGTHUNIT[\"metre\",1]],REMARK[\"r\"]]"
 
--- these are normal where everything counts, and not by definition: what is at the end, and
--- identifiers anywhere
+-- these are normal where everything counts, and not by definition: what is at the end, and identifiers anywhere
 abbrev pub AreNormalAtFullAlone : Type 0
 AreNormalAtFullAlone =
     SaysMore unit_with_identifier

@@ -13,23 +13,19 @@ use Rattle.crs_value.specs.Values.{AxisParts, SystemParts}
 use Rattle.crs_same.specs.SameParts.{HasAt, SameValue}
 use Rattle.crs_normal.specs.inner.SpelledCrs.{is_number}
 
--- normal values are equal where their numbers are, each has one plain spelling, and a number is
--- tested by it; a written item is the only one that its text spells; and each position of a
--- coordinate system has one axis
+-- normal values are equal where their numbers are, each has one plain spelling, and a number is tested by it; a written
+-- item is the only one that its text spells; and each position of a coordinate system has one axis
 pub record LowerLaws : Type 0 where
   pub one_form : (bytes : List ℕ) (p q : Parts) → SpellsNumber bytes p → SpellsNumber bytes q → p ≡ q
   pub run : (bytes : List ℕ) → HasForm bytes → IsRun bytes
-  pub digits_alone : (bytes : List ℕ) → AreDigits bytes → 0 < length bytes → length bytes ≤ 18 →
-      IsInBounds bytes
+  pub digits_alone : (bytes : List ℕ) → AreDigits bytes → 0 < length bytes → length bytes ≤ 18 → IsInBounds bytes
   pub denotes_one : (bytes : List ℕ) (a b : Value) → IsNormal a → IsNormal b →
       Denotes bytes (exact a) → Denotes bytes (exact b) → a ≡ b
   pub is_plain : (v : Value) → IsNormal v → IsPlain (plain v)
   pub denotes : (v : Value) → IsNormal v → Denotes (plain v) (exact v)
-  pub plain_one : (v : Value) (bytes : List ℕ) → IsNormal v → IsPlain bytes →
-      Denotes bytes (exact v) → bytes ≡ plain v
+  pub plain_one : (v : Value) (bytes : List ℕ) → IsNormal v → IsPlain bytes → Denotes bytes (exact v) → bytes ≡ plain v
   pub zero_plain : plain zero ≡ codes "0"
-  pub normal_is_one : (a b : Value) → IsNormal a → IsNormal b →
-      SameNumber (exact a) (exact b) ↔ (a ≡ b)
+  pub normal_is_one : (a b : Value) → IsNormal a → IsNormal b → SameNumber (exact a) (exact b) ↔ (a ≡ b)
   pub symmetric : (a b : Number) → SameNumber a b → SameNumber b a
   pub transitive : (a b c : Number) → SameNumber a b → SameNumber b c → SameNumber a c
   pub tested : (v : Value) (n : ℕ) → IsNormal v → n < 2 ^ 64 →

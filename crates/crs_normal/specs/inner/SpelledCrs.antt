@@ -23,16 +23,14 @@ use Rattle.crs_value.specs.declared.values.crs.Crs.TheVariants as crs
 
 -- the meridian of an axis: its unit is one of angle
 abbrev pub norm_axis_meridian : Level → AxisMeridianParts → AxisMeridianParts
-norm_axis_meridian level m =
-    record { longitude = m.longitude; unit = norm_unit level kinds.Angle m.unit }
+norm_axis_meridian level m = record { longitude = m.longitude; unit = norm_unit level kinds.Angle m.unit }
 
 -- the meridian of an axis, which may be missing
 abbrev pub norm_axis_meridians : Level → Option AxisMeridianParts → Option AxisMeridianParts
 norm_axis_meridians level None = None
 norm_axis_meridians level (Some m) = Some (norm_axis_meridian level m)
 
--- the axis at a position of a system: with its position as order, and its own unit or the shared
--- one
+-- the axis at a position of a system: with its position as order, and its own unit or the shared one
 unfoldable pub norm_axis : Level → SystemParts → ℕ → AxisParts → AxisParts
 norm_axis level system k axis = record {
   name = axis.name;
@@ -68,8 +66,7 @@ with_axis level system k (Some axis) rest = norm_axis level system k axis ∷ re
 -- the axes at `n` positions from k on
 abbrev pub axes_from : Level → SystemParts → ℕ → ℕ → List AxisParts
 axes_from level system k zero = []
-axes_from level system k (suc n) =
-    with_axis level system k (axis_at k 1 system.axes) (axes_from level system (k + 1) n)
+axes_from level system k (suc n) = with_axis level system k (axis_at k 1 system.axes) (axes_from level system (k + 1) n)
 
 -- a coordinate system: its axes by position, each with its order and its own unit; none is shared
 abbrev pub norm_system : Level → SystemParts → SystemParts
@@ -83,8 +80,7 @@ norm_system level s = record {
 
 -- the meridian of an axis as a node: longitude, unit
 abbrev pub item_axis_meridian : AxisMeridianParts → Item
-item_axis_meridian m =
-    node_of (codes "MERIDIAN") (number_item m.longitude) (More (item_unit m.unit) End)
+item_axis_meridian m = node_of (codes "MERIDIAN") (number_item m.longitude) (More (item_unit m.unit) End)
 
 -- an axis as a node: name, direction, meridian, order, unit, identifiers
 abbrev pub item_axis : AxisParts → Item
@@ -132,8 +128,7 @@ item_parameter p =
 
 -- the parameters of a conversion, as a set
 unfoldable pub set_parameters : Level → List ParameterParts → List ParameterParts
-set_parameters level parameters =
-    in_order (λ p. item_text (item_parameter p)) (map (norm_parameter level) parameters)
+set_parameters level parameters = in_order (λ p. item_text (item_parameter p)) (map (norm_parameter level) parameters)
 
 -- a conversion, with its parameters as a set
 abbrev pub norm_conversion : Level → ConversionParts → ConversionParts
@@ -159,30 +154,25 @@ norm_geoid_model level g = record { name = g.name; identifiers = set_idents leve
 
 -- a geoid model as a node: name, identifiers
 abbrev pub item_geoid_model : GeoidModelParts → Item
-item_geoid_model g =
-    node_of (codes "GEOIDMODEL") (text_item g.name) (each item_ident g.identifiers End)
+item_geoid_model g = node_of (codes "GEOIDMODEL") (text_item g.name) (each item_ident g.identifiers End)
 
 -- the geoid models of a vertical CRS, as a set
 unfoldable pub set_geoid_models : Level → List GeoidModelParts → List GeoidModelParts
-set_geoid_models level models =
-    in_order (λ g. item_text (item_geoid_model g)) (map (norm_geoid_model level) models)
+set_geoid_models level models = in_order (λ g. item_text (item_geoid_model g)) (map (norm_geoid_model level) models)
 
 -- ---- a bridge: dynamic parts in their one form, and as items
 
 -- a deformation model, with the identifiers that the level keeps
 abbrev pub norm_deformation_model : Level → DeformationModelParts → DeformationModelParts
-norm_deformation_model level m =
-    record { name = m.name; identifiers = set_idents level m.identifiers }
+norm_deformation_model level m = record { name = m.name; identifiers = set_idents level m.identifiers }
 
 -- a deformation model as a node: name, identifiers
 abbrev pub item_deformation_model : DeformationModelParts → Item
-item_deformation_model m =
-    node_of (codes "MODEL") (text_item m.name) (each item_ident m.identifiers End)
+item_deformation_model m = node_of (codes "MODEL") (text_item m.name) (each item_ident m.identifiers End)
 
 -- the dynamic part of a CRS: the epoch of its frame, and its deformation model
 abbrev pub norm_dynamic : Level → DynamicParts → DynamicParts
-norm_dynamic level d =
-    record { epoch = d.epoch; model = option_map (norm_deformation_model level) d.model }
+norm_dynamic level d = record { epoch = d.epoch; model = option_map (norm_deformation_model level) d.model }
 
 -- the dynamic part of a CRS as a node: the epoch of its frame, and its deformation model
 abbrev pub item_dynamic : DynamicParts → Item

@@ -1,5 +1,4 @@
--- A bridge: ellipsoids, prime meridians, reference frames and ensembles in their one form, and as
--- items.
+-- A bridge: ellipsoids, prime meridians, reference frames and ensembles in their one form, and as items.
 use Rattle.std.specs.Prelude.{ℕ, ◌==◌, Bool, List, Option, Some, None, codes, map, if◌then◌else◌}
 use Rattle.std.specs.Option.{option_map}
 use Rattle.crs_decimal.specs.Numbers.{Value}
@@ -74,8 +73,7 @@ item_member m = node_of (codes "MEMBER") (text_item m.name) (each item_ident m.i
 
 -- the members of an ensemble, as a set
 unfoldable pub set_members : Level → List MemberParts → List MemberParts
-set_members level members =
-    in_order (λ m. item_text (item_member m)) (map (norm_member level) members)
+set_members level members = in_order (λ m. item_text (item_member m)) (map (norm_member level) members)
 
 -- ---- frames
 

@@ -38,8 +38,7 @@ in_order bytes xs = put_all bytes [] xs
 -- a list agree on those of the list in order
 pub record StaysInOrder {A : Type 0} (bytes : A → List ℕ) : Type 0 where
   pub twice : (xs : List A) → in_order bytes (in_order bytes xs) ≡ in_order bytes xs
-  pub alike : (f g : A → A) (xs : List A) → Each (λ x. f x ≡ g x) xs →
-      Each (λ x. f x ≡ g x) (in_order bytes xs)
+  pub alike : (f g : A → A) (xs : List A) → Each (λ x. f x ≡ g x) xs → Each (λ x. f x ≡ g x) (in_order bytes xs)
 
 -- ---- a bridge: the pieces of which canonical items are made. All places are 0, since a written text doesn't depend on them
 
@@ -141,18 +140,12 @@ item_unit u =
 
 -- a vertical extent, with its unit written; in a usage the unit keeps its identifiers at each level
 abbrev pub norm_extent : Level → ExtentParts → ExtentParts
-norm_extent level e =
-    record { minimum = e.minimum; maximum = e.maximum; unit = Some (norm_length level e.unit) }
+norm_extent level e = record { minimum = e.minimum; maximum = e.maximum; unit = Some (norm_length level e.unit) }
 
 -- a usage, with the unit of its vertical extent written
 abbrev pub norm_usage : UsageParts → UsageParts
 norm_usage u =
-    record {
-      scope = u.scope;
-      area = u.area;
-      bbox = u.bbox;
-      extent = option_map (norm_extent levels.Full) u.extent;
-    }
+    record { scope = u.scope; area = u.area; bbox = u.bbox; extent = option_map (norm_extent levels.Full) u.extent }
 
 -- a bounding box as a node: south, west, north, east
 abbrev pub item_box : BoxParts → Item
@@ -175,11 +168,9 @@ item_usage u =
 
 -- the usages that the level keeps, as a set
 unfoldable pub set_usages : Level → List UsageParts → List UsageParts
-set_usages level usages =
-    in_order (λ u. item_text (item_usage u)) (map norm_usage (kept level usages))
+set_usages level usages = in_order (λ u. item_text (item_usage u)) (map norm_usage (kept level usages))
 
--- the end of a CRS: the usages and identifiers that the level keeps, as sets, the bare parts as one
--- more usage
+-- the end of a CRS: the usages and identifiers that the level keeps, as sets, the bare parts as one more usage
 abbrev pub norm_tail : Level → TailParts → TailParts
 norm_tail level t = record {
   usages = set_usages level (usages_of t);

@@ -7,8 +7,7 @@ use Rattle.crs_normal.specs.CanonicalForm.{IsCanonicalForm}
 pub record IsWrittenForm {V : Type 0} (IsValue : V → Type 0) (Same : V → V → Type 0)
     (IsSpelling : V → List ℕ → Type 0) (text : V → List ℕ) : Type 0 where
   pub form : IsCanonicalForm IsValue Same IsSpelling
-  pub written : (value : V) (bytes : List ℕ) → IsValue value → bytes ≡ text value →
-      IsSpelling value bytes
+  pub written : (value : V) (bytes : List ℕ) → IsValue value → bytes ≡ text value → IsSpelling value bytes
 
 -- they are so at each level
 abbrev pub AreWrittenForms : {V : Type 0} → (V → Type 0) → (Level → V → V → Type 0) →

@@ -12,8 +12,7 @@ use Rattle.crs_rules.specs.Members.{MemberParts}
 
 -- whether two factors are equal: both are in their normal form
 abbrev pub factors_equal : Value → Value → Bool
-factors_equal a b =
-    beq a.negative b.negative && (nat_eq a.digits b.digits && int_eq a.power b.power)
+factors_equal a b = beq a.negative b.negative && (nat_eq a.digits b.digits && int_eq a.power b.power)
 
 -- whether two nodes say the same
 abbrev pub members_equal : MemberParts → MemberParts → Bool

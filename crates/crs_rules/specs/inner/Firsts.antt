@@ -26,10 +26,8 @@ IsFound firsts digest at = (first : ℕ) × (place_of firsts digest ≡ Some fir
 -- each of these, of which the first stands at this place, is found
 abbrev pub AreFound : {A : Type 0} → (A → ℕ) → List (ℕ × ℕ) → ℕ → List A → Type 0
 AreFound digest firsts at [] = Unit {0}
-AreFound digest firsts at (x ∷ xs) =
-    IsFound firsts (digest x) at × AreFound digest firsts (suc at) xs
+AreFound digest firsts at (x ∷ xs) = IsFound firsts (digest x) at × AreFound digest firsts (suc at) xs
 
 -- what has this digest and stands at this place is found, and all that was
 abbrev pub IsNoted : ℕ → ℕ → List (ℕ × ℕ) → List (ℕ × ℕ) → Type 0
-IsNoted digest at before behind =
-    IsFound behind digest at × ((d n : ℕ) → IsFound before d n → IsFound behind d n)
+IsNoted digest at before behind = IsFound behind digest at × ((d n : ℕ) → IsFound before d n → IsFound behind d n)

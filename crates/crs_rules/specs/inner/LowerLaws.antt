@@ -43,6 +43,5 @@ pub record FormLaws (level : Level) : Type 0 where
       IsCanonicalText level a first → IsCanonicalText level b second →
       (first ≡ second) ↔ SameCrs level a b
   pub normal : (crs : Crs) → IsCrs crs → IsNormalText level (item_text (item_crs (norm_crs level crs)))
-  pub accepted : (crs : Crs) → IsCrs crs →
-      Spells (item_text (item_crs (norm_crs level crs))) (norm_crs level crs)
+  pub accepted : (crs : Crs) → IsCrs crs → Spells (item_text (item_crs (norm_crs level crs))) (norm_crs level crs)
   pub one_form : (crs : Crs) → IsCrs crs → SameCrs level crs (norm_crs level crs)

@@ -114,8 +114,7 @@ pub record AgreeAxisIn (asked : UnitKind) (level : Level) (a b : AxisParts)
   pub unit : BothOrNeither (SameUnit asked level) first second
   pub identifiers : SameIdents level a.identifiers b.identifiers
 
--- two axes of two coordinate systems agree, each with
--- its own unit or the one that its system shares
+-- two axes of two coordinate systems agree, each with its own unit or the one that its system shares
 unfoldable pub AgreeAxis : Level → SystemParts → SystemParts → AxisParts → AxisParts → Type 0
 AgreeAxis level a b x y =
     AgreeAxisIn (asked_kind a.system_type x.direction) level x y (own_or x.unit a.unit)
@@ -123,13 +122,11 @@ AgreeAxis level a b x y =
 
 -- the axes at this position agree
 abbrev pub AgreeAt : Level → SystemParts → SystemParts → ℕ → Type 0
-AgreeAt level a b position =
-    HasAt position (λ x. HasAt position (λ y. AgreeAxis level a b x y) 1 b.axes) 1 a.axes
+AgreeAt level a b position = HasAt position (λ x. HasAt position (λ y. AgreeAxis level a b x y) 1 b.axes) 1 a.axes
 
 -- the axes at each position agree
 abbrev pub AgreeAxes : Level → SystemParts → SystemParts → Type 0
-AgreeAxes level a b =
-    (position : ℕ) → 1 ≤ position → position ≤ length a.axes → AgreeAt level a b position
+AgreeAxes level a b = (position : ℕ) → 1 ≤ position → position ≤ length a.axes → AgreeAt level a b position
 
 -- two coordinate systems agree: type, dimension, identifiers, and at each position the axis
 pub record AgreeSystem (level : Level) (a b : SystemParts) : Type 0 where
@@ -146,8 +143,7 @@ pub record AgreeTail (level : Level) (a b : TailParts) : Type 0 where
   pub identifiers : SameIdents level a.identifiers b.identifiers
   pub remark : SameRemark level a b
 
--- two geodetic CRSs agree: both are geographic or
--- neither is, and all their parts agree
+-- two geodetic CRSs agree: both are geographic or neither is, and all their parts agree
 pub record AgreeGeodetic (level : Level) (a b : GeodeticParts) : Type 0 where
   pub kind : kind_by a.system.system_type ≡ kind_by b.system.system_type
   pub name : a.name ≡ b.name
@@ -157,8 +153,7 @@ pub record AgreeGeodetic (level : Level) (a b : GeodeticParts) : Type 0 where
   pub system : AgreeSystem level a.system b.system
   pub tail : AgreeTail level a.tail b.tail
 
--- two base CRSs agree: all their parts do, and a
--- missing unit differs from each that is there
+-- two base CRSs agree: all their parts do, and a missing unit differs from each that is there
 pub record AgreeBase (level : Level) (a b : BaseParts) : Type 0 where
   pub name : a.name ≡ b.name
   pub dynamic : BothOrNeither (AgreeDynamic level) a.dynamic b.dynamic
@@ -197,8 +192,7 @@ pub record AgreeCompound (level : Level) (a b : CompoundParts) : Type 0 where
   pub vertical : AgreeVertical level a.vertical b.vertical
   pub tail : AgreeTail level a.tail b.tail
 
--- two CRSs have parts that agree: both are geodetic, projected,
--- vertical or compound, and agree as such
+-- two CRSs have parts that agree: both are geodetic, projected, vertical or compound, and agree as such
 abbrev pub AgreeParts : Level → Crs → Crs → Type 0
 AgreeParts level (crs.Geodetic a) (crs.Geodetic b) = AgreeGeodetic level a b
 AgreeParts level (crs.Projected a) (crs.Projected b) = AgreeProjected level a b
@@ -220,17 +214,13 @@ AgreesWith IsValue Same Agree = (a b : _) → IsValue a → IsValue b → Same a
 -- this holds for each kind of value
 pub record AgreeWhereSame (level : Level) : Type 0 where
   pub method : (a b : MethodParts) → AreSame parts_of_method level a b ↔ AgreeMethod level a b
-  pub conversion : (a b : ConversionParts) →
-      AreSame parts_of_conversion level a b ↔ AgreeConversion level a b
+  pub conversion : (a b : ConversionParts) → AreSame parts_of_conversion level a b ↔ AgreeConversion level a b
   pub dynamic : (a b : DynamicParts) → SameDynamic level a b ↔ AgreeDynamic level a b
-  pub ellipsoid : (a b : EllipsoidParts) →
-      AreSame parts_of_ellipsoid level a b ↔ AgreeEllipsoid level a b
+  pub ellipsoid : (a b : EllipsoidParts) → AreSame parts_of_ellipsoid level a b ↔ AgreeEllipsoid level a b
   pub given : (a b : MeridianParts) → AreSame parts_of_given level a b ↔ AgreeGiven level a b
-  pub meridian : (a b : Option MeridianParts) →
-      AreSame parts_of_meridian level a b ↔ AgreeMeridian level a b
+  pub meridian : (a b : Option MeridianParts) → AreSame parts_of_meridian level a b ↔ AgreeMeridian level a b
   pub datum : (a b : DatumParts) → AreSame parts_of_datum level a b ↔ AgreeDatum level a b
-  pub ensemble : (a b : EnsembleParts) →
-      AreSame parts_of_ensemble level a b ↔ AgreeEnsemble level a b
+  pub ensemble : (a b : EnsembleParts) → AreSame parts_of_ensemble level a b ↔ AgreeEnsemble level a b
   pub frame : (a b : Frame) → AreSame parts_of_frame level a b ↔ AgreeFrame level a b
   pub tail : (a b : TailParts) → AreSame parts_of_tail level a b ↔ AgreeTail level a b
   pub base : (a b : BaseParts) → AreSame parts_of_base level a b ↔ AgreeBase level a b
@@ -238,7 +228,6 @@ pub record AgreeWhereSame (level : Level) : Type 0 where
   pub geodetic : AgreesWith IsGeodetic (AreSame parts_of_geodetic level) (AgreeGeodetic level)
   pub projected : AgreesWith IsProjected (AreSame parts_of_projected level) (AgreeProjected level)
   pub vertical : AgreesWith IsVertical (AreSame parts_of_vertical level) (AgreeVertical level)
-  pub horizontal :
-      AgreesWith IsHorizontalPart (AreSame parts_of_horizontal level) (AgreeHorizontal level)
+  pub horizontal : AgreesWith IsHorizontalPart (AreSame parts_of_horizontal level) (AgreeHorizontal level)
   pub compound : AgreesWith IsCompound (AreSame parts_of_compound level) (AgreeCompound level)
   pub crs : AgreesWith IsCrs (SameCrs level) (AgreeCrs level)

@@ -24,8 +24,7 @@ IsOfAll other = Unit {0}
 
 -- what is found over these parts, where so much was found before
 abbrev pub Walks : Parts → Found → Found → Type 0
-Walks parts (found.First None) new =
-    (path : Option (List Step)) × (new ≡ found.First path) × First parts path
+Walks parts (found.First None) new = (path : Option (List Step)) × (new ≡ found.First path) × First parts path
 Walks parts (found.First (Some path)) new = new ≡ found.First (Some path)
 Walks parts (found.All before) new =
     IsRefused new

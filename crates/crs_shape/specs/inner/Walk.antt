@@ -73,14 +73,12 @@ abbrev pub step_to : Class → Option (List SlotParts) → Option (Class × List
 step_to c None = None
 step_to c (Some next) = Some (c, next)
 
--- the class of an argument of this class and the slots that are left after it, where it has one and
--- is allowed there
+-- the class of an argument of this class and the slots that are left after it, where it has one and is allowed there
 abbrev pub step_as : List SlotParts → Option Class → Option (Class × List SlotParts)
 step_as slots None = None
 step_as slots (Some c) = step_to c (after slots c)
 
--- the class of an item in its parent and the slots that are left after it, where it is allowed
--- there
+-- the class of an item in its parent and the slots that are left after it, where it is allowed there
 abbrev pub step_of : Class → List SlotParts → Item → Option (Class × List SlotParts)
 step_of parent slots item = step_as slots (class_in parent item)
 

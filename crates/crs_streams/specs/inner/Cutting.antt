@@ -2,8 +2,7 @@
 use Rattle.std.specs.Prelude.{◌≡◌, ◌⊎◌, ◌+◌, ◌<◌, ◌≤◌, ◌++◌, ◌∷◌, [], ℕ, List, length}
 use Rattle.crs_streams.specs.Lines.{AreLines, HasNoFeed, EndsInFeed, HasShortLines, IsTooLong, feeds}
 
--- the bytes are so many lines that have ended, of which none is too long, and the beginning of one
--- that has not
+-- the bytes are so many lines that have ended, of which none is too long, and the beginning of one that has not
 pub record AreCut (bytes ended partial : List ℕ) (lines : ℕ) : Type 0 where
   pub are_bytes : bytes ≡ ended ++ partial
   pub begins : (ended ≡ []) ⊎ EndsInFeed ended

@@ -74,8 +74,7 @@ IsPendingBefore left piece p = (before : List ℕ) × (left ≡ before ++ piece)
 
 -- what is left begins with nothing that is settled, whatever the text and the tokens before
 abbrev pub IsUnsettledIn : List ℕ → Type 0
-IsUnsettledIn left =
-    (total : ℕ) → length left ≤ total → (ts : List Token) → IsUnsettled total ts left
+IsUnsettledIn left = (total : ℕ) → length left ≤ total → (ts : List Token) → IsUnsettled total ts left
 
 -- what is left stays pending, and begins with no white space
 abbrev pub StaysPending : List ℕ → Pending → Type 0
@@ -93,8 +92,7 @@ pub record IsFedTo (text : List ℕ) (table : Flat) (held : Held) : Type 0 where
 
 -- what is settled of the text, without this piece at its end, is taken
 abbrev pub IsFedBefore : List ℕ → List ℕ → Flat → Held → Type 0
-IsFedBefore text piece table held =
-    (before : List ℕ) × (text ≡ before ++ piece) × IsFedTo before table held
+IsFedBefore text piece table held = (before : List ℕ) × (text ≡ before ++ piece) × IsFedTo before table held
 
 -- a fault that is a refusal is settled
 abbrev pub IsSettledFault : List ℕ → Fault → Type 0

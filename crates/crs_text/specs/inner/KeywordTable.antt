@@ -27,8 +27,7 @@ of_length n = filter (λ k. length (spelling_of k) == n) every_keyword
 -- the keyword among these that a word is, letter case aside
 abbrev pub first_among : List Spelled → List ℕ → Option Keyword
 first_among [] word = None
-first_among (s ∷ ss) word =
-    if str_eq_ignore_ascii_case s.word word then Some s.named else first_among ss word
+first_among (s ∷ ss) word = if str_eq_ignore_ascii_case s.word word then Some s.named else first_among ss word
 
 -- a capital
 abbrev pub is_capital : ℕ → Bool

@@ -22,8 +22,7 @@ pub record StandsBefore (kind : Kind) (raw left rest : List ℕ) : Type 0 where
 -- the bytes begin with this token, whose raw bytes have this length, or with this flaw
 abbrev pub IsLexed : List ℕ → Lexed → Type 0
 IsLexed left (Number n) = StandsBefore number (take n left) left (drop n left) × (n ≤ length left)
-IsLexed left (Text n) =
-    StandsBefore text (take n (drop 1 left)) left (drop (n + 2) left) × (n + 2 ≤ length left)
+IsLexed left (Text n) = StandsBefore text (take n (drop 1 left)) left (drop (n + 2) left) × (n + 2 ≤ length left)
 IsLexed left (Word n) = StandsBefore word (take n left) left (drop n left) × (n ≤ length left)
 IsLexed left Comma = left ≡ 44 ∷ drop 1 left
 IsLexed left (Opening square) = left ≡ opening_byte square ∷ drop 1 left

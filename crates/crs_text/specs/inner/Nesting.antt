@@ -30,8 +30,7 @@ IsHalted text at before behind =
     ⊎ ((square : Bool) × (rest : List ℕ) × Forms (length text) (opening square) (drop at text) rest
     × (length before ≡ 12)))
 
--- after these viable tokens what is left begins at the place, or with a text whose UTF-8 is
--- ill-formed there
+-- after these viable tokens what is left begins at the place, or with a text whose UTF-8 is ill-formed there
 pub record LeadsTo (text : List ℕ) (place : ℕ) (before : List Token) (left : List ℕ) : Type 0 where
   pub fronts : Fronts (length text) text before left
   pub viable : IsViable before

@@ -24,8 +24,7 @@ IsOneDigit (b ∷ rest) = IsTrue (is_digit b) × StopsAt is_run_byte rest
 
 -- a sign of so many bytes comes first; it has none where none is written
 abbrev pub IsSigned : List ℕ → ℕ → Type 0
-IsSigned left n =
-    (sign : Sign) × (left ≡ sign_text sign ++ drop n left) × (n ≡ length (sign_text sign))
+IsSigned left n = (sign : Sign) × (left ≡ sign_text sign ++ drop n left) × (n ≡ length (sign_text sign))
 
 -- a fraction of so many bytes comes first; it has none where none is written
 abbrev pub IsFractional : List ℕ → ℕ → Type 0

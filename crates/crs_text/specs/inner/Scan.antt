@@ -24,8 +24,7 @@ IsFurther text from table at = IsReached text table at × (from < at)
 
 -- the table shows the tokens before this place, at which white space may come
 abbrev pub IsPassed : List ℕ → Flat → ℕ → Type 0
-IsPassed text table at =
-    IsReached text table (at + prefix_len is_white (drop at text)) × (at ≤ length text)
+IsPassed text table at = IsReached text table (at + prefix_len is_white (drop at text)) × (at ≤ length text)
 
 -- the table takes the token of n bytes at this place
 pub record IsTaken (text : List ℕ) (at : ℕ) (before behind : Flat) (n : ℕ) : Type 0 where

@@ -24,12 +24,10 @@ pub data State : Type 0 where
 abbrev pub start : State
 start = wants []
 
--- the node of these arguments: those before the item, the last
--- of them first, the item, and those after it
+-- the node of these arguments: those before the item, the last of them first, the item, and those after it
 abbrev pub gather : ℕ → List ℕ → Bool → List Item → Item → Siblings → ℕ → Item
 gather place keyword square [] item later close = node place keyword square item later close
-gather place keyword square (b ∷ before) item later close =
-    gather place keyword square before b (More item later) close
+gather place keyword square (b ∷ before) item later close = gather place keyword square before b (More item later) close
 
 -- a state where the test holds, else none
 abbrev pub only_if : Bool → State → Option State
@@ -43,16 +41,14 @@ same_square true false = false
 same_square false true = false
 same_square false false = true
 
--- the state after a number, a text or a word: the first two
--- are complete, a word may begin a node yet
+-- the state after a number, a text or a word: the first two are complete, a word may begin a node yet
 abbrev pub behind_leaf : Kind → ℕ → List ℕ → List Frame → State
 behind_leaf number place raw fs = after (leaf number place raw) fs
 behind_leaf text place raw fs = after (leaf text place raw) fs
 behind_leaf word place raw fs = worded place raw fs
 
--- the state after a token that follows a complete item: a comma lets the next argument come, and
--- the closing delimiter of the node that the item is in completes that node; no other token is
--- allowed
+-- the state after a token that follows a complete item: a comma lets the next argument come, and the closing delimiter
+-- of the node that the item is in completes that node; no other token is allowed
 abbrev pub behind_item : Item → List Frame → Token → Option State
 behind_item item [] t = None
 behind_item item (f ∷ fs) (single kind place raw) = None
@@ -62,8 +58,7 @@ behind_item item (f ∷ fs) (closing place square) =
     only_if (same_square square f.square)
     (after (gather f.place f.keyword f.square f.before item End place) fs)
 
--- the state after one token more, with no more than `limit` delimiters open; none where it isn't
--- allowed
+-- the state after one token more, with no more than `limit` delimiters open; none where it isn't allowed
 abbrev pub step : ℕ → State → Token → Option State
 step limit (wants []) (single number place raw) = None
 step limit (wants []) (single text place raw) = None

@@ -1,5 +1,4 @@
--- A bridge: the table of items under construction: a row for
--- each item that has begun, and the nodes that are open.
+-- A bridge: the table of items under construction: a row for each item that has begun, and the nodes that are open.
 use Rattle.std.specs.Prelude.{◌≡◌, ℕ, zero, suc, ◌+◌, ◌-◌, ◌<◌, nat_lt, ◌&&◌, Bool, true, false, if◌then◌else◌, Option, Some, None, List, [], ◌∷◌, ◌++◌, length, slice_index_or, slice_set}
 use Rattle.crs_text.specs.Tokens.{Kind, number, text, word, Token, single, comma, opening, closing}
 use Rattle.crs_text.specs.Items.{keyword_at, Item, leaf, node, Siblings, End, More, arguments, count, kind_of_item, raw_of, place_of, size_of, keyword_in}
@@ -107,8 +106,7 @@ with_leaf f kind place raw = with_first f kind false place raw
 
 -- the table after a number, a text or a word; none where it isn't allowed
 abbrev pub flat_single : Flat → ItemKind → ℕ → List ℕ → Option Flat
-flat_single f kind place raw =
-    if may_begin f.progress f.opens kind then Some (with_leaf f kind place raw) else None
+flat_single f kind place raw = if may_begin f.progress f.opens kind then Some (with_leaf f kind place raw) else None
 
 -- an item has come within an open node
 abbrev pub may_go_on : Progress → List Open → Bool
@@ -146,10 +144,7 @@ with_open f square =
     (record f {
       rows =
           slice_set f.rows (length f.rows - 1)
-          (record (slice_index_or f.rows (length f.rows - 1) no_row) {
-            kind = Node;
-            square = square;
-          });
+          (record (slice_index_or f.rows (length f.rows - 1) no_row) { kind = Node; square = square });
     })
     (length f.rows - 1) square
 
@@ -203,8 +198,7 @@ IsStep (Some next) taken before behind = (taken ≡ true) × (behind ≡ next)
 -- how an opening delimiter is met: too deep where it follows a word inside 12 open ones
 abbrev pub IsOpened : Flat → Bool → Opened → Flat → Type 0
 IsOpened before square Taken behind = flat_open before square ≡ Some behind
-IsOpened before square TooDeep behind =
-    (before.progress ≡ AfterWord) × (length before.opens ≡ 12) × (behind ≡ before)
+IsOpened before square TooDeep behind = (before.progress ≡ AfterWord) × (length before.opens ≡ 12) × (behind ≡ before)
 IsOpened before square Refused behind = (before.progress ≡ AfterWord → ⊥) × (behind ≡ before)
 
 -- the table takes a word and then a square delimiter
@@ -228,8 +222,7 @@ abbrev pub AreRoomy : ℕ → List Open → Type 0
 AreRoomy n [] = Unit {0}
 AreRoomy n (o ∷ os) = (o.row + o.count < n) × AreRoomy n os
 
--- each open node has its row and below it as many as it has arguments, and after a word there is a
--- row
+-- each open node has its row and below it as many as it has arguments, and after a word there is a row
 pub record IsRoomy (f : Flat) : Type 0 where
   pub opens : AreRoomy (length f.rows) f.opens
   pub word : f.progress ≡ AfterWord → 0 < length f.rows
@@ -287,8 +280,7 @@ open_row f depth =
 -- the rows of the open nodes, each with those of its complete arguments
 abbrev pub rows_of_frames : List Frame → List Row
 rows_of_frames [] = []
-rows_of_frames (f ∷ fs) =
-    rows_of_frames fs ++ (open_row f (length fs) ∷ rows_before (suc (length fs)) f.before)
+rows_of_frames (f ∷ fs) = rows_of_frames fs ++ (open_row f (length fs) ∷ rows_before (suc (length fs)) f.before)
 
 -- an open node of a table: its row, its delimiter, and how many of its arguments have begun
 abbrev pub open_of : Frame → List Frame → ℕ → Open
@@ -315,11 +307,7 @@ flat (worded place raw fs) =
       progress = AfterWord;
     }
 flat (after item fs) =
-    record {
-      rows = rows_of_frames fs ++ rows (length fs) item;
-      opens = opens_of fs;
-      progress = AfterItem;
-    }
+    record { rows = rows_of_frames fs ++ rows (length fs) item; opens = opens_of fs; progress = AfterItem }
 
 -- these tokens are viable, and this is their table
 abbrev pub Shows : List Token → Flat → Type 0

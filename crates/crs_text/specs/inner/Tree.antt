@@ -123,8 +123,7 @@ skip-join (More item items) later = skip-join items later
 
 mutual
   -- the parts of an item, before others, give the item and then what the others give
-  forest-parts : (item : Item) (ps : List ItemPart) → forest (parts item ++ ps)
-      ≡ More item (forest ps)
+  forest-parts : (item : Item) (ps : List ItemPart) → forest (parts item ++ ps) ≡ More item (forest ps)
   forest-parts (leaf number place raw) ps = refl
   forest-parts (leaf text place raw) ps = refl
   forest-parts (leaf word place raw) ps = refl
@@ -183,8 +182,7 @@ item_kind_numbered (suc (suc zero)) = Word
 item_kind_numbered (suc (suc (suc n))) = Node
 
 -- a kind's stored number means that kind
-pub item_kind_numbered-number : (kind : ItemKind) → item_kind_numbered (item_kind_number kind)
-    ≡ kind
+pub item_kind_numbered-number : (kind : ItemKind) → item_kind_numbered (item_kind_number kind) ≡ kind
 item_kind_numbered-number Number = refl
 item_kind_numbered-number Text = refl
 item_kind_numbered-number Word = refl

@@ -37,8 +37,7 @@ TakesOne c d = IsTrue (is_bounded (is_same d) (slots_of c)) × (most (is_same d)
 abbrev pub RequiresOneOf : Class → List Class → Type 0
 RequiresOneOf c ds = 0 < least (λ d. list_any (λ e. is_same e d) ds) (slots_of c)
 
--- the number of the first of these arguments, which the later ones follow; none where there are
--- none
+-- the number of the first of these arguments, which the later ones follow; none where there are none
 abbrev pub IsFound : Item → Class → Class → List Item → Option ℕ → Type 0
 IsFound tree parent c items None = items ≡ []
 IsFound tree parent c items (Some id) =

@@ -26,8 +26,7 @@ is_in cs None = false
 is_in cs (Some d) = list_any (λ e. sameb the_type e d) cs
 
 -- the first fault so far is joined by others: by one of shape, or else by the checks that are broken
-abbrev pub Gives : Option RefusedAt → Option RefusedAt → (RefusedAt → Type 0) → Bool →
-    Option RefusedAt → Type 0
+abbrev pub Gives : Option RefusedAt → Option RefusedAt → (RefusedAt → Type 0) → Bool → Option RefusedAt → Type 0
 Gives None old Broken true new = IsLeast (λ f. (old ≡ Some f) ⊎ Broken f) new
 Gives None old Broken false new = ⊥
 Gives (Some fault) old Broken true new = ⊥
@@ -38,8 +37,7 @@ abbrev pub Judged : Class → Item → Option RefusedAt → Bool → Option Refu
 Judged c item old ok new = Gives (first_inside c item) old (Breaks c item) ok new
 
 -- the arguments from one on are judged against these slots, in a node that is closed at `close`
-abbrev pub Walked : Item → Class → ℕ → List SlotParts → Option ℕ → Option RefusedAt → Bool →
-    Option RefusedAt → Type 0
+abbrev pub Walked : Item → Class → ℕ → List SlotParts → Option ℕ → Option RefusedAt → Bool → Option RefusedAt → Type 0
 Walked tree c close slots at old ok new =
     Gives (first_in_arguments c close slots (ahead tree at)) old (BreaksAmong c (ahead tree at)) ok
     new
@@ -63,8 +61,7 @@ AllPassed tree c close front at old (Some next) new =
     (slots : List SlotParts) (ok : Bool) (last : Option RefusedAt) →
     Walked tree c close slots next new ok last → Walked tree c close (front ++ slots) at old ok last
 
--- the arguments from `at` on have the same ones as those from
--- `next` on, of each class that the slot doesn't take
+-- the arguments from `at` on have the same ones as those from `next` on, of each class that the slot doesn't take
 abbrev pub Leaves : Item → Class → SlotParts → Option ℕ → Option ℕ → Type 0
 Leaves tree c slot at next =
     (d : Class) → takes slot d ≡ false → those c d (ahead tree at) ≡ those c d (ahead tree next)
@@ -76,8 +73,7 @@ AllLeave tree c front at next =
     those c d (ahead tree at) ≡ those c d (ahead tree next)
 
 -- an argument isn't of these classes, or is judged as the one that it is of
-abbrev pub Answers : Class → List Class → Item → Option RefusedAt → Option Bool →
-    Option RefusedAt → Type 0
+abbrev pub Answers : Class → List Class → Item → Option RefusedAt → Option Bool → Option RefusedAt → Type 0
 Answers parent cs item old None new = (is_in cs (class_in parent item) ≡ false) × (new ≡ old)
 Answers parent cs item old (Some ok) new =
     (d : Class)

@@ -58,30 +58,24 @@ pub record IsNoted (tree : Item) (of : SystemType) (seen : AxisFacts) (old new :
       Asks cs axis (asked_kind of seen.direction) → units_in axis ≡ the_one tree seen.unit →
       IsLeast (BadOwnUnit cs axis) None)
   pub free : new.no_own_units ≡ true → (old.no_own_units ≡ true) × (seen.unit ≡ None)
-  pub long : new.all_lengths ≡ true →
-      (old.all_lengths ≡ true) × (asked_kind of seen.direction ≡ kinds.Length)
-  pub turned : new.all_angles ≡ true →
-      (old.all_angles ≡ true) × (asked_kind of seen.direction ≡ kinds.Angle)
+  pub long : new.all_lengths ≡ true → (old.all_lengths ≡ true) × (asked_kind of seen.direction ≡ kinds.Length)
+  pub turned : new.all_angles ≡ true → (old.all_angles ≡ true) × (asked_kind of seen.direction ≡ kinds.Angle)
 
 -- what was seen of these axes
 pub record HaveFacts (of : SystemType) (axes : AxesFacts) (before : List Item) : Type 0 where
   pub count : axes.count ≡ length before
   pub placed : axes.orders_are_places ≡ true → AreInOrder 1 before
   pub none : axes.no_orders ≡ true → Each (λ a. orders_in a ≡ []) before
-  pub fit : axes.own_units_fit ≡ true → (cs : Item) → HasType cs of →
-      Each (λ a. IsLeast (BadOwnUnit cs a) None) before
+  pub fit : axes.own_units_fit ≡ true → (cs : Item) → HasType cs of → Each (λ a. IsLeast (BadOwnUnit cs a) None) before
   pub free : axes.no_own_units ≡ true → Each (λ a. units_in a ≡ []) before
-  pub long : axes.all_lengths ≡ true → (cs : Item) → HasType cs of →
-      Each (λ a. Asks cs a kinds.Length) before
-  pub turned : axes.all_angles ≡ true → (cs : Item) → HasType cs of →
-      Each (λ a. Asks cs a kinds.Angle) before
+  pub long : axes.all_lengths ≡ true → (cs : Item) → HasType cs of → Each (λ a. Asks cs a kinds.Length) before
+  pub turned : axes.all_angles ≡ true → (cs : Item) → HasType cs of → Each (λ a. Asks cs a kinds.Angle) before
 
 -- ---- from the node `CS` on
 
 -- the orders of axes are those from 1 on, one after another, or no axis has one, or else they break no check
 abbrev pub AreOrdered : AxesFacts → List Item → Type 0
-AreOrdered axes list =
-    (axes.orders_are_places ≡ true) ⊎ (axes.no_orders ≡ true) ⊎ IsLeast (BadOrder list) None
+AreOrdered axes list = (axes.orders_are_places ≡ true) ⊎ (axes.no_orders ≡ true) ⊎ IsLeast (BadOrder list) None
 
 -- the units fit: each axis has its own, or none has one, and the shared one fits what all ask for
 abbrev pub UnitsFit : Item → AxesFacts → Option ℕ → Type 0
@@ -93,8 +87,7 @@ UnitsFit tree axes (Some unit) =
 
 -- the slots from that of a node `CS` on, with what may be at the end
 abbrev pub rest_slots : SlotParts → List SlotParts
-rest_slots slot =
-    one class.CoordinateSystem ∷ some class.Axis ∷ optional class.AxisUnit ∷ slot ∷ []
+rest_slots slot = one class.CoordinateSystem ∷ some class.Axis ∷ optional class.AxisUnit ∷ slot ∷ []
 
 -- these arguments break no check of a CRS but perhaps that of dynamic parts
 pub record PassesButDynamic (c : Class) (items : Siblings) : Type 0 where
@@ -116,11 +109,9 @@ rank other = 0
 abbrev pub Climbs : ℕ → ℕ → ℕ → Type 0
 Climbs last found next = (last ≤ next) × (1 ≤ found → (last < found) × (found ≤ next))
 
--- where the parts of a CRS begin that its checks ask for: from there on are all of their class,
--- and behind them none
+-- where the parts of a CRS begin that its checks ask for: from there on are all of their class, and behind them none
 pub record IsLaid (tree : Item) (c : Class) (items : Siblings) (layout : Layout) : Type 0 where
-  pub system : those c class.CoordinateSystem items
-      ≡ those c class.CoordinateSystem (ahead tree layout.system)
+  pub system : those c class.CoordinateSystem items ≡ those c class.CoordinateSystem (ahead tree layout.system)
   pub no_system : those c class.CoordinateSystem (ahead tree layout.axes) ≡ []
   pub axes : those c class.Axis items ≡ those c class.Axis (ahead tree layout.axes)
   pub no_axes : those c class.Axis (ahead tree layout.unit) ≡ []
@@ -135,14 +126,11 @@ are_free slots ds = list_all (λ d. not (list_any (λ s. takes s d) slots)) ds
 
 -- whether slots may be before a node `CS`: none takes what the checks ask for from there on
 abbrev pub is_head : List SlotParts → Bool
-is_head slots =
-    are_free slots (class.CoordinateSystem ∷ class.Axis ∷ class.AxisUnit ∷ once)
+is_head slots = are_free slots (class.CoordinateSystem ∷ class.Axis ∷ class.AxisUnit ∷ once)
 
--- whether a slot may be at an end: it takes neither coordinate systems nor axes nor their units, and
--- no dynamic parts
+-- whether a slot may be at an end: it takes neither coordinate systems nor axes nor their units, and no dynamic parts
 abbrev pub is_tail : SlotParts → Bool
-is_tail slot =
-    are_free (slot ∷ []) (class.CoordinateSystem ∷ class.Axis ∷ class.AxisUnit ∷ class.Dynamic ∷ [])
+is_tail slot = are_free (slot ∷ []) (class.CoordinateSystem ∷ class.Axis ∷ class.AxisUnit ∷ class.Dynamic ∷ [])
 
 -- the tree has what the layout names
 pub record IsHeld (tree : Item) (layout : Layout) : Type 0 where
@@ -151,8 +139,7 @@ pub record IsHeld (tree : Item) (layout : Layout) : Type 0 where
   pub unit : Holds tree layout.unit
   pub tail : Holds tree layout.tail
 
--- the arguments from one on are judged against a CRS's slots, and its parts are told where there is
--- no fault of shape
+-- the arguments from one on are judged against a CRS's slots, and its parts are told where there is no fault of shape
 abbrev pub Laid : Item → Class → ℕ → List SlotParts → Option ℕ → Option RefusedAt →
     Option Layout → Option RefusedAt → Type 0
 Laid tree c close slots at old None new = Walked tree c close slots at old false new

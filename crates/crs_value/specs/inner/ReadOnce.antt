@@ -35,10 +35,8 @@ pub record IsSound (c : Class) (item : Item) : Type 0 where
 
 -- an item of a class is read as one value at most
 abbrev pub IsReadOnce : {V : Type 0} → (Class → Item → V → Type 0) → Type 0
-IsReadOnce {V = V} Reads =
-    (c : Class) (item : Item) (a b : V) → Reads c item a → Reads c item b → a ≡ b
+IsReadOnce {V = V} Reads = (c : Class) (item : Item) (a b : V) → Reads c item a → Reads c item b → a ≡ b
 
 -- what is read from a sound item of this class has the property
 abbrev pub IsReadAs : {V : Type 0} → (Class → Item → V → Type 0) → (V → Type 0) → Class → Type 0
-IsReadAs {V = V} Reads Is c =
-    (item : Item) (value : V) → IsSound c item → Reads c item value → Is value
+IsReadAs {V = V} Reads Is c = (item : Item) (value : V) → IsSound c item → Reads c item value → Is value

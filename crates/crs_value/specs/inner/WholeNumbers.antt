@@ -13,5 +13,4 @@ IsWhole bytes n =
 
 -- a node's number is this whole one
 abbrev pub IsWholeOf : Class → Item → ℕ → Type 0
-IsWholeOf c item n =
-    (value : Value) × (ReadsNumberOf c item value × SameNumber (exact value) (whole_number n))
+IsWholeOf c item n = (value : Value) × (ReadsNumberOf c item value × SameNumber (exact value) (whole_number n))

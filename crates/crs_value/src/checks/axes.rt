@@ -133,8 +133,7 @@ fn some_has_order(items: &Items<'_>, class: Class, axis: Option<ItemId>) -> bool
 fn bad_orders(crs: &Cursor<'_, '_>, firsts: &Firsts) -> Option<Refusal>
     requires shaped { Shaped crs.now.class (item crs.now) }
     requires firsts { AreFirsts crs.now.items.now crs.now.class (arguments (item crs.now)) firsts.now }
-    ensures { IsLeast (BadOrders (length (args Class.Axis crs.now)) []
-        (args Class.Axis crs.now)) result }
+    ensures { IsLeast (BadOrders (length (args Class.Axis crs.now)) [] (args Class.Axis crs.now)) result }
 {
     // The axes are no more than the arguments, whose number is a usize.
     let items = crs.items;
@@ -267,8 +266,7 @@ impl Asking {
 
 // 27: with no shared unit, an axis without a unit, or whose unit doesn't fit.
 impl Check for Asking {
-    ghost Fits = { λ s tree class. IsReading (HasType (item_at tree s.cs)) s.system_type
-        × (class ≡ classes.Axis) };
+    ghost Fits = { λ s tree class. IsReading (HasType (item_at tree s.cs)) s.system_type × (class ≡ classes.Axis) };
 
     ghost Broken = { λ s tree item f. BadOwnUnit (item_at tree s.cs) item f };
 

@@ -182,10 +182,8 @@ fn of_axes(node: &Cursor<'_, '_>, firsts: &Firsts) -> Option<Refusal>
     requires shaped { Shaped node.now.class (item node.now) }
     requires once { TakesOne node.now.class Class.CoordinateSystem }
     requires firsts { AreFirsts node.now.items.now node.now.class (arguments (item node.now)) firsts.now }
-    ensures { IsLeast (λ f. OfAxes (args Class.CoordinateSystem node.now)
-        (args Class.Axis node.now)
-        (args Class.AxisUnit node.now) f
-        ⊎ BadDynamic node.now.class (item node.now) f) result }
+    ensures { IsLeast (λ f. OfAxes (args Class.CoordinateSystem node.now) (args Class.Axis node.now)
+        (args Class.AxisUnit node.now) f ⊎ BadDynamic node.now.class (item node.now) f) result }
 {
     let axes = lesser(bad_order(node, firsts), bad_unit(node, firsts));
     lesser(axes, bad_dynamic(node, firsts.dynamic))

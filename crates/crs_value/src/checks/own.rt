@@ -157,8 +157,7 @@ impl Check for NotNegative {
 fn ellipsoid(items: &Items<'_>, id: ItemId) -> Option<Refusal>
     requires has { HasId items.now id }
     requires shaped { Shaped Class.Ellipsoid (item_at items.now id) }
-    ensures { IsLeast (OfEllipsoid (those Class.Ellipsoid Class.Number (arguments
-        (item_at items.now id)))) result }
+    ensures { IsLeast (OfEllipsoid (those Class.Ellipsoid Class.Number (arguments (item_at items.now id)))) result }
 {
     let found = first(items, id, Class::Ellipsoid, Class::Number)?;
     let next = later(items, found, Class::Ellipsoid, Class::Number);

@@ -45,8 +45,7 @@ pub(crate) fn first_from(
 #[inline(always)]
 pub(crate) fn first(items: &Items<'_>, id: ItemId, parent: Class, class: Class) -> Option<ItemId>
     requires { HasId items.now id }
-    ensures { IsFound items.now parent class (those parent class (arguments
-        (item_at items.now id))) result }
+    ensures { IsFound items.now parent class (those parent class (arguments (item_at items.now id))) result }
 {
     first_from(items, items.arg(id, 0), None, parent, class)
 }

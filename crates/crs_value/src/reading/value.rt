@@ -43,8 +43,7 @@ pub fn judge(items: &Items<'_>) -> Result<Class, Refusal>
 /// The items are refused where `value_of` refuses them, with the same number and place. Time is linear in the items.
 /// ISO 19162:2019, "Coordinate reference systems"; the checks are the profile's.
 pub fn kind_of(items: &Items<'_>) -> Result<Kind, Refusal>
-    ensures { MatchResult result
-        (λ kind. (value : Crs) × SpellsCrs items.now value × (kind ≡ kind_of value))
+    ensures { MatchResult result (λ kind. (value : Crs) × SpellsCrs items.now value × (kind ≡ kind_of value))
         (RefusesCrs items.now) }
 {
     crs_shape::laws::no_fault_is_shape();
@@ -56,10 +55,9 @@ pub fn kind_of(items: &Items<'_>) -> Result<Kind, Refusal>
 
 /// The value that the items of a text spell, with the text's bytes borrowed.
 ///
-/// `Refused`: the items spell no value. The number is 11 to 13 for a fault of shape; else it is that of
-/// the check that is broken first, from 21 on: the lowest number, and of these the least place.
-/// `Memory`: memory for a list was refused. Time is linear in the items.
-/// ISO 19162:2019, "Coordinate reference systems"; the checks are the profile's.
+/// `Refused`: the items spell no value. The number is 11 to 13 for a fault of shape; else it is that of the check that
+/// is broken first, from 21 on: the lowest number, and of these the least place. `Memory`: memory for a list was
+/// refused. Time is linear in the items. ISO 19162:2019, "Coordinate reference systems"; the checks are the profile's.
 pub fn value_of<'a>(alloc: Global, items: &Items<'a>) -> Result<Crs<'a>, Fault>
     ensures { MatchResult result (SpellsCrs items.now) (IsFaultOf items.now) }
 {

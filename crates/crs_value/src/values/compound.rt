@@ -26,8 +26,7 @@ impl Drop for Horizontal<'_> {
     }
 }
 
-/// A compound CRS, `COMPOUNDCRS[name, horizontal, vertical, tail]`.
-/// ISO 19162:2019, "Compound CRS".
+/// A compound CRS, `COMPOUNDCRS[name, horizontal, vertical, tail]`. ISO 19162:2019, "Compound CRS".
 pub struct Compound<'a> {
     /// The name.
     pub name: &'a [u8],

@@ -42,8 +42,7 @@ impl Drop for Conversion<'_> {
     }
 }
 
-/// A parameter of a conversion, `PARAMETER[name, value, (unit), id..]`.
-/// ISO 19162:2019, "Map projection parameter".
+/// A parameter of a conversion, `PARAMETER[name, value, (unit), id..]`. ISO 19162:2019, "Map projection parameter".
 #[derive(Drop)]
 pub struct Parameter<'a> {
     /// The name.

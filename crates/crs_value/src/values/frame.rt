@@ -158,8 +158,7 @@ impl<'a> Node<'a> for Ensemble<'a> {
     }
 }
 
-// The frame of a CRS: its reference frame, of the one class, or where there is none its ensemble, of the
-// other.
+// The frame of a CRS: its reference frame, of the one class, or where there is none its ensemble, of the other.
 pub(crate) fn read_frame<'a>(
     alloc: Global,
     node: &Cursor<'_, 'a>,

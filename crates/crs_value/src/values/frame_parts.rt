@@ -13,8 +13,7 @@ use crs_shape::{Class, laws};
 use std::alloc::Global;
 use std::marker::Model;
 
-/// An ellipsoid, `ELLIPSOID[name, semi-major axis, inverse flattening, (unit), id..]`.
-/// ISO 19162:2019, "Ellipsoid".
+/// An ellipsoid, `ELLIPSOID[name, semi-major axis, inverse flattening, (unit), id..]`. ISO 19162:2019, "Ellipsoid".
 #[derive(Drop)]
 pub struct Ellipsoid<'a> {
     /// The name.
@@ -59,8 +58,7 @@ impl<'a> Node<'a> for Ellipsoid<'a> {
     }
 }
 
-/// A prime meridian, `PRIMEM[name, longitude, (unit), id..]`.
-/// ISO 19162:2019, "Prime meridian".
+/// A prime meridian, `PRIMEM[name, longitude, (unit), id..]`. ISO 19162:2019, "Prime meridian".
 #[derive(Drop)]
 pub struct Meridian<'a> {
     /// The name.

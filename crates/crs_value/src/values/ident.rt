@@ -51,8 +51,7 @@ impl<'a> Model for Ident<'a> {
 
 // What is at this place among the arguments, if that is no node.
 fn single<'a>(node: &Cursor<'_, 'a>, k: usize) -> Option<&'a [u8]>
-    ensures { ReadsOptional ReadsText (single_of (skip k (arguments (item node.now))))
-        (option_copied result) }
+    ensures { ReadsOptional ReadsText (single_of (skip k (arguments (item node.now)))) (option_copied result) }
 {
     let items = node.items;
     let found = items.arg(node.id, k)?;
@@ -166,8 +165,7 @@ pub struct Named<'a, const KIND: u8> {
     pub identifiers: List<Ident<'a>>,
 }
 
-/// The method of a conversion, `METHOD[name, id..]`.
-/// ISO 19162:2019, "Map projection method".
+/// The method of a conversion, `METHOD[name, id..]`. ISO 19162:2019, "Map projection method".
 pub type Method<'a> = Named<'a, METHOD>;
 
 /// A member of a datum ensemble, `MEMBER[name, id..]`. ISO 19162:2019, "Datum ensemble".

@@ -74,8 +74,7 @@ impl<'a> Node<'a> for Geodetic<'a> {
     }
 }
 
-/// A projected CRS, `PROJCRS[name, base, conversion, system, tail]`.
-/// ISO 19162:2019, "Projected CRS".
+/// A projected CRS, `PROJCRS[name, base, conversion, system, tail]`. ISO 19162:2019, "Projected CRS".
 pub struct Projected<'a> {
     /// The name.
     pub name: &'a [u8],

@@ -21,8 +21,7 @@ use crs_text::{ItemId, Items};
 use std::alloc::Global;
 use std::marker::Model;
 
-/// A unit, `LENGTHUNIT[name, factor, id..]` or with another keyword of a unit.
-/// ISO 19162:2019, "Units".
+/// A unit, `LENGTHUNIT[name, factor, id..]` or with another keyword of a unit. ISO 19162:2019, "Units".
 #[derive(Drop)]
 pub struct Unit<'a> {
     /// The kind, as the keyword says it.
@@ -58,8 +57,7 @@ impl<'a> Node<'a> for Unit<'a> {
     }
 }
 
-/// An axis, `AXIS[name, direction, (meridian), (order), (unit), id..]`.
-/// ISO 19162:2019, "Axis".
+/// An axis, `AXIS[name, direction, (meridian), (order), (unit), id..]`. ISO 19162:2019, "Axis".
 pub struct Axis<'a> {
     /// The name and abbreviation, unsplit.
     pub name: &'a [u8],
@@ -96,8 +94,7 @@ impl Drop for Axis<'_> {
     }
 }
 
-/// The meridian of an axis at a pole, `MERIDIAN[longitude, unit]`.
-/// ISO 19162:2019, "Axis direction".
+/// The meridian of an axis at a pole, `MERIDIAN[longitude, unit]`. ISO 19162:2019, "Axis direction".
 #[derive(Drop)]
 pub struct AxisMeridian<'a> {
     /// The longitude, in the unit.
@@ -202,8 +199,7 @@ impl<'a> System<'a> {
 fn system_type(items: &Items<'_>, id: ItemId) -> SystemType
     requires has { HasId items.now id }
     requires sound { IsSound Class.CoordinateSystem (item_at items.now id) }
-    ensures { ReadsFirst ReadsType (those Class.CoordinateSystem Class.Word (arguments
-        (item_at items.now id))) result }
+    ensures { ReadsFirst ReadsType (those Class.CoordinateSystem Class.Word (arguments (item_at items.now id))) result }
 {
     let word = required(items, id, Class::CoordinateSystem, Class::Word);
     SystemType::read(items.raw(word)).unwrap()

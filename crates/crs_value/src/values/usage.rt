@@ -72,8 +72,7 @@ impl Model for BoundingBox {
     ghost invariant = { λ b. IsBox (view b) };
 }
 
-/// An extent in height, `VERTICALEXTENT[minimum, maximum, (unit)]`.
-/// ISO 19162:2019, "Vertical extent".
+/// An extent in height, `VERTICALEXTENT[minimum, maximum, (unit)]`. ISO 19162:2019, "Vertical extent".
 #[derive(Drop)]
 pub struct Extent<'a> {
     /// The lowest height, in the unit, in metres where none is written.

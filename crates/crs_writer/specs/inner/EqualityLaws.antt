@@ -1,5 +1,4 @@
--- A bridge: the test of equality distinguishes equal canonical texts from others, and equal ones
--- give a hash the same.
+-- A bridge: the test of equality distinguishes equal canonical texts from others, and equal ones give a hash the same.
 use Rattle.std.specs.Prelude.{◌≡◌, ◌↔◌, true}
 use Rattle.std.proofs.Common.{ap, rules, ◌∙◌}
 use Rattle.std.specs.Cmp.{IsEquivalence, and_equiv, on_equiv, nat_eq_equiv, first_so, second_so}

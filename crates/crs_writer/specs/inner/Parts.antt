@@ -1,5 +1,4 @@
--- A bridge: what is written of the parts of a node, which are those of a value, or read from an
--- item.
+-- A bridge: what is written of the parts of a node, which are those of a value, or read from an item.
 use Rattle.std.specs.Prelude.{ℕ, List, [], ◌∷◌, ◌++◌, Option, Some, None, codes}
 use Rattle.std.specs.Option.{option_map}
 use Rattle.crs_decimal.specs.Numbers.{plain, Value}
@@ -11,8 +10,7 @@ use Rattle.crs_normal.specs.inner.SpelledItems.{each, item_ident, number_node, o
 use Rattle.crs_writer.specs.inner.Openings.{named_node}
 
 -- what the first of some parts says, and what the others say
-abbrev pub SaysFirst : {P M V : Type 0} → (P → V → Type 0) → (M → List V → Type 0) → P → M → List V →
-    Type 0
+abbrev pub SaysFirst : {P M V : Type 0} → (P → V → Type 0) → (M → List V → Type 0) → P → M → List V → Type 0
 SaysFirst Says Say first others [] = ⊥
 SaysFirst Says Say first others (value ∷ values) = Says first value × Say others values
 

@@ -290,8 +290,7 @@ fn type_of(head: &Node<'_, '_>) -> SystemType
 
 // The unit that an axis has by itself or shares.
 fn unit_of<'i, 'a>(crs: &Node<'i, 'a>, axis: &Node<'i, 'a>) -> Option<Node<'i, 'a>>
-    ensures { (own shared : Option UnitParts) →
-        ReadsIfAny ReadsUnit Class.AxisUnit axis.now.class (item axis.now) own →
+    ensures { (own shared : Option UnitParts) → ReadsIfAny ReadsUnit Class.AxisUnit axis.now.class (item axis.now) own →
         ReadsIfAny ReadsUnit Class.AxisUnit crs.now.class (item crs.now) shared →
         SaysIfAny (λ n u. ReadsUnit n.class (item n) u) result (own_or own shared) }
 {
