@@ -14,14 +14,14 @@ use crs_group::Catalogue;
 use std::alloc::Global;
 
 /// The front of `struct crsdesk_catalogue` of C, which holds a catalogue, or of `struct crsdesk_rules`, which holds rules.
-/// How many words C has there is in the header alone; `layout.c` compares them with what a catalogue and rules take. Profile.
+/// How many words C has there is in the header alone; `layout.c` compares them with what a catalogue and rules take.
 #[repr(C)]
 pub struct Room {
     hidden: u64,
 }
 
 /// Makes a catalogue of no texts, at the level of this number. Code 0, or 4: no level has the number, and the catalogue is
-/// one at full. It takes no memory. Profile.
+/// one at full. It takes no memory.
 #[unsafe(no_mangle)]
 pub unsafe extern "C" fn crsdesk_catalogue_new(alloc: Global, at: *mut Room, level: u32) -> u32
     requires* { sem 𝓛 (has_room at) }
@@ -35,7 +35,7 @@ pub unsafe extern "C" fn crsdesk_catalogue_new(alloc: Global, at: *mut Room, lev
 
 /// Adds a text to a catalogue, under a number of the caller's. The code of what is answered is 0: it is in the group
 /// of that number, or in none where it is white space alone; 1: it spells no CRS, and `refused` says why; 3: memory
-/// was refused, and the catalogue is as before. Profile.
+/// was refused, and the catalogue is as before.
 #[unsafe(no_mangle)]
 pub unsafe extern "C" fn crsdesk_catalogue_add(at: *mut Room, number: u64, text: &[u8]) -> Standing
     ghost held: { CatalogueParts }
@@ -52,7 +52,7 @@ pub unsafe extern "C" fn crsdesk_catalogue_add(at: *mut Room, number: u64, text:
 
 /// Adds a text to a catalogue under rules, with the texts that are the same under them; a group's text is its form. All
 /// texts of a catalogue are added under the same rules. The code of what is answered is as of `crsdesk_catalogue_add`.
-/// The rules are as before, and the form that they keep is too. Profile.
+/// The rules are as before, and the form that they keep is too.
 #[unsafe(no_mangle)]
 pub unsafe extern "C" fn crsdesk_catalogue_add_under(
     at: *mut Room,
@@ -108,8 +108,7 @@ pub unsafe extern "C" fn crsdesk_catalogue_line(
     found
 }
 
-/// A piece of a group's canonical text: its bytes from an index on, 240 at most, none after its end. Code 0, or 6:
-/// there is no such group. Profile.
+/// A piece of a group's canonical text: its bytes from an index on, 240 at most. Code 0, or 6: there is no such group.
 #[unsafe(no_mangle)]
 pub unsafe extern "C" fn crsdesk_catalogue_piece(at: *mut Room, group: usize, from: usize) -> Piece
     ghost held: { CatalogueParts }

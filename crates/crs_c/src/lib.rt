@@ -1,5 +1,4 @@
-//! The library for C: each call of `crsdesk.h`. The crate below makes the answer; the call writes it to the caller's places,
-//! and returns a code.
+//! The library for C: `calls` makes an answer, and a call of `crsdesk.h` writes it to the caller's places, with a code.
 #![tactic(auto)]
 
 // The answer at the level of this number.

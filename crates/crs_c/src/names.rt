@@ -8,7 +8,7 @@ use crs_text::Refusal;
 /// The name of a refusal's number.
 ///
 /// 0: it is at the front of `out`; `length` is its number of bytes. 5: it has more bytes than `out`; `length` is
-/// their number. 6: no refusal has this number. What a code doesn't mention is as before. Profile.
+/// their number. 6: no refusal has this number. What a code doesn't mention is as before.
 #[unsafe(no_mangle)]
 #[tactic(auto, unfolding(crate::specs::Names::IsNameAnswer))]
 pub extern "C" fn crsdesk_refusal_name(number: u32, out: &mut [u8], length: &mut usize) -> u32
@@ -29,7 +29,7 @@ pub extern "C" fn crsdesk_refusal_name(number: u32, out: &mut [u8], length: &mut
 /// The version of the library.
 ///
 /// 0: it is at the front of `out`; `length` is its number of bytes. 5: it has more bytes than `out`; `length` is their
-/// number. Profile.
+/// number.
 #[unsafe(no_mangle)]
 pub extern "C" fn crsdesk_version(out: &mut [u8], length: &mut usize) -> u32
     ensures { IsGiven version

@@ -13,7 +13,7 @@ use std::alloc::Global;
 ///
 /// 0: each spells a CRS, and `is_same` is 1 where they are the same, else 0. 1: the first spells none, and `refused`
 /// says why. 2: the first spells a CRS and the second none, and `refused` says why. 3: memory was refused. 4: there
-/// is no such level. What a code doesn't mention is as before. Profile.
+/// is no such level. What a code doesn't mention is as before.
 #[unsafe(no_mangle)]
 pub extern "C" fn crsdesk_same(
     alloc: Global,
@@ -43,7 +43,7 @@ pub extern "C" fn crsdesk_same(
 /// 0: each spells a CRS, and the path is at the front of `out`; `length` is its number of bytes. 1: the first spells
 /// none, and `refused` says why. 2: the first spells a CRS and the second none, and `refused` says why. 3: memory was
 /// refused. 4: there is no such level. 5: the path has more bytes than `out`; `length` is their number. What a code
-/// doesn't mention is as before. Profile.
+/// doesn't mention is as before.
 #[unsafe(no_mangle)]
 pub extern "C" fn crsdesk_first_part(
     alloc: Global,
@@ -71,7 +71,7 @@ pub extern "C" fn crsdesk_first_part(
 /// 0: each spells a CRS, and the lines are at the front of `out`; `length` is their number of bytes. 1: the first
 /// spells none, and `refused` says why. 2: the first spells a CRS and the second none, and `refused` says why. 3:
 /// memory was refused. 4: there is no such level. 5: the lines have more bytes than `out`; `length` is their number.
-/// What a code doesn't mention is as before. Profile.
+/// What a code doesn't mention is as before.
 #[unsafe(no_mangle)]
 pub extern "C" fn crsdesk_differences(
     alloc: Global,
@@ -101,7 +101,7 @@ pub extern "C" fn crsdesk_differences(
 /// the front of `ends`; `length` and `count` are their numbers. 1: the first spells none, and `refused` says why. 2: the
 /// first spells a CRS and the second none, and `refused` says why. 3: memory was refused. 4: there is no such level. 5:
 /// there are more bytes than `out` or more pieces than `ends` has room for; `length` and `count` are their numbers, and a
-/// buffer with the room has what it has with 0. What a code doesn't mention is as before. Profile.
+/// buffer with the room has what it has with 0. What a code doesn't mention is as before.
 #[unsafe(no_mangle)]
 pub extern "C" fn crsdesk_difference_pieces(
     alloc: Global,

@@ -11,7 +11,7 @@ use crate::{
 };
 use std::alloc::Global;
 
-/// Makes no rules: everything counts. They take no memory. Profile.
+/// Makes no rules: everything counts. They take no memory.
 #[unsafe(no_mangle)]
 pub unsafe extern "C" fn crsdesk_rules_new(alloc: Global, at: *mut Room)
     requires* { sem 𝓛 (has_room_for_rules at) }
@@ -24,7 +24,7 @@ pub unsafe extern "C" fn crsdesk_rules_new(alloc: Global, at: *mut Room)
 
 /// Adds the rules of one more file. The code of what is answered is 0: they are added. 1: the file is refused, with the
 /// number of its first refused line, the number of the refusal and its place in the line; 3: memory was refused. With
-/// both all is as before. With code 0 no form is kept. Profile.
+/// both all is as before. With code 0 no form is kept.
 #[unsafe(no_mangle)]
 pub unsafe extern "C" fn crsdesk_rules_add(at: *mut Room, text: &[u8]) -> RulesStanding
     ghost held: { HeldParts }
@@ -40,7 +40,7 @@ pub unsafe extern "C" fn crsdesk_rules_add(at: *mut Room, text: &[u8]) -> RulesS
 
 /// Keeps the form of a text under rules, at the level of this number. The code of what is answered is 0: the form has so
 /// many bytes; 1: the text spells no CRS, and `refused` says why; 3: memory was refused; 4: there is no such level. With
-/// another code than 0 the form before it is still kept. Profile.
+/// another code than 0 the form before it is still kept.
 #[unsafe(no_mangle)]
 pub unsafe extern "C" fn crsdesk_rules_form(at: *mut Room, level: u32, text: &[u8]) -> Form
     ghost held: { HeldParts }
@@ -54,7 +54,7 @@ pub unsafe extern "C" fn crsdesk_rules_form(at: *mut Room, level: u32, text: &[u
     told
 }
 
-/// A piece of the form that is kept: its bytes from an index on, 240 at most, none after its end. Code 0. Profile.
+/// A piece of the form that is kept: its bytes from an index on, 240 at most, none after its end. Code 0.
 #[unsafe(no_mangle)]
 pub unsafe extern "C" fn crsdesk_rules_piece(at: *mut Room, from: usize) -> Piece
     ghost held: { HeldParts }

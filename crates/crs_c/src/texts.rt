@@ -45,7 +45,7 @@ pub extern "C" fn crsdesk_check(
 /// what is expected there, what the number means, and a hint where one holds. No bytes where the text spells a CRS.
 ///
 /// 0: the explanation is at the front of `out`; `length` is its number of bytes. 3: memory was refused. 5: it has
-/// more bytes than `out`; `length` is their number. What a code doesn't mention is as before. Profile.
+/// more bytes than `out`; `length` is their number. What a code doesn't mention is as before.
 #[unsafe(no_mangle)]
 #[tactic(auto, unfolding(crate::specs::Explain::IsExplainAnswer))]
 pub extern "C" fn crsdesk_explain(
@@ -74,7 +74,7 @@ pub extern "C" fn crsdesk_explain(
 /// front of `out`, one after the other, and where each ends at the front of `ends`; `length` and `count` are their
 /// numbers. 3: memory was refused. 5: it spells none, and `explained` says why and where; there are more bytes than
 /// `out` or more pieces than `ends` has room for; `length` and `count` are their numbers, and a buffer with the room has
-/// what it has with 1. What a code doesn't mention is as before. Profile.
+/// what it has with 1. What a code doesn't mention is as before.
 #[unsafe(no_mangle)]
 #[tactic(auto, unfolding(crate::specs::ExplainPieces::IsRefusalPiecesAnswer, crate::specs::ExplainPieces::IsRefusalExplained))]
 pub extern "C" fn crsdesk_refusal_pieces(
@@ -104,7 +104,7 @@ pub extern "C" fn crsdesk_refusal_pieces(
 ///
 /// 0: it is at the front of `out`; `length` is its number of bytes. 1: the text spells no CRS, and `refused` says
 /// why. 3: memory was refused. 4: there is no such level. 5: the canonical text has more bytes than `out`; `length`
-/// is their number. What a code doesn't mention is as before. Profile.
+/// is their number. What a code doesn't mention is as before.
 #[unsafe(no_mangle)]
 #[tactic(auto, unfolding(crate::specs::Canon::IsCanonAt))]
 pub extern "C" fn crsdesk_canon(
@@ -133,7 +133,7 @@ pub extern "C" fn crsdesk_canon(
 /// there is no such level, and all is as before. 5: the canonical text of the entry after the first `done` has more bytes
 /// than there is room for. The first `done` entries are answered with 3 and 5 too: their code is 0, and their canonical
 /// text ends at `written_end`, or 1, and they say why their text spells no CRS. All others, the rest of `out` and what
-/// the caller sets are as before. Profile.
+/// the caller sets are as before.
 #[unsafe(no_mangle)]
 #[tactic(auto, unfolding(crate::specs::Each::IsEachAt))]
 pub extern "C" fn crsdesk_canon_each(

@@ -12,8 +12,7 @@ use std::alloc::{AllocError, Global};
 // The room that is taken at first for the text of a CRS whose source isn't known.
 const ROOM: usize = 1024;
 
-/// The canonical text of a CRS at a level: it is normal, accepted, and spells a CRS that is the same. `AllocError`:
-/// there is no memory for it. Profile.
+/// The canonical text of a CRS at a level: it is normal and accepted. `AllocError`: there is no memory for it. Profile.
 pub fn canon_of(alloc: Global, crs: &Crs<'_>, level: Level) -> Result<Canon, AllocError>
     ensures text { IfOk result (λ canon. IsCanonicalText level crs.now canon.bytes) }
     ensures level { IfOk result (λ canon. canon.level ≡ level) }

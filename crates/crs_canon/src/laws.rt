@@ -71,8 +71,7 @@ pub fn levels_of_canonical_texts()
     one_answer();
 }
 
-/// `==` holds of two canonical texts exactly where their levels and bytes are equal, as `same` says; and equal ones
-/// give a hash the same bytes. Profile.
+/// `==` holds of canonical texts where levels and bytes are equal, as `same` says; equal ones have one hash. Profile.
 pub fn equal_canons_are_one()
     ensures equal { (a b : CanonicalText) → (canons_equal a b ≡ true) ↔ (a ≡ b) }
     ensures hash { (a b : CanonicalText) → canons_equal a b ≡ true → canon_writes a ≡ canon_writes b }
@@ -95,8 +94,7 @@ pub fn spellings_stand_alone<T: Canonical>(node: &T)
     closed_texts();
 }
 
-/// The texts of two sets of nodes of one kind are equal, byte for byte, exactly where the sets are the same. The node
-/// is one of the kind. Profile.
+/// The texts of two sets of nodes of this kind are equal, byte for byte, exactly where the sets are the same. Profile.
 pub fn set_texts_are_equal_where_same<T: Canonical>(node: &T)
     ensures { (level : Level) (a b : List T) → Each T.IsValue a → Each T.IsValue b →
         HaveOneTextWhereSame (T.Same level) (T.IsSpelling level) a b }

@@ -108,8 +108,7 @@ fn split_fraction(bytes: &[u8], before: Mantissa) -> Run
     }
 }
 
-// Whether a minus is before the digits of an exponent, and these, no digits where nothing is here; None where anything
-// else is.
+// Whether a minus is before an exponent's digits, and these, none where nothing is here; None where anything else is.
 fn split_exponent(bytes: &[u8]) -> Option<(bool, &[u8])>
     ensures { MatchOption result (¬ (IsExponentWhole bytes.now))
         (λ e. IsExponentWhole bytes.now × IsExponentCut bytes.now e.0 e.1.now) }

@@ -11,8 +11,7 @@ use crate::decimal::Decimal;
 /// The most bytes of a short number.
 const LIMIT: usize = 19;
 
-/// All digits of a short number's mantissa as one whole number, how many of them are a fraction, and whether there is
-/// a minus in front.
+/// A short number's mantissa: all digits as one whole number, how many are a fraction, and whether a minus is in front.
 #[derive(Clone, Copy)]
 pub(crate) struct Short {
     pub(crate) value: u64,

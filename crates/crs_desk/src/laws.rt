@@ -13,8 +13,7 @@ ghost use Rattle.crs_value.specs.declared.values.level.Level.{Level};
 
 pub mod line;
 
-/// Lines may be worked on in parts: what is written for bytes that end in a line feed, and then for others, is what is
-/// written for both together.
+/// Lines may be worked on in parts: what is written for bytes that end in a line feed, and for others, is joined.
 pub fn lines_joined()
     ensures canon { (level : Level) (a b v w : List ℕ) (m n : ℕ) → (a ≡ []) ⊎ EndsInFeed a →
         IsLinesOutput (IsLineOutput (IsCanonOutput level)) a v m → IsLinesOutput (IsLineOutput (IsCanonOutput level)) b w n →
@@ -31,7 +30,7 @@ pub fn lines_joined()
 }
 
 /// The CRSs that two forms spell are the same at the level exactly where the texts are the same under the rules: so
-/// `same` under rules tells whether they are. Profile.
+/// `same` under rules tells whether they are.
 pub fn forms_spell_the_same()
     ensures { (r : RulesParts) (level : Level) (first second a b : List ℕ) (x y : Crs) → AreRules r →
         IsForm r level first a → IsForm r level second b → Spells a x → Spells b y →

@@ -80,7 +80,7 @@ const SAME_STATUS: &str =
     "Status: 0 and `same`, 1 and the first part that differs, or a refusal, 2 for a fault.";
 
 /// What the words of a command line ask for. The first word is the program's name.
-/// `Line` where `clap` refuses the words, or help or the version is asked for, `Memory` where memory ran out. Profile.
+/// `Line` where `clap` refuses the words, or help or the version is asked for, `Memory` where memory ran out.
 pub fn request<'a>(alloc: Global, words: &'a [&'a str]) -> Result<Request, RequestFault>
     ensures ok { IfOk result (λ found. asked (map (λ word. word.now) words.entry.now) ≡ Some found) }
     ensures faultless { IfOk result (λ found. fault_of desk (map (λ word. word.now) words.entry.now) ≡ []) }

@@ -26,7 +26,7 @@ use std::alloc::Global;
 use std::collections::BTreeSet;
 use std::marker::Model;
 
-/// A part that differs: its path, and its values as the canonical text writes them, no bytes for nothing. Profile.
+/// A part that differs: its path, and its values as the canonical text writes them, no bytes for nothing.
 #[derive(Drop)]
 pub struct DifferenceTexts {
     /// Its path; a parameter's has its name, as `conversion/parameters["NAME"]/unit`.
@@ -59,7 +59,7 @@ struct At<'p> {
 /// they are the same. Of parameters those whose name stands once on each side, among at most 64, are told by
 /// themselves, in order of the names, by the number at `conversion/parameters["NAME"]`, the unit at `/unit` and the
 /// identifiers at `/id` behind that, each where it differs; then come the texts of the others. `AllocError`: there is
-/// no memory for it. Profile.
+/// no memory for it.
 pub fn differing_parts<'a>(alloc: Global, a: &Crs<'a>, b: &Crs<'a>, level: Level) -> Made<Texts>
     ensures { IfOk result (λ texts. AreDifferenceTexts level a.now b.now texts.items) }
 {

@@ -18,7 +18,7 @@ use std::alloc::Global;
 
 /// The texts of all parts in which two CRSs differ, in the order of some words: first those whose path has the first
 /// word, then those whose path has the next, and so on, then the others; those of one word in the order of
-/// `differing_parts`. None exactly where the CRSs are the same. `AllocError`: there is no memory for it. Profile.
+/// `differing_parts`. None exactly where the CRSs are the same. `AllocError`: there is no memory for it.
 // The CRSs come first: what is called with a CRS behind another reference is slow to prove.
 pub fn ordered_parts<'a>(
     alloc: Global,
@@ -46,7 +46,7 @@ pub fn ordered_parts<'a>(
 
 /// A line for each part that differs, `PATH: FIRST | SECOND` and a line feed: the values of the first CRS and of the
 /// second, `none` where there are no bytes; control characters, ends of lines, marks of direction and backslashes are
-/// escaped, as `\n`, `\x1B`, `\u202E` and `\\`. `AllocError`: there is no memory for it. Profile.
+/// escaped, as `\n`, `\x1B`, `\u202E` and `\\`. `AllocError`: there is no memory for it.
 pub fn difference_lines(alloc: Global, differences: &[DifferenceTexts]) -> Made<Vec<u8>>
     ensures { IfOk result (λ lines. lines.items ≡ flat_map difference_line differences.now) }
 {
@@ -58,7 +58,7 @@ pub fn difference_lines(alloc: Global, differences: &[DifferenceTexts]) -> Made<
 }
 
 /// An object of JSON and a line feed for each part that differs: its path, and the values of the first and of the
-/// second, `null` for what has none. `AllocError`: there is no memory for it. Profile.
+/// second, `null` for what has none. `AllocError`: there is no memory for it.
 pub fn difference_objects(alloc: Global, differences: &[DifferenceTexts]) -> Made<Vec<u8>>
     ensures { IfOk result (λ objects. objects.items ≡ flat_map difference_object differences.now) }
 {
@@ -70,7 +70,7 @@ pub fn difference_objects(alloc: Global, differences: &[DifferenceTexts]) -> Mad
     Ok(objects)
 }
 
-/// Appends the line of a part that differs. `AllocError`: no memory for it, and `out` has a beginning of it. Profile.
+/// Appends the line of a part that differs. `AllocError`: no memory for it, and `out` has a beginning of it.
 pub fn append_difference_line(difference: &DifferenceTexts, out: &mut Vec<u8>) -> Made<()>
     ensures { OnOk result (out.new.items ≡ out.old.items ++ difference_line difference.now) }
 {
@@ -82,7 +82,7 @@ pub fn append_difference_line(difference: &DifferenceTexts, out: &mut Vec<u8>) -
     out.extend_from_slice(b"\n")
 }
 
-/// Appends the object of a part, behind its brace. `AllocError`: no memory, and `out` has a beginning of it. Profile.
+/// Appends the object of a part, behind its brace. `AllocError`: no memory, and `out` has a beginning of it.
 pub fn append_difference_members(difference: &DifferenceTexts, out: &mut Vec<u8>) -> Made<()>
     ensures { OnOk result (out.new.items ≡ out.old.items ++ difference_members difference.now) }
 {
@@ -94,7 +94,7 @@ pub fn append_difference_members(difference: &DifferenceTexts, out: &mut Vec<u8>
 }
 
 /// The same as data: three texts for each part, its path, and the values of the first CRS and of the second, with
-/// nothing escaped and no bytes where there is no value. `AllocError`: there is no memory for it. Profile.
+/// nothing escaped and no bytes where there is no value. `AllocError`: there is no memory for it.
 pub fn difference_pieces(alloc: Global, differences: &[DifferenceTexts]) -> Made<Pieces>
     ensures { IfOk result (λ pieces. pieces ≡ flat_map part_pieces differences.now) }
 {

@@ -25,7 +25,7 @@ const AXIS_COUNT: u8 = 25;
 /// What is expected, where that is known.
 type MadeIfKnown = Made<Option<ExpectedTexts>>;
 
-/// What is found at a place, and the names of what could stand there. Profile.
+/// What is found at a place, and the names of what could stand there.
 #[derive(Drop)]
 pub(crate) struct ExpectedTexts {
     /// The keyword of the node in which that is; no bytes where the text is of no class.

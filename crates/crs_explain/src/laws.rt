@@ -16,7 +16,7 @@ use crs_same::laws::parts::{
     same_value_is_equivalence,
 };
 
-/// Two sets of parameters of which nothing is told are the same. Profile.
+/// Two sets of parameters of which nothing is told are the same.
 pub fn parameters_that_differ_are_told()
     ensures { (level : Level) (path : List ℕ) (xs ys : List ParameterParts) → Each IsParameter xs →
         Each IsParameter ys → AreTextsOfSet level path xs ys [] → SameSet (SameParameter level) xs ys }
@@ -26,7 +26,7 @@ pub fn parameters_that_differ_are_told()
     names_tell_parameters();
 }
 
-/// Two sets of parameters in the other order have the same texts, each with its values exchanged. Profile.
+/// Two sets of parameters in the other order have the same texts, each with its values exchanged.
 pub fn exchanged_parameters_are_told_alike()
     ensures { (level : Level) (path : List ℕ) (xs ys : List ParameterParts) (texts : List PartTexts) →
         AreTextsOfSet level path xs ys texts → AreTextsOfSet level path ys xs (map texts_exchanged texts) }

@@ -11,7 +11,7 @@ use crs_text::Keyword;
 use std::alloc::Global;
 use std::marker::Model;
 
-/// A word of a path, as `datum`, of an axis `axis` alone; inside the crate also a name of what could stand. Profile.
+/// A word of a path, as `datum`, of an axis `axis` alone; inside the crate also a name of what could stand.
 #[derive(Drop)]
 pub struct Name {
     bytes: Vec<u8>,

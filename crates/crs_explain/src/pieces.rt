@@ -6,7 +6,7 @@ use crate::Made;
 use std::alloc::Global;
 use std::marker::Model;
 
-/// Texts one after the other in one buffer, and where each ends, for callers that hold no lists of lists. Profile.
+/// Texts one after the other in one buffer, and where each ends, for callers that hold no lists of lists.
 #[derive(Drop)]
 pub struct Pieces {
     bytes: Vec<u8>,

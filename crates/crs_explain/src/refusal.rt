@@ -154,7 +154,7 @@ fn in_line(byte: u8) -> u8
 /// column; the piece of that line with a caret under the place; for a fault of shape, a word that isn't known and a
 /// number of axes a line with the node, what is found there and what is expected; what is open, which name was meant or
 /// which units are asked for; what the number means, and a hint where one applies. Each line has its line feed.
-/// `AllocError`: there is no memory for it. Time is linear in the text. Profile.
+/// `AllocError`: there is no memory for it. Time is linear in the text.
 pub fn refusal_text(alloc: Global, text: &[u8], refusal: Refusal) -> Made<Vec<u8>>
     requires { refusal.place ≤ length text.now }
     ensures { IfOk result (λ told. IsExplained text.now refusal told.items) }
@@ -169,7 +169,7 @@ pub fn refusal_text(alloc: Global, text: &[u8], refusal: Refusal) -> Made<Vec<u8
     Ok(told)
 }
 
-/// The explanation of a refusal as numbers and pieces. Profile.
+/// The explanation of a refusal as numbers and pieces.
 #[derive(Drop)]
 pub struct ExplanationPieces {
     /// The line of the place, counted from 1.
@@ -194,7 +194,7 @@ impl Model for ExplanationPieces {
 
 /// Explains the refusal of a text as `refusal_text` does, to a program: each thing that is said there by itself. A
 /// sentence has no line feed, and no bytes where nothing is to be said. `AllocError`: there is no memory for it. Time
-/// is linear in the text. Profile.
+/// is linear in the text.
 pub fn refusal_pieces(alloc: Global, text: &[u8], refusal: Refusal) -> Made<ExplanationPieces>
     requires { refusal.place ≤ length text.now }
     ensures { IfOk result (AreExplainedPieces text.now refusal) }
@@ -218,7 +218,7 @@ pub fn refusal_pieces(alloc: Global, text: &[u8], refusal: Refusal) -> Made<Expl
 /// Explains the refusal of a text as `refusal_text` does, in an object of JSON and a line feed: the number, its name,
 /// the place, line and column; the piece of the line and the caret; what is found and what could stand there, `null`
 /// and no name where that isn't known; and sentences, `null` where nothing is to be said. Of two texts a word says
-/// which it is, as `first `; no bytes say nothing. `AllocError`: no memory for it. Time is linear in the text. Profile.
+/// which it is, as `first `; no bytes say nothing. `AllocError`: no memory for it. Time is linear in the text.
 pub fn refusal_object(alloc: Global, which: &[u8], text: &[u8], refusal: Refusal) -> Made<Vec<u8>>
     requires { refusal.place ≤ length text.now }
     ensures { IfOk result (λ object. IsRefusalObject which.now text.now refusal object.items) }

@@ -26,7 +26,7 @@ use crs_value::Level;
 use std::alloc::{AllocError, Global};
 use std::marker::Model;
 
-/// A catalogue of lines, by what their texts spell. Profile.
+/// A catalogue of lines, by what their texts spell.
 #[derive(Drop)]
 pub struct Catalogue {
     alloc: Global,
@@ -81,8 +81,7 @@ impl Catalogue {
         self.groups.len()
     }
 
-    /// The numbers of a group's lines, in the order in which they were added. `None`: there is no group of this number;
-    /// groups are numbered from 1.
+    /// The numbers of a group's lines, as they came. `None`: no group, counted from 1, has this number.
     pub fn lines(&self, number: usize) -> Option<&[u64]>
         ensures { option_copied result ≡ option_map (λ group. group.lines) (nth number self.now.groups) }
     {
@@ -111,7 +110,7 @@ impl Catalogue {
 
     /// Adds a line, and answers where it was placed: with the lines whose CRSs are the same, where it spells a CRS.
     ///
-    /// `AllocError`: there is no memory for the line; the catalogue is as before. Profile.
+    /// `AllocError`: there is no memory for the line; the catalogue is as before.
     pub fn add(&mut self, line: u64, text: &[u8]) -> Result<Placed, AllocError>
         ensures catalogue { IfOk result (λ place. (placed : List PlacedLine) → IsCatalogue placed self.old →
             IsCatalogue (then_line placed line text.now place) self.new) }
@@ -137,7 +136,7 @@ impl Catalogue {
     /// Adds a line under rules, and answers where it was placed: with the lines whose texts have the same form under the
     /// rules, where it spells a CRS. A group's text is the form. All lines of a catalogue are added under the same rules.
     ///
-    /// `AllocError`: there is no memory for the line; the catalogue is as before. Profile.
+    /// `AllocError`: there is no memory for the line; the catalogue is as before.
     pub fn add_under(&mut self, line: u64, text: &[u8], rules: &Rules) -> Result<Placed, AllocError>
         ensures catalogue { IfOk result (λ place. (placed : List PlacedLine) →
             IsCatalogueUnder rules.now placed self.old →

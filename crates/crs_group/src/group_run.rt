@@ -16,7 +16,7 @@ use std::io::{Read, Write};
 /// included. Where there is nothing to write the sink isn't asked. `ReadFailed` and `WriteFailed` where the source or
 /// the sink has failed, `TooLong(n)` where line `n` has more than 1,048,576 bytes before its line feed,
 /// `TooManyReads` where 1,048,576 reads have not shown the end, `Memory` where memory ran out. Every fault but
-/// `WriteFailed` leaves the sink untouched. Profile.
+/// `WriteFailed` leaves the sink untouched.
 pub fn run_group<R: Read, W: Write>(
     alloc: Global,
     level: Level,
@@ -34,7 +34,7 @@ pub fn run_group<R: Read, W: Write>(
 /// the summary counts all. Where lines have names, `group N:` and each name after a tab, and `line NAME:`; in a name
 /// control characters, marks of direction and backslashes are escaped, and what is no UTF-8 is U+FFFD. As objects of
 /// JSON, each in a line, a group is its number, the numbers of its lines, their names and its text, and a refused line
-/// its number, its name and the refusal. Faults as there: a name counts to its line. Profile.
+/// its number, its name and the refusal. Faults as there: a name counts to its line.
 pub fn run_group_listing<R: Read, W: Write>(
     alloc: Global,
     level: Level,
@@ -50,7 +50,6 @@ pub fn run_group_listing<R: Read, W: Write>(
 }
 
 /// As `run_group_listing`, under rules: lines are in one group exactly where their texts are the same under the rules.
-/// Profile.
 pub fn run_group_under<R: Read, W: Write>(
     alloc: Global,
     under: Under<'_>,

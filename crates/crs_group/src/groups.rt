@@ -1,5 +1,4 @@
-//! The groups of a catalogue: the numbers of the lines that have a canonical text, by the text, in the order in which
-//! the texts came.
+//! The groups of a catalogue: the numbers of the lines of each canonical text, in the order in which the texts came.
 ghost use Rattle.std.specs.Prelude.{◌≡◌, ◌+◌, ◌^◌, ◌<◌, [], ◌∷◌, ◌++◌, Some, length, slice_get, IfOk, IfSome, MatchOption, OnErr};
 ghost use Rattle.std.specs.Option.{option_copied, option_map};
 ghost use Rattle.crs_group.specs.Catalogue.{canons};

@@ -5,7 +5,7 @@ ghost use Rattle.crs_group.specs.Catalogue.{CatalogueParts, Line};
 ghost use Rattle.crs_group.specs.GroupTexts.{IsCatalogueOf, IsPartition, PlacedLine};
 ghost use Rattle.crs_group.specs.United.{AreUnited};
 
-/// The catalogue of some lines, at a level, is one. Profile.
+/// The catalogue of some lines, at a level, is one.
 pub fn catalogue_is_one()
     ensures { (lines : List Line) (a b : CatalogueParts) → IsCatalogueOf lines a → IsCatalogueOf lines b →
         a.level ≡ b.level → a ≡ b }
@@ -14,7 +14,7 @@ pub fn catalogue_is_one()
     crs_value::laws::one_answer();
 }
 
-/// The groups of a catalogue by definition are unions of its groups at the full level. Profile.
+/// The groups of a catalogue by definition are unions of its groups at the full level.
 pub fn groups_are_united_by_definition()
     ensures { (placed united : List PlacedLine) (full definition : CatalogueParts) →
         IsPartition placed full → IsPartition united definition → map (λ p. p.line) placed ≡ map (λ p. p.line) united →

@@ -1,4 +1,4 @@
-/// Which groups of a catalogue are written, how, and what stands for their lines. Profile.
+/// Which groups of a catalogue are written, how, and what stands for their lines.
 #[derive(Clone, Copy, Debug)]
 pub struct Listing {
     /// Whether groups of one line are left out.

@@ -1,4 +1,4 @@
-/// What a catalogue has. Profile.
+/// What a catalogue has.
 #[derive(Clone, Copy, Debug, PartialEq, Eq)]
 pub struct Summary {
     /// How many lines there are, blank ones included.

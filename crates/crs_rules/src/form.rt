@@ -26,7 +26,7 @@ use std::alloc::{AllocError, Global};
 /// are the same under the rules.
 ///
 /// `Refused`: the text spells no CRS; number and place are those of `crs_value::read`. `Memory`: there is no memory for
-/// it. Profile.
+/// it.
 pub fn canon_under(alloc: Global, text: &[u8], level: Level, rules: &Rules) -> Result<Canon, Fault>
     ensures answer { MatchResult result (λ form. IsForm rules.now level text.now form.bytes) (IsFaultOfText text.now) }
     ensures level { IfOk result (λ form. form.level ≡ level) }
@@ -65,7 +65,7 @@ fn read_accepted<'t>(alloc: Global, text: &'t [u8]) -> Result<Crs<'t>, AllocErro
 }
 
 /// The CRS that an accepted text spells; where the order of axes doesn't count, its axes are in the order of the form,
-/// without `ORDER`, so that the axes of two CRSs stand at their places. Profile.
+/// without `ORDER`, so that the axes of two CRSs stand at their places.
 ///
 /// `AllocError`: there is no memory for it.
 pub fn read_in_form_order<'t>(
@@ -84,8 +84,7 @@ pub fn read_in_form_order<'t>(
     Ok(crs)
 }
 
-// Puts the axes of the CRS that a text spells in the order of the form. Their texts under the rules are those of a
-// second CRS, since there are no copies.
+// Puts a text's CRS's axes in the order of the form, by their texts under rules in a second CRS, since none is copied.
 fn put_in_form_order<'t>(
     alloc: Global,
     crs: &mut Crs<'t>,
@@ -102,7 +101,7 @@ fn put_in_form_order<'t>(
     put_as_in(alloc, crs, other)
 }
 
-/// Rewrites the parts of a CRS by rules, but for the order of its axes; a part that a rule takes away is gone. Profile.
+/// Rewrites the parts of a CRS by rules, but for the order of its axes; a part that a rule takes away is gone.
 pub fn rewrite_parts<'a>(alloc: Global, crs: &mut Crs<'a>, rules: &'a Rules)
     ensures { crs.new ≡ renamed (meaning rules.now) crs.old }
 {

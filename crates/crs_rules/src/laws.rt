@@ -27,13 +27,13 @@ use crs_normal::laws::texts::{
 use crs_same::laws::same_crs_is_equivalence;
 use crs_value::laws::one_answer;
 
-/// A CRS under rules meets all that is asked of a CRS, whatever the texts of axes. Profile.
+/// A CRS under rules meets all that is asked of a CRS, whatever the texts of axes.
 pub fn rewritten_crs_is_sound()
     ensures { (text : AxisParts → List ℕ) (r : RulesParts) (crs : Crs) → AreRules r → IsCrs crs →
         IsCrs (rewritten text (meaning r) crs) }
 {}
 
-/// What rules write is accepted. Profile.
+/// What rules write is accepted.
 pub fn rules_are_sound(rules: &Rules)
     ensures { AreRules rules.now }
 {
@@ -41,7 +41,7 @@ pub fn rules_are_sound(rules: &Rules)
     let _names = &rules.names;
 }
 
-/// Each accepted text has a form under rules, and just one. Profile.
+/// Each accepted text has a form under rules, and just one.
 pub fn accepted_text_has_one_form()
     ensures there { (r : RulesParts) (level : Level) (text : List ℕ) → AreRules r → IsAccepted text →
         (bytes : List ℕ) × IsForm r level text bytes }
@@ -57,7 +57,7 @@ pub fn accepted_text_has_one_form()
     axes_are_canonical();
 }
 
-/// Texts that are the same at the level have one form under any rules. Profile.
+/// Texts that are the same at the level have one form under any rules.
 pub fn same_texts_have_one_form()
     ensures form { (r : RulesParts) (level : Level) (first second bytes : List ℕ) → SpellSame level first second →
         IsForm r level first bytes → IsForm r level second bytes }
@@ -69,7 +69,7 @@ pub fn same_texts_have_one_form()
     answers_are_equal_where_same();
 }
 
-/// A form is accepted, and is its own canonical text. Profile.
+/// A form is accepted, and is its own canonical text.
 pub fn forms_are_canonical()
     ensures { (r : RulesParts) (level : Level) (text bytes : List ℕ) → IsForm r level text bytes →
         IsCanonicalOf level bytes bytes }
@@ -78,7 +78,7 @@ pub fn forms_are_canonical()
     same_crs_is_equivalence();
 }
 
-/// Being the same under rules is an equivalence of accepted texts. Profile.
+/// Being the same under rules is an equivalence of accepted texts.
 pub fn same_under_rules_is_equivalence()
     ensures reflexive { (r : RulesParts) (level : Level) (a : List ℕ) → AreRules r → IsAccepted a →
         SameUnder r level a a }
@@ -94,7 +94,7 @@ pub fn same_under_rules_is_equivalence()
     accepted_text_has_one_form();
 }
 
-/// No rules change nothing: forms are canonical texts. Profile.
+/// No rules change nothing: forms are canonical texts.
 pub fn no_rules_give_canonical_texts()
     ensures { (level : Level) (text bytes : List ℕ) →
         IsForm no_rules level text bytes ↔ IsCanonicalOf level text bytes }
@@ -104,13 +104,13 @@ pub fn no_rules_give_canonical_texts()
     axes_are_canonical();
 }
 
-/// The order of aliases says nothing, where rules are steady. Profile.
+/// The order of aliases says nothing, where rules are steady.
 pub fn order_of_rules_is_nothing()
     ensures { (r s : RulesParts) → DifferInOrder r s → AreSteady r → (level : Level) (text bytes : List ℕ) →
         IsForm r level text bytes → IsForm s level text bytes }
 {}
 
-/// A form is its own form, where the rules are steady. Profile.
+/// A form is its own form, where the rules are steady.
 pub fn forms_are_their_own()
     ensures { (r : RulesParts) (level : Level) (text bytes : List ℕ) → AreRules r → AreSteady r →
         IsForm r level text bytes → IsForm r level bytes bytes }
@@ -119,7 +119,7 @@ pub fn forms_are_their_own()
     form_laws();
 }
 
-/// Canonical texts that differ in the order of their axes alone have one form, where this order doesn't count. Profile.
+/// Canonical texts that differ in the order of their axes alone have one form, where this order doesn't count.
 pub fn order_of_axes_is_nothing()
     ensures { (r : RulesParts) (level : Level) (first second bytes : List ℕ) (a b : Crs) → AreRules r →
         r.uncounted.axis_order ≡ true →
@@ -133,7 +133,6 @@ pub fn order_of_axes_is_nothing()
 }
 
 /// A CRS whose axes were put in the order of the form and whose parts were rewritten is the one that the form spells.
-/// Profile.
 pub fn order_of_the_form_is_kept()
     ensures { (text : AxisParts → List ℕ) (r : Meaning) (x : Crs) →
         renamed r (in_form_order text r x) ≡ rewritten text r x }

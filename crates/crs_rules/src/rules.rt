@@ -11,7 +11,7 @@ use crs_value::{Level, UnitKind};
 use std::alloc::{AllocError, Global};
 use std::marker::Model;
 
-/// Rules: names and units that count as others, and what doesn't count. Profile.
+/// Rules: names and units that count as others, and what doesn't count.
 #[derive(Drop)]
 pub struct Rules {
     pub(crate) names: Aliases<NameAlias>,
@@ -27,7 +27,7 @@ impl Model for Rules {
     ghost invariant = { λ r. AreRules (view r) };
 }
 
-/// Rules, and the level at which texts have forms under them. Profile.
+/// Rules, and the level at which texts have forms under them.
 #[derive(Clone, Copy)]
 pub struct Under<'r> {
     /// The level.

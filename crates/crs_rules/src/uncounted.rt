@@ -1,4 +1,4 @@
-/// What doesn't count, in CRSs that are compared under rules; by default everything counts. Profile.
+/// What doesn't count, in CRSs that are compared under rules; by default everything counts.
 #[derive(Clone, Copy, Debug, Default)]
 pub struct Uncounted {
     /// The names of CRSs.

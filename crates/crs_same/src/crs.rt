@@ -195,8 +195,7 @@ pub fn same_projected<'a>(a: &Projected<'a>, b: &Projected<'a>, level: Level) ->
     Found::first().projected(At::start(level), a, b).is_same()
 }
 
-/// Whether two vertical CRSs are the same: name, dynamic part, frame, system, the set of geoid models, and end.
-/// ISO 19162:2019, "Vertical CRS".
+/// Whether two vertical CRSs are the same. ISO 19162:2019, "Vertical CRS".
 pub fn same_vertical<'a>(a: &Vertical<'a>, b: &Vertical<'a>, level: Level) -> bool
     ensures { IsTrue result ↔ AreSame parts_of_vertical level a.now b.now }
 {

@@ -20,8 +20,7 @@ use crs_value::{
     Conversion, DeformationModel, Dynamic, Level, List, Method, Parameter, Tail, Usage,
 };
 
-/// Whether two dynamic parts are the same: epoch, and the models in both or in neither. ISO 19162:2019, "Dynamic
-/// coordinate reference systems".
+/// Whether two dynamic parts are the same. ISO 19162:2019, "Dynamic coordinate reference systems".
 #[tactic(auto, unfolding(crate::specs::Parts::AreSame, crate::specs::PartsOfCrs::parts_of_dynamic, crate::specs::SameCrs::SameDynamic))]
 pub fn same_dynamic<'a>(a: &Dynamic<'a>, b: &Dynamic<'a>, level: Level) -> bool
     ensures { IsTrue result ↔ SameDynamic level a.now b.now }

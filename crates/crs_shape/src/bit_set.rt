@@ -1,5 +1,4 @@
-//! Sets of classes and of keywords, as words with a bit for each: the test of a bit is one step, where a `match` is an
-//! often mispredicted branch.
+//! Sets of classes and of keywords, a bit for each: its test is one step; a `match` is an often mispredicted branch.
 ghost use Rattle.std.specs.Prelude.{◌≡◌, ◌<◌};
 ghost use Rattle.crs_shape.specs.inner.ClassSet.{has_bit};
 

@@ -69,8 +69,7 @@ pub fn expected(items: &Items<'_>) -> Option<Expected>
     }
 }
 
-/// The class that an item's keyword names at the head of a text; None where it names none, and for an item that is
-/// no node. Profile.
+/// The class that an item's keyword names at a text's head; None where it names none, or for no node. Profile.
 pub fn class_at_root(items: &Items<'_>, id: ItemId) -> Option<Class>
     requires { HasId items.now id }
     ensures { result ≡ class_of_root (first_of (here items.now id)) }
@@ -136,8 +135,7 @@ fn step(
     Some((class, stepped))
 }
 
-/// The class of an item in a parent of this class: number, text, word, or what its keyword names there; None where
-/// its keyword names none. Profile.
+/// The class of an item in a parent of this class: number, text, word, or its keyword's there, if any. Profile.
 pub fn class_in(items: &Items<'_>, id: ItemId, parent: Class) -> Option<Class>
     requires { HasId items.now id }
     ensures { result ≡ class_in parent (first_of (here items.now id)) }

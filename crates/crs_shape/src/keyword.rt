@@ -79,8 +79,7 @@ macro_rules! classes {
     ($($class:ident),+) => { &[$(Class::$class),+] };
 }
 
-// The classes that have this keyword. Where several of them are allowed in one parent, that which the keyword names
-// there goes first.
+// The classes that have this keyword; where several may be in one parent, that which it names there goes first.
 #[inline(always)]
 fn classes_of(keyword: Keyword) -> &'static [Class]
     ensures { result.now ≡ classes_of keyword }

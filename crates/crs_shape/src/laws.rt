@@ -27,8 +27,7 @@ pub fn fits_one_way()
         AllFilled slots a → AllFilled slots b → joined a ≡ joined b → a ≡ b }
 {}
 
-/// An item has no fault of shape exactly where it is of its class and its arguments are an allowed
-/// list, each without a fault.
+/// An item has no fault of shape exactly where it is of its class, with an allowed list of arguments without a fault.
 pub fn no_fault_is_shape()
     ensures { (class : Class) (item : Item) → IsFree (Inside class item) ↔ Shaped class item }
 {}

@@ -79,8 +79,7 @@ impl Sought {
     }
 }
 
-/// Whether an item is of that class in a parent of this class; a cheaper test than `class_in`. To test many items,
-/// build one `Sought`. Profile.
+/// Whether an item is of that class in a parent of this one, cheaper than `class_in`; for many, one `Sought`. Profile.
 #[inline(always)]
 pub fn stands_as(items: &Items<'_>, id: ItemId, parent: Class, class: Class) -> bool
     requires { HasId items.now id }

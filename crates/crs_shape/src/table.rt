@@ -101,8 +101,7 @@ macro_rules! parts_of {
     };
 }
 
-// Whether arguments of this class are allowed in a parent of that class. One test saves a walk over the slots for each
-// keyword.
+// Whether arguments of this class are allowed in a parent of that one: one test, in place of a walk over the slots.
 #[inline(always)]
 pub(crate) fn is_part(parent: Class, class: Class) -> bool
     ensures { result ≡ is_part parent class }

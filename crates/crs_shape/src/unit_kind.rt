@@ -60,8 +60,7 @@ impl UnitKind {
         None
     }
 
-    /// The kind that a keyword says; None where it is none of units. It needs no look at the keyword's bytes, as `read`
-    /// does. ISO 19162:2019, "Units".
+    /// The kind that a keyword says; None where it is none of units. ISO 19162:2019, "Units".
     pub fn of(keyword: Keyword) -> Option<UnitKind>
         ensures { (word : List ℕ) → keyword_of word ≡ Some keyword → IsReading (λ kind. SpellsWord word (unit_word kind)) result }
     {

@@ -10,10 +10,10 @@ pub enum RunFault {
     /// A write answered a failure.
     #[error("write failed")]
     WriteFailed,
-    /// A line is longer than 1,048,576 bytes, lines being counted from 1; 0 where the input is one text. Profile.
+    /// A line is longer than 1,048,576 bytes, lines being counted from 1; 0 where the input is one text.
     #[error("{}", TooLongText(*.0))]
     TooLong(u64),
-    /// A source or a stream made all the reads that it may, and none showed the end. Profile.
+    /// A source or a stream made all the reads that it may, and none showed the end.
     #[error("too many reads")]
     TooManyReads,
     /// Memory ran out.

@@ -12,7 +12,7 @@ use std::alloc::AllocError;
 
 /// Appends a text as a string, in which a quote and a backslash have a backslash before them, and what steers a
 /// terminal, ends a line or changes the direction of a text is a code, as `\u202E`; or where it isn't UTF-8 as an
-/// object with its bytes by two hexadecimal digits each, as `{"bytes":"FF"}`. `AllocError`: no memory for it. Profile.
+/// object with its bytes by two hexadecimal digits each, as `{"bytes":"FF"}`. `AllocError`: no memory for it.
 pub fn append_text(bytes: &[u8], out: &mut Vec<u8>) -> Result<(), AllocError>
     ensures { OnOk result (out.new.items ≡ out.old.items ++ json_text bytes.now) }
 {
@@ -23,7 +23,7 @@ pub fn append_text(bytes: &[u8], out: &mut Vec<u8>) -> Result<(), AllocError>
     }
 }
 
-/// The same, or `null` where there are no bytes. `AllocError`: there is no memory for it. Profile.
+/// The same, or `null` where there are no bytes. `AllocError`: there is no memory for it.
 pub fn append_text_or_null(bytes: &[u8], out: &mut Vec<u8>) -> Result<(), AllocError>
     ensures { OnOk result (out.new.items ≡ out.old.items ++ json_value bytes.now) }
 {
@@ -33,7 +33,7 @@ pub fn append_text_or_null(bytes: &[u8], out: &mut Vec<u8>) -> Result<(), AllocE
     append_text(bytes, out)
 }
 
-/// Appends the name of a further member of an object, as `,"name":`. `AllocError`: there is no memory for it. Profile.
+/// Appends the name of a further member of an object, as `,"name":`. `AllocError`: there is no memory for it.
 #[tactic(auto, using(crate::proofs::JsonLemmas::key_appended))]
 pub fn append_key(name: &[u8], out: &mut Vec<u8>) -> Result<(), AllocError>
     ensures { OnOk result (out.new.items ≡ out.old.items ++ key name.now) }
@@ -43,7 +43,7 @@ pub fn append_key(name: &[u8], out: &mut Vec<u8>) -> Result<(), AllocError>
     out.extend_from_slice(b"\":")
 }
 
-/// Appends a further member that is a number. `AllocError`: there is no memory for it. Profile.
+/// Appends a further member that is a number. `AllocError`: there is no memory for it.
 pub fn append_number_member(name: &[u8], number: usize, out: &mut Vec<u8>) -> Result<(), AllocError>
     ensures { OnOk result (out.new.items ≡ out.old.items ++ number_member name.now number) }
 {
@@ -51,7 +51,7 @@ pub fn append_number_member(name: &[u8], number: usize, out: &mut Vec<u8>) -> Re
     append_number(number, out)
 }
 
-/// Appends a further member that is a text. `AllocError`: there is no memory for it. Profile.
+/// Appends a further member that is a text. `AllocError`: there is no memory for it.
 pub fn append_text_member(name: &[u8], text: &[u8], out: &mut Vec<u8>) -> Result<(), AllocError>
     ensures { OnOk result (out.new.items ≡ out.old.items ++ text_member name.now text.now) }
 {
@@ -59,7 +59,7 @@ pub fn append_text_member(name: &[u8], text: &[u8], out: &mut Vec<u8>) -> Result
     append_text(text, out)
 }
 
-/// Appends a further member that is a text, or `null` where there are no bytes. `AllocError`: no memory. Profile.
+/// Appends a further member that is a text, or `null` where there are no bytes. `AllocError`: no memory.
 pub fn append_value_member(name: &[u8], text: &[u8], out: &mut Vec<u8>) -> Result<(), AllocError>
     ensures { OnOk result (out.new.items ≡ out.old.items ++ value_member name.now text.now) }
 {

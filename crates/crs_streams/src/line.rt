@@ -5,7 +5,7 @@ ghost use Rattle.crs_streams.specs.Lines.{HasNoFeed, IsSplit, IsTextOf};
 use crate::RunFault;
 use bstr::ByteSlice;
 
-/// The most bytes of a line before its line feed. Profile.
+/// The most bytes of a line before its line feed.
 pub const MAX_LINE: usize = 1_048_576;
 
 /// The bytes before the first line feed, and those after it. `None`: there is no line feed.

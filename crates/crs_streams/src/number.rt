@@ -4,7 +4,7 @@ ghost use Rattle.std.specs.Prelude.{◌≡◌, ◌++◌, OnOk, decimal};
 use itoa::Buffer;
 use std::alloc::AllocError;
 
-/// Appends a number in decimal digits. `AllocError`: there is no memory for it. Profile.
+/// Appends a number in decimal digits. `AllocError`: there is no memory for it.
 pub fn append_number(number: usize, out: &mut Vec<u8>) -> Result<(), AllocError>
     ensures { OnOk result (out.new.items ≡ out.old.items ++ decimal number) }
 {

@@ -6,7 +6,7 @@ use crs_text::Refusal;
 use itoa::Buffer;
 use std::alloc::AllocError;
 
-/// Appends `refused N NAME at P`. `AllocError`: there is no memory for it, and `out` is as before. Profile.
+/// Appends `refused N NAME at P`. `AllocError`: there is no memory for it, and `out` is as before.
 pub fn append_refusal(out: &mut Vec<u8>, refusal: Refusal) -> Result<(), AllocError>
     ensures ok { OnOk result (out.new.items ≡ out.old.items ++ refused_text refusal.number refusal.place) }
     ensures unchanged { OnErr result (out.new.items ≡ out.old.items) }

@@ -8,7 +8,7 @@ use std::io;
 use std::io::Read;
 use std::marker::Model;
 
-/// The most reads of a stream, 2^47. Profile.
+/// The most reads of a stream, 2^47.
 pub const MAX_STREAM_READS: u64 = 140_737_488_355_328;
 
 /// A reader that counts its reads and remembers a failure, for input of any length: full reads end after 2^63 bytes.
@@ -99,7 +99,7 @@ impl<R: Read> Stream<R> {
     }
 }
 
-/// The most reads of a source. Profile.
+/// The most reads of a source.
 pub const MAX_READS: u32 = 1_048_576;
 
 // The most bytes of a read.
@@ -164,7 +164,7 @@ impl<R: Read> Source<R> {
     }
 }
 
-/// Room for a read of a run, 65,536 bytes. `AllocError` where there is no memory for it. Profile.
+/// Room for a read of a run, 65,536 bytes. `AllocError` where there is no memory for it.
 pub fn make_room(alloc: Global) -> Result<Vec<u8>, AllocError>
     ensures { IfOk result (λ room. vec_len room ≡ 65536) }
 {

@@ -1,5 +1,4 @@
-//! How far the front of a text is settled while more of it may come. What is pending at its end is scanned
-//! from where the last piece left it.
+//! How far a text's front is settled while more may come; what is pending is scanned from where the last piece left it.
 ghost use Rattle.std.specs.Prelude.{◌<◌, length, IfSome, MatchBool, MatchResult};
 ghost use Rattle.crs_text.specs.inner.Lexing.{IsLexed};
 ghost use Rattle.crs_text.specs.inner.Feeding.{IsFlawSettled, IsLexedSettled, IsSettledTo, IsUnsettledAt, IsFedTo};
@@ -56,8 +55,7 @@ fn is_settled(left: &[u8], lexed: Lexed) -> bool
     }
 }
 
-// Takes the settled tokens from this place on, each with the white space after it: where the first one begins that
-// isn't settled.
+// Takes the settled tokens from here on, each with the white space after it: where the first that isn't settled begins.
 fn settle_all(table: &mut Table, text: &[u8], from: usize) -> Result<usize, Fault>
     requires { IsSettledTo text.now table.old from }
     ensures { MatchResult result (λ at. IsSettledTo text.now table.new at × IsUnsettledAt text.now at)
@@ -77,8 +75,7 @@ fn settle_all(table: &mut Table, text: &[u8], from: usize) -> Result<usize, Faul
     Ok(at)
 }
 
-// How many of the bytes are inside the text, where so many are known to be; None where it is closed and a byte
-// follows the quote.
+// How many bytes are inside the text, where so many are known to be; None where a byte follows its closing quote.
 fn open_to(after: &[u8], known: usize) -> Option<usize>
     requires { IsInsideTo after.now known }
     ensures { IfSome result (IsOpenTo after.now) }

@@ -186,8 +186,7 @@ impl<'a> Items<'a> {
         }
     }
 
-    /// Each single token and each keyword in the item is well formed: a call that does nothing, and whose
-    /// contract is the law. Profile.
+    /// Each single token and each keyword in the item is well formed: a law, as a call that does nothing. Profile.
     pub fn formed(&self, _id: ItemId)
         requires { HasId self.now _id }
         ensures { AreFormed (first_of (here self.now _id)) }

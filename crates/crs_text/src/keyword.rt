@@ -10,8 +10,7 @@ use crate::lexing::front_of;
 use crate::runs::first_set;
 use std::simd::prelude::*;
 
-/// A keyword, under its spelling: letter case doesn't count, and one thing may have several keywords. ISO 19162:2019;
-/// what each means is the profile's choice.
+/// A keyword, under its spelling, letter case aside. ISO 19162:2019; what each means is the profile's choice.
 #[derive(Clone, Copy, Debug, PartialEq, Eq)]
 pub enum Keyword {
     /// `ID`: identifier.

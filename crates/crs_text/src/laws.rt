@@ -10,8 +10,7 @@ ghost use Rattle.crs_text.specs.Written.{WrittenSpells, AreFormed, item_text, at
 ghost use Rattle.crs_text.specs.inner.Examples.{AreSized, AreFoundByNumber, AreLimited, AreSettledRows};
 ghost use Rattle.crs_text.specs.Viable.{IsViable, IsViableAtAnyDepth, Allows, IsFull};
 
-/// Letter case doesn't count in a keyword: a word is one exactly where it is that one's spelling, letter case aside.
-/// ISO 19162:2019, "Keywords".
+/// A word is a keyword exactly where it is one's spelling, letter case aside. ISO 19162:2019, "Keywords".
 pub fn keywords_are_spelled()
     ensures { AreSpelled }
 {}
@@ -34,8 +33,7 @@ pub fn one_item()
         tokens i ++ a ≡ tokens j ++ b → (i ≡ j) × (a ≡ b) }
 {}
 
-/// A text is one list of tokens and one node at most, or is refused with one number at one place at
-/// most, and never both. Profile.
+/// A text is one list of tokens and one node at most, or is refused with one number at one place, never both. Profile.
 pub fn one_answer()
     ensures tokens { (bytes : List ℕ) (ts us : List Token) → AreTokens bytes ts → AreTokens bytes us → ts ≡ us }
     ensures node { (bytes : List ℕ) (i j : Item) → SpellsNode bytes i → SpellsNode bytes j → i ≡ j }

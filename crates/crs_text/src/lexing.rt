@@ -172,8 +172,7 @@ fn is_one_digit(left: &[u8]) -> bool
     }
 }
 
-/// The number that begins what is left, if it has digits, no exponent, and few enough digits to be in bounds whatever
-/// they are, as most have.
+/// The number that begins what is left, if it has no exponent and so few digits that it is in bounds, as most have.
 #[inline(always)]
 pub(crate) fn plain_number(left: &[u8]) -> Option<Lexed>
     ensures { IfSome result (IsLexed left.now) }

@@ -11,8 +11,7 @@ use crate::lexing::{Lexed, rest_of, token_at};
 use crate::scanning::after_white;
 use arrayvec::ArrayVec;
 
-/// The places of the delimiters that are open, in the order in which they were opened; no more are open at once before a
-/// refusal. Profile.
+/// The places of open delimiters, in the order in which they were opened: no more are open before a refusal. Profile.
 type Nest = ArrayVec<usize, 12>;
 
 // How many bytes the token has that begins at this place, by which delimiters are opened and closed.

@@ -20,8 +20,7 @@ pub fn spells_one()
     crs_decimal::laws::denotes_one();
 }
 
-/// An item is read as one identifier at most, of whatever class it is; likewise the other members of sets, and the
-/// units and extents in them. Profile.
+/// An item is read as one identifier at most, whatever its class; likewise members of sets and their parts. Profile.
 pub fn members_read_once()
     ensures ident { IsReadOnce ReadsIdent }
     ensures unit { IsReadOnce ReadsUnit }

@@ -1,7 +1,6 @@
 //! The values of nodes, each with its reading.
 
-// The body of a hand-written drop, which drops a value part by part: a derived drop is expanded wherever a value is
-// dropped, which slows the proofs.
+// The body of a hand-written drop, part by part: a derived one is expanded at each end of a value, which slows proofs.
 macro_rules! let_go {
     ($whole:ident: $kind:ident { $($part:ident),* }) => {
         let $kind { $($part: _),* } = $whole;

@@ -1,5 +1,4 @@
-//! `crsdesk`: reads WKT2 texts of coordinate reference systems, compares them, spells each in one way, and groups
-//! catalogues.
+//! `crsdesk`: reads WKT2 texts of coordinate reference systems, compares, spells and groups them.
 #![tactic(auto)]
 
 mod fault;

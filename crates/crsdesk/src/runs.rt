@@ -1,5 +1,4 @@
-//! The runs of the commands: over standard input and output, over texts and over files, with rules or without. Files of
-//! rules are read before all others.
+//! The runs of the commands: over standard input, texts and files, with rules, which are read first, or without.
 use crate::fault::Fault;
 use crate::input::{Input, Opener};
 use crate::messages::{tell, tell_of};
@@ -188,8 +187,7 @@ fn written(answer: Result<u8, RunFault>, output: &Output) -> Result<u8, Fault> {
     }
 }
 
-// The text that a word is. A word without an opening delimiter is no text. Where it names a file, the user most likely
-// meant that file's text.
+// The text that a word is: one with an opening delimiter. Another that names a file most likely meant that file's text.
 fn text_of<'w>(rt: &HostRuntime, word: &'w LineWord) -> &'w [u8] {
     let name = word.as_str();
     if !name.contains(['[', '(']) && Path::new(name).is_file(rt) {

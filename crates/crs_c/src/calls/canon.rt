@@ -12,7 +12,7 @@ use crs_text::Fault;
 use crs_value::Level;
 use std::alloc::Global;
 
-/// A text of many, and what is answered of it: `struct crsdesk_entry` of C. Profile.
+/// A text of many, and what is answered of it: `struct crsdesk_entry` of C.
 #[repr(C)]
 #[derive(Clone, Copy)]
 pub struct Entry {
@@ -56,8 +56,7 @@ pub fn answer_entries(
     (entries.len(), OK)
 }
 
-// Answers an entry, and writes its canonical text at this place. The text is first made in memory that goes from entry to
-// entry.
+// Answers an entry, and writes its canonical text at this place, first into memory that goes from entry to entry.
 fn answer(
     alloc: Global,
     texts: &[u8],

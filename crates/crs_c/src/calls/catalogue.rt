@@ -1,5 +1,4 @@
-//! What each call does to a catalogue, which it takes by value and hands back: where a text was placed, and numbers of
-//! its lines, as C has them.
+//! What each call does to a catalogue, taken by value and handed back: where a text was placed, and C's numbers.
 ghost use Rattle.std.specs.Prelude.{◌≡◌, length};
 ghost use Rattle.crs_c.specs.Catalogues.{IsAdded, IsAddedUnder, IsMadeEmpty, IsPieceAt, line_at, standing_of, without_memory};
 
@@ -12,7 +11,7 @@ use crs_group::{Catalogue, Placed};
 use crs_value::Level;
 use std::alloc::Global;
 
-/// Where a text was placed in a catalogue: `struct crsdesk_standing` of C. Profile.
+/// Where a text was placed in a catalogue: `struct crsdesk_standing` of C.
 #[repr(C)]
 #[derive(Drop)]
 pub struct Standing {
@@ -24,7 +23,7 @@ pub struct Standing {
     pub code: u32,
 }
 
-/// A line's number: `struct crsdesk_line` of C. Profile.
+/// A line's number: `struct crsdesk_line` of C.
 #[repr(C)]
 #[derive(Drop)]
 pub struct Numbered {

@@ -1,5 +1,4 @@
-//! What is made of the CRSs of two texts, which are read one after the other: whether they are the same, and where they
-//! differ.
+//! What is made of the CRSs of two texts, read one after the other: whether they are the same, and where they differ.
 ghost use Rattle.std.specs.Prelude.{◌≡◌, IfOk, MatchResult};
 ghost use Rattle.crs_value.specs.declared.values.crs.Crs.{Crs};
 ghost use Rattle.crs_c.specs.inner.Comparison.{IsMadeBehind, IsMadeOfBoth, IsPairFault, IsSecondFault};

@@ -71,7 +71,7 @@ pub fn explained_refusal(
     }
 }
 
-/// A refusal, and where its place is as a person counts: `struct crsdesk_explained` of C. Profile.
+/// A refusal, and where its place is as a person counts: `struct crsdesk_explained` of C.
 #[repr(C)]
 #[derive(Drop)]
 pub struct Explained {

@@ -7,7 +7,7 @@ use crate::calls::codes::OK;
 // The most bytes of a piece.
 pub(crate) const MOST: usize = 240;
 
-/// A piece of a text: `struct crsdesk_piece` of C. Profile.
+/// A piece of a text: `struct crsdesk_piece` of C.
 #[repr(C)]
 #[derive(Drop)]
 pub struct Piece {

@@ -7,8 +7,7 @@ ghost use Rattle.crs_c.specs.inner.Told.{IsTold};
 use crate::calls::codes::NO_MEMORY;
 use crs_text::{Fault, Refusal};
 
-/// A refusal: the place of the fault, in bytes from the text's first, which is 0, and the number. It is
-/// `struct crsdesk_refusal` of C. Profile.
+/// A refusal, `struct crsdesk_refusal` of C: the place of the fault, in bytes from the text's first, and the number.
 #[repr(C)]
 #[derive(Drop)]
 pub struct Refused {

@@ -1,5 +1,4 @@
-//! Rules as a caller of C holds them: what each call does to them, which it takes by value and hands back, and what it
-//! answers.
+//! Rules as a caller of C holds them: what each call does to them, taken by value and handed back, and what it answers.
 ghost use Rattle.std.specs.Prelude.{◌≡◌};
 ghost use Rattle.crs_text.specs.Fault.{refusal_of};
 ghost use Rattle.crs_c.specs.Held.{nothing_held};
@@ -16,7 +15,7 @@ use crs_value::Level;
 use std::alloc::Global;
 use std::marker::Model;
 
-/// The rules of the files so far, and the last form of a text under them. Profile.
+/// The rules of the files so far, and the last form of a text under them.
 #[derive(Drop)]
 pub struct HeldRules {
     pub(crate) alloc: Global,
@@ -32,7 +31,7 @@ impl Model for HeldRules {
     ghost view = { λ held. record { reading = held.reader; form = held.form.items } };
 }
 
-/// What is answered of a rules file: `struct crsdesk_rules_standing` of C. Profile.
+/// What is answered of a rules file: `struct crsdesk_rules_standing` of C.
 #[repr(C)]
 #[derive(Drop)]
 pub struct RulesStanding {
@@ -46,7 +45,7 @@ pub struct RulesStanding {
     pub code: u32,
 }
 
-/// What is answered of a text under rules: `struct crsdesk_form` of C. Profile.
+/// What is answered of a text under rules: `struct crsdesk_form` of C.
 #[repr(C)]
 #[derive(Drop)]
 pub struct Form {

@@ -17,7 +17,7 @@ use std::alloc::{AllocError, Global};
 
 const STANDARD: &str = "-";
 
-/// The request of a command line, by its matches. `AllocError`: memory ran out. Profile.
+/// The request of a command line, by its matches. `AllocError`: memory ran out.
 pub fn request_of_matches(alloc: Global, matches: &ArgMatches) -> Result<Request, AllocError>
     requires { IsSome (option_and_then request_of (subcommand_rows_of matches.now)) }
     ensures { IfOk result (λ found. option_and_then request_of (subcommand_rows_of matches.now) ≡ Some found) }

@@ -2,8 +2,7 @@ use crate::{LineWord, LineWords, Listing, Manner, WordKind};
 use std::alloc::AllocError;
 use thiserror::Error;
 
-/// What a command line asks for. A level is the word after `--level`, whatever word it is, and
-/// `full` where the line names none.
+/// What a command line asks for. A level is the word after `--level`, whatever it is, and `full` where none is named.
 #[derive(Debug, Drop)]
 pub enum Request {
     /// The canonical text of the text on standard input, at a level.

@@ -26,7 +26,7 @@ impl Model for LineWord {
 }
 
 impl LineWord {
-    /// The word of this text. `AllocError`: memory ran out. Profile.
+    /// The word of this text. `AllocError`: memory ran out.
     pub fn new(alloc: Global, text: &str) -> Result<LineWord, AllocError>
         ensures { IfOk result (λ word. word ≡ text.now) }
     {
@@ -72,7 +72,7 @@ impl Model for LineWords {
 }
 
 impl LineWords {
-    /// These texts, each a word. `AllocError`: memory ran out. Profile.
+    /// These texts, each a word. `AllocError`: memory ran out.
     pub fn of(alloc: Global, texts: &[&str]) -> Result<LineWords, AllocError>
         ensures { IfOk result (λ words. words ≡ map (λ text. text.now) texts.now) }
     {

@@ -7,7 +7,7 @@ use crate::{RunFault, Sink};
 use std::alloc::{AllocError, Global};
 use std::io::Write;
 
-/// What a command writes, and its status. Profile.
+/// What a command writes, and its status.
 pub trait Answer {
     ghost Output: { Self → List ℕ → ℕ → Type 0 };
 
@@ -16,7 +16,7 @@ pub trait Answer {
         ensures { IfOk result (λ output. Output self.now output.0.items output.1) };
 }
 
-/// A command that answers a text by some bytes and a status. Profile.
+/// A command that answers a text by some bytes and a status.
 pub trait TextCommand {
     ghost Output: { Self → List ℕ → List ℕ → ℕ → Type 0 };
 
@@ -25,7 +25,7 @@ pub trait TextCommand {
         ensures { IfOk result (λ output. Output self.now text.now output.0.items output.1) };
 }
 
-/// The answer of a command for a text. Profile.
+/// The answer of a command for a text.
 #[derive(Drop)]
 pub struct ForText<'t, C: TextCommand> {
     /// The command.
@@ -42,8 +42,7 @@ impl<C: TextCommand> Answer for ForText<'_, C> {
     }
 }
 
-/// Writes the answer, and gives its status. `WriteFailed` where the sink has failed, `Memory` where memory ran out, and
-/// then nothing was written. Profile.
+/// Writes the answer, and gives its status. `WriteFailed`: the sink has failed; `Memory`: nothing was written.
 pub fn write_answer<A: Answer, W: Write>(
     alloc: Global,
     answer: &A,

@@ -46,7 +46,7 @@ pub trait Inputs {
 /// of JSON has the name as its first member, `"file"`. A file that can't be opened, or not be read to its end within the
 /// bounds of its task, is told to the user and has status 2, and the others go on; of its answer nothing was written, or,
 /// where each line is a text, the answers for its first whole lines. The status is the greatest of all. `WriteFailed`
-/// where the sink has failed, `Memory` where memory ran out. Profile.
+/// where the sink has failed, `Memory` where memory ran out.
 pub fn run_files<I: Inputs, W: Write>(
     alloc: Global,
     task: FileTask<'_>,

@@ -23,7 +23,7 @@ use std::marker::Model;
 /// line. `ReadFailed` and `WriteFailed` where the stream or the sink has failed, `TooLong(n)` where line `n` has more
 /// than 1,048,576 bytes before its line feed, `TooManyReads` where 2^47 reads have not shown the end, `Memory` where
 /// memory ran out. At a fault all whole lines that were read are answered, at `TooLong` all before the long one; out of
-/// memory any number of them, the first; at `WriteFailed` the sink got a front of such answers. Profile.
+/// memory any number of them, the first; at `WriteFailed` the sink got a front of such answers.
 pub fn run_lines<C: TextCommand, R: Read, W: Write>(
     alloc: Global,
     command: &C,

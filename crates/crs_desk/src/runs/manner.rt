@@ -1,4 +1,4 @@
-/// How `explain` tells. Profile.
+/// How `explain` tells.
 #[derive(Clone, Copy, Debug)]
 pub enum Manner {
     /// In lines for a person.

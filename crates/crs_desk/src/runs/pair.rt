@@ -12,7 +12,7 @@ use crs_text::{Fault, Refusal};
 use crs_value::{Crs, read};
 use std::alloc::{AllocError, Global};
 
-/// How a refusal is written, and how two CRSs are compared. Profile.
+/// How a refusal is written, and how two CRSs are compared.
 pub trait Telling: Copy {
     // What is written for the refusal of a text, after the word that says which text it is.
     ghost Refused: { Self → List ℕ → List ℕ → List ℕ → ℕ → Type 0 };
@@ -42,7 +42,7 @@ pub trait Telling: Copy {
         ensures { IfOk result (λ output. Compared self level a.now b.now output.0.items output.1) };
 }
 
-/// What is written for two texts, told so, at this level. Profile.
+/// What is written for two texts, told so, at this level.
 #[derive(Drop)]
 pub struct PairAnswer<'t, T: Telling> {
     /// How it is told.
@@ -66,7 +66,7 @@ impl<T: Telling> Answer for PairAnswer<'_, T> {
     }
 }
 
-/// What is written for two texts at a level, and the status. `AllocError`: memory ran out. Profile.
+/// What is written for two texts at a level, and the status. `AllocError`: memory ran out.
 pub fn pair_output<'t, T: Telling>(
     alloc: Global,
     told: T,
@@ -100,8 +100,7 @@ fn second_output<'t, T: Telling>(
     }
 }
 
-/// What is written for the refusal of a text, after the word that says which text it is, and the status. `AllocError`:
-/// memory ran out. Profile.
+/// What is written for a refusal, after the word for its text, and the status. `AllocError`: no memory for it.
 pub fn refused_output<T: Telling>(
     alloc: Global,
     told: T,

@@ -13,7 +13,7 @@ use std::io::Read;
 const MAX_BYTES: usize = 1_048_576;
 
 /// The whole text of a source, at most 1,048,576 bytes. `ReadFailed` where the source has failed, `TooLong(0)` for more
-/// bytes, `TooManyReads` where 1,048,576 reads have not shown the end, `Memory` where memory ran out. Profile.
+/// bytes, `TooManyReads` where 1,048,576 reads have not shown the end, `Memory` where memory ran out.
 pub fn read_text<R: Read>(alloc: Global, source: &mut Source<R>) -> Result<Vec<u8>, RunFault>
     requires { source.old ≡ fresh_source source.old.remaining }
     ensures ok { IfOk result (λ text. IsWhole source.old source.new text.items) }
@@ -37,8 +37,7 @@ pub fn read_text<R: Read>(alloc: Global, source: &mut Source<R>) -> Result<Vec<u
     Err(RunFault::TooManyReads)
 }
 
-// A feeder that was fed the whole text of a source, at most 1,048,576 bytes. After a settled refusal the rest is read
-// and counted, and isn't fed.
+// A feeder that was fed a source's whole text, at most 1,048,576 bytes; after a settled refusal the rest is counted.
 pub(crate) fn read_pieces<R: Read>(
     alloc: Global,
     source: &mut Source<R>,

@@ -14,7 +14,7 @@ use std::io::Write;
 
 /// Writes whether two texts spell the same CRS at a level: `same`, with status 0; or, with status 1, `different` and
 /// the path of the first part that differs, or `first` or `second` and the refusal of the first text that spells no
-/// CRS. `WriteFailed` where the sink has failed, `Memory` where memory ran out, and then nothing was written. Profile.
+/// CRS. `WriteFailed` where the sink has failed, `Memory` where memory ran out, and then nothing was written.
 pub fn run_same<W: Write>(
     alloc: Global,
     level: Level,
@@ -29,7 +29,7 @@ pub fn run_same<W: Write>(
     write_answer(alloc, &PairAnswer { told, level, a, b }, w)
 }
 
-/// A refusal, and the first part in which two CRSs differ, are a line each. Profile.
+/// A refusal, and the first part in which two CRSs differ, are a line each.
 #[derive(Clone, Copy)]
 pub struct InALine;
 

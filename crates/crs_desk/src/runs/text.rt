@@ -20,7 +20,7 @@ use std::alloc::{AllocError, Global};
 use std::io::{Read, Write};
 
 /// Reads a text to its end, and writes a line: the canonical text at a level of a text that spells a CRS, with status
-/// 0, else the refusal, with status 1. Faults are those of `run_text`. Profile.
+/// 0, else the refusal, with status 1. Faults are those of `run_text`.
 pub fn run_canon<R: Read, W: Write>(
     alloc: Global,
     level: Level,
@@ -36,7 +36,7 @@ pub fn run_canon<R: Read, W: Write>(
 
 /// Reads a text to its end, and writes what a command answers for it. `ReadFailed` and `WriteFailed` where the source or
 /// the sink has failed, `TooLong(0)` for more than 1,048,576 bytes, `TooManyReads` where 1,048,576 reads have not shown
-/// the end, `Memory` where memory ran out. Every fault but `WriteFailed` leaves the sink untouched. Profile.
+/// the end, `Memory` where memory ran out. Every fault but `WriteFailed` leaves the sink untouched.
 pub fn run_text<C: TextCommand + Drop, R: Read, W: Write>(
     alloc: Global,
     command: C,
@@ -52,7 +52,7 @@ pub fn run_text<C: TextCommand + Drop, R: Read, W: Write>(
     write_answer(alloc, &ForText { command, text }, w)
 }
 
-/// `canon`, at this level. Profile.
+/// `canon`, at this level.
 #[derive(Clone, Copy)]
 pub struct CanonText {
     /// The level.
@@ -82,7 +82,7 @@ fn canonical(alloc: Global, text: &[u8], level: Level) -> Result<Canon, Fault>
 }
 
 /// Reads a text to its end, and writes a line: `accepted KIND` for a text that spells a CRS, with status 0, else the
-/// refusal, with status 1. Faults are those of `run_text`. Profile.
+/// refusal, with status 1. Faults are those of `run_text`.
 pub fn run_check<R: Read, W: Write>(
     alloc: Global,
     r: &mut Source<R>,
@@ -111,7 +111,7 @@ impl Answer for Result<Kind, Refusal> {
     }
 }
 
-/// `check`. Profile.
+/// `check`.
 #[derive(Clone, Copy)]
 pub struct CheckText;
 
@@ -126,7 +126,7 @@ impl TextCommand for CheckText {
     }
 }
 
-/// `accepted KIND` and a line end. `AllocError`: memory ran out. Profile.
+/// `accepted KIND` and a line end. `AllocError`: memory ran out.
 pub fn accepted_line(alloc: Global, kind: Kind) -> Result<Vec<u8>, AllocError>
     ensures { IfOk result (λ line. line.items ≡ (codes "accepted " ++ kind_word kind) ++ 10 ∷ []) }
 {
@@ -136,7 +136,7 @@ pub fn accepted_line(alloc: Global, kind: Kind) -> Result<Vec<u8>, AllocError>
     Ok(line)
 }
 
-/// The word for a kind of CRS. Profile.
+/// The word for a kind of CRS.
 pub fn kind_word(kind: Kind) -> &'static str
     ensures { result.now ≡ kind_word kind }
 {
@@ -149,7 +149,7 @@ pub fn kind_word(kind: Kind) -> &'static str
     }
 }
 
-/// `refused N NAME at P` after these bytes, and a line end. `AllocError`: memory ran out. Profile.
+/// `refused N NAME at P` after these bytes, and a line end. `AllocError`: memory ran out.
 pub fn refused_line(alloc: Global, front: &[u8], refusal: Refusal) -> Result<Vec<u8>, AllocError>
     ensures { IfOk result (λ line. line.items ≡ (front.now ++ refused_text refusal.number refusal.place) ++ 10 ∷ []) }
 {
@@ -159,7 +159,7 @@ pub fn refused_line(alloc: Global, front: &[u8], refusal: Refusal) -> Result<Vec
     Ok(line)
 }
 
-/// These bytes and a line end, in their own memory where that has room. `AllocError`: memory ran out. Profile.
+/// These bytes and a line end, in their own memory where that has room. `AllocError`: memory ran out.
 pub fn line_of(mut bytes: Vec<u8>) -> Result<Vec<u8>, AllocError>
     ensures { IfOk result (λ line. line.items ≡ bytes.items ++ 10 ∷ []) }
 {
@@ -180,7 +180,7 @@ fn judged(feeder: &Feeder) -> Result<Result<Kind, Refusal>, AllocError>
     }
 }
 
-/// The kind of the CRS that a text spells, or the refusal. `AllocError`: memory ran out. Profile.
+/// The kind of the CRS that a text spells, or the refusal. `AllocError`: memory ran out.
 pub fn kind_of_text(alloc: Global, text: &[u8]) -> Result<Result<Kind, Refusal>, AllocError>
     ensures { IfOk result (λ found. MatchResult found (SpellsKind text.now) (Refuses text.now)) }
 {
@@ -190,7 +190,7 @@ pub fn kind_of_text(alloc: Global, text: &[u8]) -> Result<Result<Kind, Refusal>,
     }
 }
 
-/// The refusal in a fault: that of the text whose fault it is. `AllocError`: the fault is out of memory. Profile.
+/// The refusal in a fault: that of the text whose fault it is. `AllocError`: the fault is out of memory.
 #[tactic(auto, using(crate::proofs::JudgedLemmas::refuses_text))]
 pub fn refusal_in(fault: Fault) -> Result<Refusal, AllocError>
     ensures answer { IfOk result (λ refusal. Some refusal ≡ refusal_of fault) }

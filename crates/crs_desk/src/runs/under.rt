@@ -105,7 +105,7 @@ fn second_of<T: Telling, W: Writing>(
 }
 
 /// Whether two texts are the same under rules, at a level: for their forms what `run_same` writes, or `first` or
-/// `second` and the refusal of the first text that spells no CRS. Profile.
+/// `second` and the refusal of the first text that spells no CRS.
 #[derive(Clone, Copy)]
 pub struct SameForms<'t> {
     /// The rules and the level.
@@ -133,7 +133,7 @@ impl Answer for SameForms<'_> {
 /// Whether two texts are the same under rules, at a level: what `Told` writes for their CRSs rewritten by the rules, and
 /// then, each after `the same by the rules: `, the parts in which the CRSs differ before they are rewritten and not
 /// after; where the order of axes doesn't count, their axes are in the order of the forms. Or the refusal of the first
-/// text that spells no CRS, explained. In an object of JSON the mark is a first member, `"same_by_rules":true`. Profile.
+/// text that spells no CRS, explained. In an object of JSON the mark is a first member, `"same_by_rules":true`.
 #[derive(Clone, Copy)]
 pub struct ExplainedForms<'t> {
     /// How it is told.

@@ -1,7 +1,7 @@
 //! What the numbers of refusals mean.
 use crs_text::Refusal;
 
-/// What the number of a refusal means, in a sentence. Profile.
+/// What the number of a refusal means, in a sentence.
 pub fn meaning(refusal: Refusal) -> &'static str {
     match refusal.number() {
         1 =>

@@ -15,7 +15,7 @@ use std::alloc::Global;
 const LAST_OF_TEXT: u8 = 8;
 
 /// The hints that apply to a refused text, a sentence or more without a line end; nothing where none applies. A hint
-/// looks at the text's front, the refusal's place, and what is open there. `AllocError`: no memory for them. Profile.
+/// looks at the text's front, the refusal's place, and what is open there. `AllocError`: no memory for them.
 pub fn hints(alloc: Global, text: &[u8], refusal: Refusal) -> Made<Vec<u8>> {
     let whole = by_front(text);
     let before = look_before(text, refusal.place());
@@ -39,7 +39,7 @@ fn beside<'a>(whole: Option<Hint<'_>>, there: Option<Hint<'a>>, number: u8) -> O
     (is_of_class && is_of_damage).then_some(there?)
 }
 
-/// The node open at a refusal, as `CS[ at 24 is still open`; nothing where none is. `AllocError`: no memory. Profile.
+/// The node open at a refusal, as `CS[ at 24 is still open`; nothing where none is. `AllocError`: no memory.
 pub fn still_open(alloc: Global, text: &[u8], refusal: Refusal) -> Made<Vec<u8>> {
     let mut out = Vec::new(alloc);
     if let Some(at) = open_delimiter(text, refusal.place())

@@ -1,5 +1,4 @@
-//! Nodes by themselves, outside a CRS: each has one spelling, and spellings are equal exactly where the nodes are the
-//! same.
+//! Nodes by themselves, outside a CRS: each has one spelling, equal exactly where the nodes are the same.
 ghost use Rattle.std.specs.Prelude.{◌≡◌, ◌++◌, [], ℕ, List};
 ghost use Rattle.crs_text.specs.Items.{Item, IsNode};
 ghost use Rattle.crs_text.specs.Written.{AreFormed, item_text};

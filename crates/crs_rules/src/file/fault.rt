@@ -12,8 +12,7 @@ pub(crate) const OTHER_CLASS: u8 = 43;
 
 pub(crate) const REPEATED: u8 = 44;
 
-/// The first refused line of a rules file: its number, counted from 1, the number of the refusal, and its place in the
-/// line, in bytes from 0. Profile.
+/// The first refused line of a rules file: its number, from 1, that of the refusal, and the place in it, in bytes.
 #[derive(Clone, Copy, Debug)]
 pub struct RulesRefusal {
     /// The line.
@@ -25,7 +24,7 @@ pub struct RulesRefusal {
 }
 
 impl RulesRefusal {
-    /// What its number means, in words; of 1 to 8 the name of a text's refusal. Profile.
+    /// What its number means, in words; of 1 to 8 the name of a text's refusal.
     pub fn meaning(&self) -> &'static str {
         match self.number {
             NO_STATEMENT => "neither SAME nor UNCOUNTED",
@@ -37,7 +36,7 @@ impl RulesRefusal {
     }
 }
 
-/// Why the bytes of a rules file gave no rules. Profile.
+/// Why the bytes of a rules file gave no rules.
 #[derive(Clone, Copy, Debug, Error)]
 pub enum RulesFault {
     /// A line is refused.

@@ -14,7 +14,7 @@ use crs_text::{ItemId, ItemKind, Items, Keyword};
 use crs_value::UnitKind;
 use std::marker::Model;
 
-/// What a node says that counts as another, or as which others count. Profile.
+/// What a node says that counts as another, or as which others count.
 pub struct Member<'a> {
     /// Its class.
     pub class: Class,

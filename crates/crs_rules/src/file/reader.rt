@@ -25,7 +25,7 @@ use std::marker::Model;
 /// The rules that the bytes of a rules file spell; for more files, see [`RulesReader`].
 ///
 /// `Refused`: the first line that is refused, with its number and place. `Memory`: there is no memory for the rules.
-/// Time is linear in the bytes. Profile.
+/// Time is linear in the bytes.
 pub fn read_rules(alloc: Global, bytes: &[u8]) -> Result<Rules, RulesFault>
     ensures { MatchResult result (SpellsRules bytes.now) (IsRefusedBy (RefusesFile start bytes.now)) }
 {
@@ -44,7 +44,7 @@ struct Mark {
     uncounted: Uncounted,
 }
 
-/// What is known of rules files so far: their rules, and the nodes of all sets. Profile.
+/// What is known of rules files so far: their rules, and the nodes of all sets.
 #[derive(Drop)]
 pub struct RulesReader {
     line: usize,
@@ -129,7 +129,7 @@ impl RulesReader {
     /// Reads the bytes of one more file.
     ///
     /// `Refused`: its first line that is refused, with its number and place. `Memory`: there is no memory for the rules.
-    /// With both, all is as before. Time is linear in the bytes. Profile.
+    /// With both, all is as before. Time is linear in the bytes.
     #[tactic(auto, using(crate::proofs::GrownLemmas::back_there))]
     pub fn read(&mut self, alloc: Global, bytes: &[u8]) -> Result<(), RulesFault>
         ensures answer { MatchResult result (λ _. ReadsFile self.old bytes.now self.new)

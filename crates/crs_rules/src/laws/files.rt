@@ -12,8 +12,7 @@ use crate::laws::order_of_rules_is_nothing;
 use crs_decimal::laws::{denotes_one, plain_is_the_one};
 use crs_streams::laws::lines_are_one;
 
-/// After what was read, a file says one thing at most, or is refused at one line with one number at one place at most,
-/// and never both. Profile.
+/// After what was read, a file says one thing at most, or is refused at one line, with one number at one place.
 pub fn one_answer()
     ensures read { (r s t : Reading) (bytes : List ℕ) → ReadsFile r bytes s → ReadsFile r bytes t → s ≡ t }
     ensures refused { (r : Reading) (bytes : List ℕ) (f g : RulesRefusal) → RefusesFile r bytes f →
@@ -26,7 +25,7 @@ pub fn one_answer()
     lines_are_one();
 }
 
-/// Rules that files spell are steady: nothing chains, and the order of aliases says nothing. Profile.
+/// Rules that files spell are steady: nothing chains, and the order of aliases says nothing.
 pub fn read_rules_are_steady()
     ensures files { (files : List (List ℕ)) (s : Reading) → Over ReadsFile start files s → AreSteady s.rules }
     ensures alone { (bytes : List ℕ) (rules : RulesParts) → SpellsRules bytes rules → AreSteady rules }
@@ -36,7 +35,7 @@ pub fn read_rules_are_steady()
 }
 
 /// The order of statements says nothing, nor does which of some files they stand in: files with the same lines in
-/// another order are read too, to rules that differ in order alone, and texts have the same forms under them. Profile.
+/// another order are read too, to rules that differ in order alone, and texts have the same forms under them.
 pub fn order_of_lines_is_nothing()
     ensures rules { (files others : List (List ℕ)) (s : Reading) → AreReordered files others →
         Over ReadsFile start files s → (t : Reading) × Over ReadsFile start others t × DifferInOrder s.rules t.rules }

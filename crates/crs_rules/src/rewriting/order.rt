@@ -238,8 +238,7 @@ pub(crate) fn arrange_crs(alloc: Global, crs: &mut Crs<'_>) -> Result<(), AllocE
     Ok(())
 }
 
-// Puts the axes of a CRS in order of the texts that they have in another, which is the first but for its axes and
-// names under rules.
+// Orders a CRS's axes by the texts that they have in another, the first but for its axes and names under rules.
 pub(crate) fn put_as_in(alloc: Global, crs: &mut Crs<'_>, other: Crs<'_>) -> Result<(), AllocError>
     requires { (r : Meaning) × (other ≡ renamed r crs.old) }
     ensures { OnOk result ((r : Meaning) → other.entry ≡ renamed r crs.old →

@@ -29,8 +29,7 @@ fn repeats(node: &Cursor<'_, '_>, class: Class) -> Option<Refusal>
     again(node, class, first(node.items, node.id, node.class, class))
 }
 
-// The first anchor or anchor's epoch of a reference frame after the first one of its class. In line, the cursor needs no
-// place in memory.
+// The first anchor or anchor's epoch of a frame behind the first of its class. In line: the cursor needs no memory.
 #[inline(always)]
 pub(crate) fn repeated_anchors(node: &Cursor<'_, '_>) -> Option<Refusal>
     requires shaped { Shaped node.now.class (item node.now) }

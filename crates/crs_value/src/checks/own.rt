@@ -43,8 +43,7 @@ fn first_telling(bytes: &[u8]) -> Option<u8>
     None
 }
 
-// Whether a digit that isn't 0 comes first, or after zeros, a period and a plus alone: then the number is above zero,
-// and needn't be read.
+// Whether a digit above 0 comes first, or behind zeros, a period and a plus alone: then the number is above zero.
 fn begins_above_zero(items: &Items<'_>, id: ItemId) -> bool
     requires { HasId items.now id }
     ensures { IsTrue result → IsLeast (NotAbove (item_at items.now id)) None }
@@ -201,8 +200,7 @@ fn is_not_horizontal(items: &Items<'_>, cs: ItemId, class: Class) -> bool
     }
 }
 
-// 24: a part of this class that is geodetic and not geographic, or whose dimension isn't 2. In line, the cursor needs no
-// place in memory.
+// 24: a part of this class that isn't geographic, or whose dimension isn't 2. In line: the cursor needs no memory.
 #[inline(always)]
 fn bad_part(node: &Cursor<'_, '_>, class: Class) -> Option<Refusal>
     requires shaped { Shaped node.now.class (item node.now) }

@@ -145,8 +145,7 @@ fn crs_judged<H: Slots, T: Part>(
     true
 }
 
-// An argument as one of a class without a coordinate system, which has these slots; None where it is of another. What
-// isn't a node needs no call.
+// An argument as one of a class without a system, with these slots; None where it is of another. No node needs no call.
 #[inline(always)]
 fn part<S: Slots>(
     class: Class,

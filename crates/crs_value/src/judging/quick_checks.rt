@@ -1,5 +1,4 @@
-//! Quick checks: whether a CRS's own checks are seen at once to hold, as they mostly do, where the walk for its shape
-//! has told where its parts begin.
+//! Quick checks: whether a CRS's own checks are seen to hold, where the walk for its shape told its parts' places.
 ghost use Rattle.std.specs.Prelude.{◌≡◌, ◌≤◌, ◌+◌, ◌^◌, ◌<◌, IfSome, IsTrue, None, true, length, List, [], ◌∷◌};
 ghost use Rattle.crs_text.specs.Items.{Item, HasId, arguments, here};
 ghost use Rattle.crs_shape.specs.declared.class.Class.{Class};
@@ -151,8 +150,7 @@ fn is_only(items: &Items<'_>, id: ItemId, parent: Class, class: Class, next: Opt
     same_place(&behind, &next)
 }
 
-// What the axes from one argument to another have; None where a direction isn't known, or where they are more than a CRS
-// has.
+// What the axes between two arguments have; None where a direction isn't known, or where they are more than a CRS has.
 fn axes_until(
     items: &Items<'_>,
     class: Class,
@@ -313,8 +311,7 @@ pub(crate) fn is_ascending(items: &Items<'_>, from: Option<ItemId>, parent: Clas
     true
 }
 
-// Whether a CRS of this class is seen to break none of its own checks, that of dynamic parts aside. Where it isn't
-// seen, the CRS may still break none.
+// Whether a CRS is seen to break none of its own checks but that of dynamic parts. Else it may still break none.
 pub(crate) fn passes_at_once(items: &Items<'_>, id: ItemId, class: Class, layout: Layout) -> bool
     requires has { HasId items.now id }
     requires shaped { Shaped class (item_at items.now id) }

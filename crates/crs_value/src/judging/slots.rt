@@ -10,8 +10,7 @@ ghost use Rattle.crs_value.specs.inner.Arguments.{item_at, Holds};
 use crs_shape::{Class, misplaced};
 use crs_text::{ItemId, Items, Refusal};
 
-// what a slot takes, as a type: by the class's place among all and its row, or, where types would nest too deep, a type
-// of its own
+// what a slot takes, as a type: by the class's place and its row, or one of its own, where types would nest too deep
 macro_rules! taken {
     (Number) => { Node<0, row!(Number, chain, ())> };
     (Text) => { Node<1, row!(Text, chain, ())> };

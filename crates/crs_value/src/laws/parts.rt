@@ -1,5 +1,4 @@
-//! Laws of the nodes within a CRS: an item is read as one value at most, and a sound one as a value that meets all that
-//! is asked of its kind.
+//! Laws of nodes within a CRS: an item is read as one value at most, a sound one as a value that meets what is asked.
 ghost use Rattle.crs_shape.specs.declared.class.Class.{Class};
 ghost use Rattle.crs_shape.specs.declared.class.Class.TheVariants as class;
 ghost use Rattle.crs_value.specs.Reads.{ReadsAxis, ReadsAxisMeridian, ReadsBox, ReadsDatum, ReadsEllipsoid, ReadsEnsemble, ReadsExtent, ReadsIdent, ReadsMember, ReadsMeridian, ReadsUnit, ReadsUsage, ReadsConversion, ReadsGeoidModel, ReadsMethod, ReadsParameter, ReadsDeformationModel, ReadsDynamic};
@@ -12,8 +11,7 @@ ghost use Rattle.crs_value.specs.SoundParts.{IsEllipsoid, IsMember, IsMeridian};
 ghost use Rattle.crs_value.specs.SoundSingle.{IsBase, IsGeodetic, IsGeodeticFrame, IsProjected, IsVertical, IsVerticalFrame};
 ghost use Rattle.crs_value.specs.declared.values.frame.Frame.TheVariants as frame;
 
-/// An item is read as one axis at most, of whatever class it is; likewise the other nodes that aren't members of sets.
-/// Profile.
+/// An item is read as one axis at most, whatever its class; likewise other nodes that aren't members of sets. Profile.
 pub fn parts_read_once()
     ensures along { IsReadOnce ReadsAxisMeridian }
     ensures axis { IsReadOnce ReadsAxis }
@@ -64,8 +62,7 @@ pub fn parts_are_sound()
     crs_shape::laws::slots_count();
 }
 
-/// A geodetic, projected, vertical or compound CRS that is read from a sound item meets all that is asked of one.
-/// Profile.
+/// A CRS of either kind that is read from a sound item meets all that is asked of one. Profile.
 pub fn kinds_are_sound()
     ensures geodetic { (c : Class) → IsGeodeticClass c → IsReadAs ReadsGeodetic IsGeodetic c }
     ensures projected { IsReadAs ReadsProjected IsProjected class.ProjectedCrs }

@@ -26,8 +26,7 @@ pub(crate) struct Firsts {
 }
 
 impl Firsts {
-    // One argument more, of this class. Inlined, it would keep all fields in registers over the walk, and the
-    // processor has too few of them.
+    // One argument more, of this class. In line it would hold all fields in registers, of which there are too few.
     #[inline(never)]
     fn note(&mut self, class: Class, id: ItemId)
         requires { IsTrue (is_same Class.Axis class) → self.old.axes + 1 < 2 ^ 64 }

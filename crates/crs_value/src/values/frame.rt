@@ -31,8 +31,7 @@ impl Drop for Frame<'_> {
 }
 
 impl<'a> Frame<'a> {
-    /// Turns an ensemble into the reference frame of its name, its ellipsoid and its identifiers. A reference frame
-    /// stays as it is. Profile.
+    /// Turns an ensemble into a frame of its name, ellipsoid and identifiers; a frame stays as it is. Profile.
     pub fn make_datum(&mut self, alloc: Global)
         ensures { self.new ≡ Frame.Datum (datum_of self.old) }
     {

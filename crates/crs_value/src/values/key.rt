@@ -27,8 +27,7 @@ pub(crate) trait Keyed: Sized {
     }
 }
 
-// What a key is made of: two digests, one of which has a word more in front. Each part is two words, which the hashers
-// take whole.
+// What a key is made of: two digests, the second with a word more in front, of parts of two words each.
 #[derive(Drop)]
 pub(crate) struct Key {
     high: DefaultHasher,

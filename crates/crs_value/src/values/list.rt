@@ -136,8 +136,7 @@ impl<T> List<T> {
         }
     }
 
-    // The list of these members, which knows where they are if they are many. Behind them, where some are repeated, it
-    // has each once.
+    // The list of these members, which knows where they are if they are many; behind them each once, where some repeat.
     pub(crate) fn of(alloc: Global, mut members: Vec<T>) -> Made<List<T>>
     where
         T: Keyed + Drop,

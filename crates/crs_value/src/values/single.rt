@@ -188,8 +188,7 @@ impl<'a> Node<'a> for Base<'a> {
     }
 }
 
-/// A vertical CRS, `VERTCRS[name, (dynamic), frame, system, tail]`, with geoid models in its tail.
-/// ISO 19162:2019, "Vertical CRS".
+/// A vertical CRS, `VERTCRS[name, (dynamic), frame, system, tail]`. ISO 19162:2019, "Vertical CRS".
 pub struct Vertical<'a> {
     /// The name.
     pub name: &'a [u8],

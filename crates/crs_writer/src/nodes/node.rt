@@ -24,8 +24,7 @@ pub struct Chain<'i, 'a> {
 // A node of fewer arguments has few members of each set, which aren't counted by themselves.
 const FEW_ARGUMENTS: usize = 32;
 
-/// An item as one of a class. What is found in an item from which no value of the class is read isn't promised; an
-/// accepted text has no such item. Profile.
+/// An item as one of a class. Of one that is read as no value nothing is promised; accepted texts have none. Profile.
 #[derive(Clone, Copy)]
 pub struct Node<'i, 'a> {
     /// The items of the text.
