@@ -39,7 +39,8 @@ spellings-insert key (x ∷ keys) =
 has-spelling : (key : Vec ℕ Global) (keys : List (Vec ℕ Global)) →
     contains compared (record { keys = keys }) key ≡ list_any (bytes_eq key.items) (spellings keys)
 has-spelling key [] = refl
-has-spelling key (x ∷ keys) = ap₂ (λ (a b : Bool). a || b) (is_eq-slice_cmp key.items x.items) (has-spelling key keys)
+has-spelling key (x ∷ keys) =
+    ap₂ (λ (a b : Bool). a || b) (is_eq-slice_cmp key.items x.items) (has-spelling key keys)
 
 pub lacking-spelled : (these others : List (Vec ℕ Global)) →
     spellings (filter (λ key. not (contains compared (record { keys = others }) key)) these) ≡ lacking (spellings these) (spellings others)

@@ -1,4 +1,5 @@
--- The text of a set shows its members, so that two sets have one text exactly where they are the same.
+-- The text of a set shows its members, so that two sets have one text exactly where they are the
+-- same.
 use Rattle.std.proofs.Common.{◌≡◌, ◌↔◌, ◌⊎◌, ⊎_elim, ℕ, List, [], ◌∷◌, ◌++◌, inl, inr, refl, sym, ◌∙◌, ap, subst}
 use Rattle.std.proofs.lemmas.List.{append-nil}
 use Rattle.crs_value.specs.Sound.{Each}
@@ -49,7 +50,8 @@ closed-some bytes h e = word-not-nil h.word h.inside (sym h.parts ∙ e)
 
 -- ---- comma_separated texts
 
-commas-tell : NoFront → (xs ys : List (List ℕ)) → Each IsClosed xs → Each IsClosed ys → commas xs ≡ commas ys → xs ≡ ys
+commas-tell : NoFront → (xs ys : List (List ℕ)) → Each IsClosed xs → Each IsClosed ys → commas xs ≡ commas ys →
+    xs ≡ ys
 commas-tell law [] [] p q e = refl
 commas-tell law [] (y ∷ ys) p q e = absurd (none-some 44 (y ++ commas ys) e)
 commas-tell law (x ∷ xs) [] p q e = absurd (none-some 44 (x ++ commas xs) (sym e))
@@ -69,7 +71,8 @@ pub comma_separated-tell : NoFront → (xs ys : List (List ℕ)) → Each IsClos
 comma_separated-tell law [] [] p q e = refl
 comma_separated-tell law [] (y ∷ ys) p q e = absurd (closed-some y q.0 (front-nil y (commas ys) (sym e)))
 comma_separated-tell law (x ∷ xs) [] p q e = absurd (closed-some x p.0 (front-nil x (commas xs) e))
-comma_separated-tell law (x ∷ xs) (y ∷ ys) p q e = commas-tell law (x ∷ xs) (y ∷ ys) p q (ap (λ bytes. 44 ∷ bytes) e)
+comma_separated-tell law (x ∷ xs) (y ∷ ys) p q e =
+    commas-tell law (x ∷ xs) (y ∷ ys) p q (ap (λ bytes. 44 ∷ bytes) e)
 
 -- ---- members and their spellings
 

@@ -47,7 +47,11 @@ far_unbounded p m t far h =
 pub near_bounded : (p : Parts) (m : Mantissa) (power : ℤ) → Strips (digits_value (mantissa p)) m.digits m.zeros → m.digits < 10 ^ 38 → length (mantissa p) ≤ 100 → length (exponent_digits p.exponent) ≤ 3 → IsPowerBetween (power_up p.exponent + m.zeros) (power_down p.exponent + length (fraction_digits p.fraction)) power → IsBounded p
 near_bounded p m power t l a b near =
     let h = power_near (power_up p.exponent + m.zeros) (power_down p.exponent + length (fraction_digits p.fraction)) power near in
-    record { mantissa_digits = a; exponent_digits = b; measured = inr (m.digits, m.zeros, t, l, h.0, h.1) }
+    record {
+      mantissa_digits = a;
+      exponent_digits = b;
+      measured = inr (m.digits, m.zeros, t, l, h.0, h.1);
+    }
 
 -- a number scaled two ways
 pub same_scaled : (n m z a b : ℕ) → n ≡ m * 10 ^ z → b ≡ z + a → n * 10 ^ a ≡ m * 10 ^ b

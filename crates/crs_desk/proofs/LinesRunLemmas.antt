@@ -1,4 +1,5 @@
--- What the source of a run over lines has given, and what the two halves of the run say of the whole.
+-- What the source of a run over lines has given, and what the two halves of the run say of the
+-- whole.
 use Rattle.std.proofs.Common.{◌≡◌, ◌+◌, ◌<◌, ◌≤◌, ◌++◌, ◌*◌, ◌^◌, [], ℕ, Bool, List, Option, Some, None, true, false, ap, append-nil, length, length-append, subst, sym, refl, arith, Result, Ok, Err, IfErr, IfOk, IsErr, IsErrOf, ◌↔◌}
 use Rattle.std.specs.Io.KnownBytes.{Consumes}
 use Rattle.crs_streams.specs.inner.Prelude.{CountsRead, CutsLines, GivesMore, HasGiven, SinkState, SourceState, fresh_source}

@@ -218,7 +218,8 @@ first_there (v ∷ vs) have = refl
 -- what was given has a first value
 given_there : (id : Text) (rows : List Row) → HaveValues rows → is_given id rows ≡ true → IsSome (first_of id rows)
 given_there id [] have given = cc
-given_there id (r ∷ rows) have given = grind (arith, first_there r.values have.0, given_there id rows have.1)
+given_there id (r ∷ rows) have given =
+    grind (arith, first_there r.values have.0, given_there id rows have.1)
 
 -- `same`, as `clap` builds it
 abbrev pub built_same : Shape

@@ -14,4 +14,5 @@ no_feeds (b ∷ words) = elim (cases_Bool (b == 10)) [
 ]
 
 pub words_of : (words line : List ℕ) → length words ≤ 1000 → line ≡ map in_line words → AreWords line
-words_of words line few is = subst AreWords (sym is) (no_feeds words, omega (arith, length-map words in_line, few))
+words_of words line few is =
+    subst AreWords (sym is) (no_feeds words, omega (arith, length-map words in_line, few))

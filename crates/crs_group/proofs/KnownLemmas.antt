@@ -18,7 +18,8 @@ use Rattle.crs_group.proofs.ListLemmas.{get-front, get-last, map-changed}
 -- nothing is known where nothing is remembered
 pub none-known : (level : Level) (texts : List CanonicalText) (recent : List KnownText) → recent ≡ []
     → AreKnown level texts recent
-none-known level texts recent is = All-same (IsKnown level texts) recent [] is (All-nil (IsKnown level texts))
+none-known level texts recent is =
+    All-same (IsKnown level texts) recent [] is (All-nil (IsKnown level texts))
 
 if-none : (level : Level) (texts : List CanonicalText) (text : List ℕ) (group : Option ℕ) → group ≡ None
     → IfSome group (HasGroup level texts text)

@@ -52,7 +52,8 @@ names-more true lines line before after number place is so_far = rw (is, place, 
 names-more false lines line before after number place is so_far = is ∙ so_far
 
 abbrev pub ledger_of : CatalogueParts → List (List ℕ) → ℕ → ℕ → LedgerParts
-ledger_of catalogue names lines blank = record { catalogue = catalogue; names = names; lines = lines; blank = blank }
+ledger_of catalogue names lines blank =
+    record { catalogue = catalogue; names = names; lines = lines; blank = blank }
 
 module _ (Form : Level → List ℕ → List ℕ → Type 0) (Share : Level → PlacedLine → PlacedLine → Type 0) where
   pub blank-more : (texts : List (List ℕ)) (text : List ℕ) (before after : CatalogueParts) (number : ℕ) (place : Placed)

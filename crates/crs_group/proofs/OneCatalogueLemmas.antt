@@ -1,4 +1,5 @@
--- The catalogue of some lines is one: each of its lines has one place, and each of its groups one text.
+-- The catalogue of some lines is one: each of its lines has one place, and each of its groups one
+-- text.
 use Rattle.std.proofs.Common.{◌≡◌, ◌⊎◌, ◌<◌, ◌≤◌, ◌∷◌, [], ℕ, suc, List, Some, length, map, slice_get, inl, inr, ap, sym, refl, ◌∙◌, arith}
 use Rattle.std.proofs.lemmas.Bool.{cases_lt}
 use Rattle.std.proofs.lemmas.Option.{slice_get_within}
@@ -37,7 +38,8 @@ each-in P (q ∷ qs) each p (inr h) = each-in P qs each.1 p h
 counts-one : (before : ℕ) (place : Placed) (x y : ℕ) → Counts before place x → Counts before place y → x ≡ y
 counts-one before place x y p q = grind arith
 
-numbered-one : (before : ℕ) (ps : List PlacedLine) (x y : ℕ) → AreNumbered before ps x → AreNumbered before ps y → x ≡ y
+numbered-one : (before : ℕ) (ps : List PlacedLine) (x y : ℕ) → AreNumbered before ps x → AreNumbered before ps y
+    → x ≡ y
 numbered-one before [] x y p q = omega arith
 numbered-one before (r ∷ rs) x y p q =
     let e : p.0 ≡ q.0 = counts-one before r.place p.0 q.0 p.1 q.1 in

@@ -7,7 +7,8 @@ use Rattle.crs_group.specs.GroupTexts.{AreNumbered, Counts, PlacedLine, if_refus
 
 pub numbered-append : (before : ℕ) (placed : List PlacedLine) (next : ℕ) (p : PlacedLine) (behind : ℕ)
     → AreNumbered before placed next → Counts next p.place behind → AreNumbered before (placed ++ p ∷ []) behind
-numbered-append before [] next p behind numbered counts = (behind, rw numbered at counts, refl)
+numbered-append before [] next p behind numbered counts =
+    (behind, rw numbered at counts, refl)
 numbered-append before (q ∷ qs) next p behind numbered counts =
     (numbered.0, numbered.1, numbered-append numbered.0 qs next p behind numbered.2 counts)
 

@@ -55,7 +55,8 @@ module _ (text : AxisParts → List ℕ) where
 
   pub in-front : (x : AxisParts) (xs : List AxisParts) → Before x xs → among text x xs ≡ x ∷ xs
   in-front x [] h = refl
-  in-front x (y ∷ ys) h = among-cases text (λ zs. zs ≡ x ∷ y ∷ ys) x y ys (λ n. refl) (λ g. absurd (h g))
+  in-front x (y ∷ ys) h =
+      among-cases text (λ zs. zs ≡ x ∷ y ∷ ys) x y ys (λ n. refl) (λ g. absurd (h g))
 
   risen : (xs : List AxisParts) → Rising xs → ascending text xs ≡ xs
   risen [] h = refl

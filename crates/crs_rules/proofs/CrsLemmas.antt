@@ -122,7 +122,8 @@ module _ (text : AxisParts → List ℕ) where
 
   each-among : (P : AxisParts → Type 0) (x : AxisParts) (xs : List AxisParts) → P x → Each P xs → Each P (among text x xs)
   each-among P x [] h k = (h, tt)
-  each-among P x (y ∷ ys) h k = among-cases (Each P) x y ys (λ n. (h, k)) (λ g. (k.0, each-among P x ys h k.1))
+  each-among P x (y ∷ ys) h k =
+      among-cases (Each P) x y ys (λ n. (h, k)) (λ g. (k.0, each-among P x ys h k.1))
 
   pub each-ascending : (P : AxisParts → Type 0) (xs : List AxisParts) → Each P xs → Each P (ascending text xs)
   each-ascending P [] k = tt

@@ -45,7 +45,8 @@ module _ {A : Type 0} (digest : A → ℕ) where
 
     pub none-there : (xs : List A) → Each (λ x. test x ≡ true → digest x ≡ d) xs → AreFound digest firsts 0 xs
         → None ≡ place_of firsts d → None ≡ first_that test xs
-    none-there xs has found none = rw drop-length at (passed-over 0 (length xs) xs has found (λ k e. absurd cc))
+    none-there xs has found none =
+        rw drop-length at (passed-over 0 (length xs) xs has found (λ k e. absurd cc))
 
     -- else the first that passes isn't before the place that is kept
     pub from-first : (first : ℕ) (xs : List A) → Each (λ x. test x ≡ true → digest x ≡ d) xs → AreFound digest firsts 0 xs

@@ -430,7 +430,8 @@ over-join Step r q t (x ∷ xs) ys (p, step, more) over = (p, step, over-join St
 
 reordered : (r s : Reading) (lines theirs : List (List ℕ)) → IsReordered lines theirs → Over Reads r lines s
     → (t : Reading) × Over Reads r theirs t × IsAlike s t
-reordered r s [] theirs none over = (s, subst (λ l. Over Reads r l s) (sym none) over, alike-self s)
+reordered r s [] theirs none over =
+    (s, subst (λ l. Over Reads r l s) (sym none) over, alike-self s)
 reordered r s (line ∷ lines) theirs (front, back, are, others) (q, step, over) =
     let below = reordered q s lines (front ++ back) others over in
     let parts = over-split Reads q below.0 front back below.1 in

@@ -22,7 +22,8 @@ no-factor law k (More item items) v is low f s =
 pub no-name : (c : Class) (items : Siblings) → ((f : Value) → ¬ (SaysFactor (kind_of c) (rest_of items) f))
     → (m : MemberParts) → ¬ (SaysNamed c items m)
 no-name c End none m s = s.1
-no-name c (More item items) none m s = none m.factor (subst (λ d. SaysFactor (kind_of d) items m.factor) s.0 s.1.2)
+no-name c (More item items) none m s =
+    none m.factor (subst (λ d. SaysFactor (kind_of d) items m.factor) s.0 s.1.2)
 
 -- no other item is a name
 pub no-text : (items : Siblings) (k : ItemKind) → k ≡ kind_of_item (first_of items) → k ≢ kinds.Text

@@ -106,4 +106,5 @@ module _ (level : Level)
       joined a b d x y z s t = absurd assumption
 
   pub crs-of : IsSamenessOf IsCrs (AgreeCrs level)
-  crs-of = over (in-words (equal-by (λ x. kind_of x.0) ⊗ of parts) (assumption) (assumption))
+  crs-of =
+      over (in-words (equal-by (λ x. kind_of x.0) ⊗ of parts) (assumption) (assumption))

@@ -57,7 +57,7 @@ impl<'b, 'a> Found<'b, 'a> {
         self.unlike(at, Step::Kind, kind_word(a), kind_word(b))
     }
 
-    #[tactic(auto, unfolding(crate::specs::PartsOfCrs::parts_of_geodetic))]
+    #[tactic(auto, unfolding(crate::specs::Parts::parts_of_geodetic))]
     fn geodetic(self, at: At, a: &'b Geodetic<'a>, b: &'b Geodetic<'a>) -> Self
         requires { length at.path ≤ 2 }
         ensures { Walked (parts_of_geodetic at.path at.level a.now b.now) self.entry result }
@@ -71,7 +71,7 @@ impl<'b, 'a> Found<'b, 'a> {
         found.tail(at, &a.tail, &b.tail)
     }
 
-    #[tactic(auto, unfolding(crate::specs::PartsOfCrs::parts_of_base))]
+    #[tactic(auto, unfolding(crate::specs::Parts::parts_of_base))]
     fn base(self, at: At, a: &'b Base<'a>, b: &'b Base<'a>) -> Self
         requires { length at.path ≤ 2 }
         ensures { Walked (parts_of_base at.path at.level a.now b.now) self.entry result }
@@ -84,7 +84,7 @@ impl<'b, 'a> Found<'b, 'a> {
         found.identifiers(&at, &a.identifiers, &b.identifiers)
     }
 
-    #[tactic(auto, unfolding(crate::specs::PartsOfCrs::parts_of_projected))]
+    #[tactic(auto, unfolding(crate::specs::Parts::parts_of_projected))]
     fn projected(self, at: At, a: &'b Projected<'a>, b: &'b Projected<'a>) -> Self
         requires { length at.path ≤ 1 }
         ensures { Walked (parts_of_projected at.path at.level a.now b.now) self.entry result }
@@ -104,7 +104,7 @@ impl<'b, 'a> Found<'b, 'a> {
         walk_sets!(self, at, Geoid, a, b, GeoidModels)
     }
 
-    #[tactic(auto, unfolding(crate::specs::PartsOfCrs::parts_of_vertical))]
+    #[tactic(auto, unfolding(crate::specs::Parts::parts_of_vertical))]
     fn vertical(self, at: At, a: &'b Vertical<'a>, b: &'b Vertical<'a>) -> Self
         requires { length at.path ≤ 2 }
         ensures { Walked (parts_of_vertical at.path at.level a.now b.now) self.entry result }
@@ -117,7 +117,7 @@ impl<'b, 'a> Found<'b, 'a> {
         found.tail(at, &a.tail, &b.tail)
     }
 
-    #[tactic(auto, unfolding(crate::specs::PartsOfCrs::parts_of_horizontal))]
+    #[tactic(auto, unfolding(crate::specs::Parts::parts_of_horizontal))]
     fn horizontal(self, at: At, a: &'b Horizontal<'a>, b: &'b Horizontal<'a>) -> Self
         requires { length at.path ≤ 1 }
         ensures { Walked (parts_of_horizontal at.path at.level a.now b.now) self.entry result }
@@ -132,7 +132,7 @@ impl<'b, 'a> Found<'b, 'a> {
         }
     }
 
-    #[tactic(auto, unfolding(crate::specs::PartsOfCrs::parts_of_compound))]
+    #[tactic(auto, unfolding(crate::specs::Parts::parts_of_compound))]
     fn compound(self, at: At, a: &'b Compound<'a>, b: &'b Compound<'a>) -> Self
         requires { length at.path ≤ 0 }
         ensures { Walked (parts_of_compound at.path at.level a.now b.now) self.entry result }
@@ -206,7 +206,7 @@ pub fn same_vertical<'a>(a: &Vertical<'a>, b: &Vertical<'a>, level: Level) -> bo
 }
 
 /// Whether two horizontal parts are the same: both geodetic or both projected, as such. ISO 19162:2019, "Compound CRS".
-#[tactic(auto, unfolding(crate::specs::Parts::AreSame, crate::specs::PartsOfCrs::parts_of_horizontal))]
+#[tactic(auto, unfolding(crate::specs::Parts::AreSame, crate::specs::Parts::parts_of_horizontal))]
 pub fn same_horizontal<'a>(a: &Horizontal<'a>, b: &Horizontal<'a>, level: Level) -> bool
     ensures { IsTrue result ↔ AreSame parts_of_horizontal level a.now b.now }
 {

@@ -97,7 +97,7 @@ impl<'b, 'a> Found<'b, 'a> {
         found.identifiers_of(&at, no_identifiers(), meridian.identifiers.as_slice())
     }
 
-    #[tactic(auto, unfolding(crate::specs::PartsOfFrames::parts_of_meridian))]
+    #[tactic(auto, unfolding(crate::specs::Parts::parts_of_meridian))]
     pub(crate) fn meridian(
         self,
         at: At,
@@ -149,7 +149,7 @@ impl<'b, 'a> Found<'b, 'a> {
     }
 
     // A reference frame beside an ensemble: what both have.
-    #[tactic(auto, unfolding(crate::specs::PartsOfFrames::parts_of_frame))]
+    #[tactic(auto, unfolding(crate::specs::Parts::parts_of_frame))]
     fn datum_beside(self, at: At, a: &'b Datum<'a>, b: &'b Ensemble<'a>) -> Self
         requires { length at.path ≤ 3 }
         ensures { Walked (parts_of_frame at.path at.level (frame.Datum a.now) (frame.Ensemble b.now))
@@ -162,7 +162,7 @@ impl<'b, 'a> Found<'b, 'a> {
     }
 
     // An ensemble beside a reference frame: what both have.
-    #[tactic(auto, unfolding(crate::specs::PartsOfFrames::parts_of_frame))]
+    #[tactic(auto, unfolding(crate::specs::Parts::parts_of_frame))]
     fn ensemble_beside(self, at: At, a: &'b Ensemble<'a>, b: &'b Datum<'a>) -> Self
         requires { length at.path ≤ 3 }
         ensures { Walked (parts_of_frame at.path at.level (frame.Ensemble a.now) (frame.Datum b.now))
@@ -174,7 +174,7 @@ impl<'b, 'a> Found<'b, 'a> {
         found.identifiers(&at, &a.identifiers, &b.identifiers)
     }
 
-    #[tactic(auto, unfolding(crate::specs::PartsOfFrames::parts_of_frame))]
+    #[tactic(auto, unfolding(crate::specs::Parts::parts_of_frame))]
     pub(crate) fn frame(self, at: At, a: &'b Frame<'a>, b: &'b Frame<'a>) -> Self
         requires { length at.path ≤ 3 }
         ensures { Walked (parts_of_frame at.path at.level a.now b.now) self.entry result }

@@ -21,7 +21,7 @@ use crs_value::{
 };
 
 /// Whether two dynamic parts are the same. ISO 19162:2019, "Dynamic coordinate reference systems".
-#[tactic(auto, unfolding(crate::specs::Parts::AreSame, crate::specs::PartsOfCrs::parts_of_dynamic, crate::specs::SameCrs::SameDynamic))]
+#[tactic(auto, unfolding(crate::specs::Parts::AreSame, crate::specs::Parts::parts_of_dynamic, crate::specs::SameCrs::SameDynamic))]
 pub fn same_dynamic<'a>(a: &Dynamic<'a>, b: &Dynamic<'a>, level: Level) -> bool
     ensures { IsTrue result ↔ SameDynamic level a.now b.now }
 {
@@ -60,7 +60,7 @@ fn same_usages<'a>(a: &Tail<'a>, b: &Tail<'a>, level: Level) -> bool
 }
 
 impl<'b, 'a> Found<'b, 'a> {
-    #[tactic(auto, unfolding(crate::specs::PartsOfCrs::parts_of_method))]
+    #[tactic(auto, unfolding(crate::specs::Parts::parts_of_method))]
     fn method(self, at: At, a: &'b Method<'a>, b: &'b Method<'a>) -> Self
         ensures { Walked (parts_of_method at.path at.level a.now b.now) self.entry result }
     {
@@ -76,7 +76,7 @@ impl<'b, 'a> Found<'b, 'a> {
         walk_sets!(self, at, Parameters, a, b, Parameters)
     }
 
-    #[tactic(auto, unfolding(crate::specs::PartsOfCrs::parts_of_conversion))]
+    #[tactic(auto, unfolding(crate::specs::Parts::parts_of_conversion))]
     pub(crate) fn conversion(self, at: At, a: &'b Conversion<'a>, b: &'b Conversion<'a>) -> Self
         requires { length at.path ≤ 3 }
         ensures { Walked (parts_of_conversion at.path at.level a.now b.now) self.entry result }
@@ -107,7 +107,7 @@ impl<'b, 'a> Found<'b, 'a> {
         self.alone(at, Step::Model, first, second)
     }
 
-    #[tactic(auto, unfolding(crate::specs::PartsOfCrs::parts_of_dynamic))]
+    #[tactic(auto, unfolding(crate::specs::Parts::parts_of_dynamic))]
     pub(crate) fn dynamic(
         self,
         at: At,
@@ -133,7 +133,7 @@ impl<'b, 'a> Found<'b, 'a> {
         self.alone(at, Step::Usage, first, second)
     }
 
-    #[tactic(auto, unfolding(crate::specs::PartsOfCrs::parts_of_tail))]
+    #[tactic(auto, unfolding(crate::specs::Parts::parts_of_tail))]
     pub(crate) fn tail(self, at: At, a: &'b Tail<'a>, b: &'b Tail<'a>) -> Self
         ensures { Walked (parts_of_tail at.path at.level a.now b.now) self.entry result }
     {

@@ -55,7 +55,7 @@ impl<'b, 'a> Found<'b, 'a> {
     }
 
     // The parts of an axis of each of two systems.
-    #[tactic(auto, unfolding(crate::specs::PartsOfSystems::parts_of_axis))]
+    #[tactic(auto, unfolding(crate::specs::Parts::parts_of_axis))]
     fn axis(
         self,
         at: At,
@@ -106,7 +106,7 @@ impl<'b, 'a> Found<'b, 'a> {
         found
     }
 
-    #[tactic(auto, unfolding(crate::specs::PartsOfSystems::parts_of_system))]
+    #[tactic(auto, unfolding(crate::specs::Parts::parts_of_system))]
     pub(crate) fn system(self, at: At, a: &'b System<'a>, b: &'b System<'a>) -> Self
         requires { length at.path ≤ 3 }
         ensures { Walked (parts_of_system at.path at.level a.now b.now) self.entry result }

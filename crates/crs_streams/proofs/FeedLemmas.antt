@@ -14,7 +14,8 @@ feeds-none [] plain = refl
 feeds-none (b ∷ bs) plain = rw (feed-test b bs plain) (omega (arith, feeds-none bs (feed-rest b bs plain)))
 
 -- a stretch at the start of the bytes that ends before their first feed
-stretch-before : (line rest a b : List ℕ) → line ++ rest ≡ a ++ 10 ∷ b → HasNoFeed line → (m : List ℕ) × (a ≡ line ++ m)
+stretch-before : (line rest a b : List ℕ) → line ++ rest ≡ a ++ 10 ∷ b → HasNoFeed line
+    → (m : List ℕ) × (a ≡ line ++ m)
 stretch-before [] rest a b e plain = (a, refl)
 stretch-before (x ∷ xs) rest [] b e plain =
     absurd (false≢true (sym (feed-test x xs plain) ∙ ap (λ y. y == 10) (head-is e)))
@@ -34,7 +35,8 @@ begins-either (x ∷ xs) rest (y ∷ ys) b e =
 
 pub short-front : (a b : List ℕ) → HasShortLines (a ++ b) → HasShortLines a
 unfolding HasShortLines
-short-front a b short front line rest e plain = short front line (rest ++ b) (rw e (simp append_assoc refl)) plain
+short-front a b short front line rest e plain =
+    short front line (rest ++ b) (rw e (simp append_assoc refl)) plain
 
 pub short-line : (line : List ℕ) → length line ≤ 1048576 → HasShortLines line
 unfolding HasShortLines

@@ -23,7 +23,9 @@ retold R f g old new e w = record { writes = λ value r. w.writes value r ∙ ap
 
 -- nothing is written where the text is empty
 pub untold : {V : Type 0} (R : V → Type 0) (f : V → List ℕ) (old : List ℕ) → ((value : V) → R value → f value ≡ []) → Writes R f old old
-untold R f old e = record { writes = λ value r. sym (append-nil old) ∙ ap (λ (x : List ℕ). old ++ x) (sym (e value r)) }
+untold R f old e = record {
+  writes = λ value r. sym (append-nil old) ∙ ap (λ (x : List ℕ). old ++ x) (sym (e value r));
+}
 
 -- ---- sets of no members
 

@@ -12,7 +12,8 @@ use Rattle.crs_writer.specs.inner.Openings.{text_behind}
 use Rattle.crs_writer.specs.SetText.{commas}
 
 more-text : (item : Item) (rest : Siblings) → others_text (More item rest) ≡ others_text (More item End) ++ others_text rest
-more-text item rest = ap (λ (x : List ℕ). 44 ∷ (x ++ others_text rest)) (sym (append-nil (item_text item)))
+more-text item rest =
+    ap (λ (x : List ℕ). 44 ∷ (x ++ others_text rest)) (sym (append-nil (item_text item)))
 
 pub opt-text : {A : Type 0} (spell : A → Item) (value : Option A) (rest : Siblings) →
     others_text (opt spell value rest) ≡ others_text (opt spell value End) ++ others_text rest
@@ -37,7 +38,8 @@ text-node keyword (Some raw) = simp (append_assoc, append-nil)
 each-commas : {A : Type 0} (spell : A → Item) (values : List A) →
     others_text (each spell values End) ≡ commas (map (λ v. item_text (spell v)) values)
 each-commas spell [] = refl
-each-commas spell (value ∷ values) = ap (λ (x : List ℕ). 44 ∷ (item_text (spell value) ++ x)) (each-commas spell values)
+each-commas spell (value ∷ values) =
+    ap (λ (x : List ℕ). 44 ∷ (item_text (spell value) ++ x)) (each-commas spell values)
 
 pub map-match : {A B : Type 0} (f : A → B) (o : Ordering) (a b c : List A) →
     map f (match_ordering o a b c) ≡ match_ordering o (map f a) (map f b) (map f c)

@@ -215,7 +215,8 @@ module _ (N : Class → Class → Item → Type 0) (most : ℕ) (c : Class) (key
 -- a made node as an argument of another
 pub as-argument : {level : Level} {n most : ℕ} {parent c : Class} {j : Item} → n ≤ most → class_in parent j ≡ Some c →
     ((p : ℕ) → IsAcceptedNormal level c n (at_place p j)) → Made level most parent c j
-as-argument {parent = parent} h named made = record { named = named; fine = λ p. fine-as h (λ n. n parent) (made p).1 }
+as-argument {parent = parent} h named made =
+    record { named = named; fine = λ p. fine-as h (λ n. n parent) (made p).1 }
 
 -- what is in a node of these classes
 pub views : {c : Class} {runs : List Run} {item : Item} (es : List Class) → Sees c runs item →
@@ -259,4 +260,5 @@ rise-lines N most c (run ∷ runs) least s h e =
 pub has-rise : (N : Class → Class → Item → Type 0) (most : ℕ) (c : Class) (runs : List Run) (item : Item) → Sees c
     runs item →
     RunsMadeBy N most c runs → rises 0 runs ≡ true → Rise c 0 (arguments item)
-has-rise N most c runs item s m r = subst (Rise c 0) (sym s.are) (rise-lines N most c runs 0 s.start m r)
+has-rise N most c runs item s m r =
+    subst (Rise c 0) (sym s.are) (rise-lines N most c runs 0 s.start m r)

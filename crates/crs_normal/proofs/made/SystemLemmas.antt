@@ -161,7 +161,8 @@ head_arguments l level s h =
 
 known-type : (t : SystemType) (words : List Item) (fault : RefusedAt) →
     ArePlaced words (word_item (system_word t) ∷ []) → ¬ (AnyOf UnknownType words fault)
-known-type t words fault h = none-of UnknownType words (word_item (system_word t) ∷ []) fault h (λ p b. b.1 t refl, tt)
+known-type t words fault h =
+    none-of UnknownType words (word_item (system_word t) ∷ []) fault h (λ p b. b.1 t refl, tt)
 
 pub head-made : LowerLaws → (level : Level) (s : SystemParts) → IsSystem s → (p : ℕ) →
     IsAcceptedNormal level class.CoordinateSystem 3 (at_place p (item_head (norm_system level s)))

@@ -114,7 +114,8 @@ usages-made l level most parent us deep named h =
     IsArgument l u = Made l most parent class.Usage (item_usage (norm_usage u))
 
     argument : (u : UsageParts) → IsUsage u → IsArgument levels.Full u
-    argument u q = as-argument deep (usage-named parent u q.some named) (usage-made l u q)
+    argument u q =
+        as-argument deep (usage-named parent u q.some named) (usage-made l u q)
 
 usages-ascend : (level : Level) (us : List UsageParts) → Ascend (map item_usage (set_usages level us) ++ [])
 unfolding set_usages
@@ -206,7 +207,8 @@ axes_run level s = record { of = class.Axis; items = axis_items level s }
 
 -- the system of a CRS and its end
 abbrev pub behind : Level → SystemParts → TailParts → List Run
-behind level s t = alone class.CoordinateSystem (item_head (norm_system level s)) ∷ axes_run level s ∷ tail_runs level t
+behind level s t = alone class.CoordinateSystem (item_head (norm_system level s)) ∷ axes_run level s ∷
+    tail_runs level t
 
 -- a class of CRS names the nodes of its system
 pub record NamesSystem (c : Class) : Type 0 where

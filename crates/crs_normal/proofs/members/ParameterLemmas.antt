@@ -1,4 +1,5 @@
--- Parameters: the item of one reads as it wherever it is, with a unit of the class that its keyword names.
+-- Parameters: the item of one reads as it wherever it is, with a unit of the class that its keyword
+-- names.
 use Rattle.std.proofs.Common.{rules, ◌≡◌, ◌⊎◌, inl, inr, ℕ, ◌+◌, codes, IfSome, Option, Some, None, List, [], ◌∷◌, refl, map, ◌++◌}
 use Rattle.crs_decimal.specs.inner.Prelude.{Value}
 use Rattle.crs_text.specs.inner.Prelude.{Item, End, More, at_place}
@@ -30,7 +31,8 @@ module _ {c : Class} {ss : List (Segment c)} {item : Item} (look : Seen c ss ite
   Stands None [] = Unit {0}
   Stands (Some u) [] = ⊥
   Stands None (d ∷ ds) = (items_of d ss ≡ []) × Stands None ds
-  Stands (Some u) (d ∷ ds) = NamesId d × (items_of d ss ≡ item_unit u ∷ []) ⊎ (items_of d ss ≡ []) × Stands (Some u) ds
+  Stands (Some u) (d ∷ ds) =
+      NamesId d × (items_of d ss ≡ item_unit u ∷ []) ⊎ (items_of d ss ≡ []) × Stands (Some u) ds
 
   unit-found : LowerLaws → (o : Option UnitParts) → IfSome o IsUnit → (ds : List Class) → Stands o ds →
       ReadsUnitOf ds c item o

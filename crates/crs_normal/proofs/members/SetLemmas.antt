@@ -1,4 +1,5 @@
--- Lists in ascending order of their bytes: their members; they are one list where their members are the same.
+-- Lists in ascending order of their bytes: their members; they are one list where their members are
+-- the same.
 use Rattle.std.proofs.Common.{◌≡◌, ◌↔◌, ◌⊎◌, ℕ, List, [], ◌∷◌, map, inl, inr, Ordering, Less, Equal, Greater, refl, sym, ◌∙◌, ap, subst}
 use Rattle.std.proofs.Math.Logic.{⊎_elim, ⊎_map}
 use Rattle.std.specs.Cmp.Lexicographic.{slice_cmp}

@@ -90,7 +90,12 @@ opened {c = c} (node place keyword square first others close) are_slots good =
         written = normal.first_keyword;
         own = normal.own_form;
         sets = normal.ascending_sets;
-        kept = record { classes = s.0 ∷ s.1.0; shaped = are; normal = normal.normal_arguments; left = normal.at_level };
+        kept = record {
+          classes = s.0 ∷ s.1.0;
+          shaped = are;
+          normal = normal.normal_arguments;
+          left = normal.at_level;
+        };
         slots = subst (λ (ss : List SlotParts). View c ss (More first others)) are_slots
             (view c (s.0 ∷ s.1.0) (More first others) s.1.1.1.1.1 are);
         raw = refl;
@@ -182,7 +187,8 @@ reads-none R items values reads none = grind (arith, reads, none)
 pub reads-kept : {V : Type 0} (level : Level) (R : Item → V → Type 0) (items : List Item) (values : List V) →
     ReadsEach R items values →
     kept level items ≡ items → kept level values ≡ values
-reads-kept level R items values reads = kept-where_none level items values (reads-none R items values reads)
+reads-kept level R items values reads =
+    kept-where_none level items values (reads-none R items values reads)
 
 -- ---- sets
 
@@ -296,4 +302,5 @@ module _ {level : Level} {c : Class} {slots : List SlotParts} {item : Item} {key
       Ascend (those c d (arguments item)) → (values : List V) → ReadsEach R (those c d (arguments item)) values →
       {rest after : Siblings} → rest ≡ after →
       without_places_onto (front_in k) rest ≡ each spell (in_order (λ w. item_text (spell w)) (map norm values)) after
-  set-in {d = d} spell norm form k same = set-spelled spell norm form _ (front_in k) (good-in d) (found-in d same)
+  set-in {d = d} spell norm form k same =
+      set-spelled spell norm form _ (front_in k) (good-in d) (found-in d same)

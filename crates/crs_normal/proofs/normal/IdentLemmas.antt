@@ -184,7 +184,8 @@ of-others c item (d ∷ ds) es none (inr one) = of-others c item ds es none.1 on
 -- the arguments of these classes, those of each class together, before these others
 abbrev pub class_by_class : Class → List Class → List Item → Siblings → Siblings
 class_by_class c [] items rest = rest
-class_by_class c (d ∷ ds) items rest = without_places_onto (those c d (onto items End)) (class_by_class c ds items rest)
+class_by_class c (d ∷ ds) items rest =
+    without_places_onto (those c d (onto items End)) (class_by_class c ds items rest)
 
 -- the ranks of the classes rise
 abbrev pub RanksRise : List Class → Type 0
@@ -267,7 +268,8 @@ end_classes = class.GeoidModel ∷ class.Usage ∷ class.Identifier ∷ class.Re
 pub end-as : (c : Class) (item : Item) → IsOneOf c tail.classes item → Each (λ d. is_a c d item ≡ false) bare_classes →
     IsOneOf c end_classes item
 end-as c item (inl named) bare = inr (inl named)
-end-as c item (inr one) bare = inr (inr (of-others c item bare_classes (class.Identifier ∷ class.Remark ∷ []) bare one))
+end-as c item (inr one) bare =
+    inr (inr (of-others c item bare_classes (class.Identifier ∷ class.Remark ∷ []) bare one))
 
 pub vertical_end-as : (c : Class) (item : Item) → IsOneOf c vertical_tail.classes item →
     Each (λ d. is_a c d item ≡ false) bare_classes → IsOneOf c end_classes item

@@ -46,7 +46,8 @@ at-order k j place order n = ap (is_at k place) n.is ∙ ap (λ bytes. bytes_eq 
 at-here : (k place : ℕ) (order : Option Value) → IsNumbered k order → is_at k place order ≡ true
 at-here k place order n = at-order k k place order n ∙ (bytes_eq-Decides (decimal k) (decimal k)).1 refl
 
-not-here : (k j place : ℕ) (order : Option Value) → IsNumbered j order → j < k → k < limit → is_at k place order ≡ false
+not-here : (k j place : ℕ) (order : Option Value) → IsNumbered j order → j < k → k < limit →
+    is_at k place order ≡ false
 not-here k j place order n less within =
     let apart : bytes_eq (decimal j) (decimal k) ≡ false =
     grind (arith, bytes_eq-Decides (decimal j) (decimal k), decimal_injective j k, less, within) in

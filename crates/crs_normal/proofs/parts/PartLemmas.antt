@@ -1,4 +1,5 @@
--- Values of one kind: from the laws of their one form and its item, what their spellings have in common.
+-- Values of one kind: from the laws of their one form and its item, what their spellings have in
+-- common.
 use Rattle.std.proofs.Common.{◌≡◌, ◌≤◌, ◌∙◌, ℕ, List, sym, ap, subst, arith}
 use Rattle.crs_text.specs.inner.Prelude.{Item, SpellsNode, at_place, item_text}
 use Rattle.crs_shape.specs.declared.class.Class.{Class}
@@ -51,7 +52,8 @@ pub record IsKnownBy {V : Type 0} (c : V → Class) (N : V → Item → Type 0) 
 
 -- the text of an item, which doesn't depend on the place
 writable-at : (c : Class) (N : Item → Type 0) (i : Item) → IsStanding c N (at_place 0 i) → IsWritable (at_place 0 i)
-writable-at c N i m = record { formed = m.1.formed; is_node = m.0; within = omega arith }
+writable-at c N i m =
+    record { formed = m.1.formed; is_node = m.0; within = omega arith }
 
 -- equal texts are of equal values, where all are read as items of one class
 pub told-by : {V : Type 0} → LowerLaws → (c : V → Class) (N : V → Item → Type 0) (d : Class) (Reads : Class → Item → V → Type 0) (Is : V → Type 0) (form : V → V) (item : V → Item) →
@@ -96,7 +98,8 @@ module _ {V : Type 0} (laws : LowerLaws) {c : V → Class} {N : V → Item → T
   form-same x s = (known.decides x (form x) s (form-kept x s)).0 (form-twice x s)
 
   stands : (x : V) → Is x → SpellsNode (item_text (item (form x))) (at-start x)
-  stands x s = written-at laws.spells (item (form x)) (writable-at (c x) (N x) (item (form x)) (known.made x s))
+  stands x s =
+      written-at laws.spells (item (form x)) (writable-at (c x) (N x) (item (form x)) (known.made x s))
 
   form-spelled : (x : V) → Is x → IsSpelledBy (c x) (N x) Reads Same x (item_text (item (form x)))
   form-spelled x s =

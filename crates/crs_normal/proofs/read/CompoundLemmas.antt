@@ -26,7 +26,8 @@ compound = class.CompoundCrs
 
 geographic-in : (level : Level) (g : GeodeticParts) → g.system.system_type ≡ types.Ellipsoidal →
     IsIn compound class.GeographicCrs (item_geodetic (norm_geodetic level g))
-geographic-in level g e = ap (λ t. class_named compound (geodetic_keyword t)) e ∙ keyword-names _ _
+geographic-in level g e =
+    ap (λ t. class_named compound (geodetic_keyword t)) e ∙ keyword-names _ _
 
 -- the horizontal part is a geographic CRS or a projected one
 abbrev side : (level : Level) (h : Horizontal) → IsHorizontal h →

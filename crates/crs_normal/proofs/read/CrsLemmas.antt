@@ -66,7 +66,8 @@ geoids-back level gs s =
 
 -- ---- ends of CRSs
 
-written-usages : (level : Level) (us : List UsageParts) → Each IsUsage us → Each IsWrittenUsage (set_usages level us)
+written-usages : (level : Level) (us : List UsageParts) → Each IsUsage us →
+    Each IsWrittenUsage (set_usages level us)
 unfolding set_usages
 written-usages level us s =
     set-kept _ (λ u. item_text (item_usage u)) _ IsWrittenUsage usage-kept (kept level us)

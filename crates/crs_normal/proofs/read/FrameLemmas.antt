@@ -74,11 +74,13 @@ ellipsoid-read laws level e s place =
 
 abbrev pub angles-in : (c : Class) → class_named c (codes "ANGLEUNIT") ≡ Some class.AngleUnit → (o : Option UnitParts) →
     IfSome o IsAngle → MayIn c class.AngleUnit item_unit o
-angles-in c e o s = some-imp _ _ (λ u q. unit-in c class.AngleUnit kinds.Angle e u q.1) o s
+angles-in c e o s =
+    some-imp _ _ (λ u q. unit-in c class.AngleUnit kinds.Angle e u q.1) o s
 
 pub angles-back : LowerLaws → (o : Option UnitParts) → IfSome o IsAngle →
     IfSome o (ReadsBack item_unit (ReadsUnit class.AngleUnit))
-angles-back laws o s = some-imp _ _ (λ u q. unit-read laws class.AngleUnit (keyword-names _ _) u q.0) o s
+angles-back laws o s =
+    some-imp _ _ (λ u q. unit-read laws class.AngleUnit (keyword-names _ _) u q.0) o s
 
 unless-kept : (b : Bool) (o : Option UnitParts) → IfSome o IsAngle → IfSome (if b then None else o) IsAngle
 unless-kept true o s = tt
@@ -118,7 +120,8 @@ meridian-read laws level (Some m) s = given-read laws level m s
 
 pub ellipsoids-back : LowerLaws → (level : Level) (o : Option EllipsoidParts) → IfSome o IsEllipsoid →
     IfSome (option_map (norm_ellipsoid level) o) (ReadsBack item_ellipsoid (ReadsEllipsoid class.Ellipsoid))
-ellipsoids-back laws level o s = some-mapped _ _ _ (ellipsoid-read laws level) o s
+ellipsoids-back laws level o s =
+    some-mapped _ _ _ (ellipsoid-read laws level) o s
 
 members-back : (level : Level) (ms : List MemberParts) → Each IsMember ms →
     Each (ReadsBack item_member (ReadsMember class.Member)) (set_members level ms)
@@ -230,7 +233,8 @@ axis-unit-in u s = by u.kind refl
 plain-units-kept : (level : Level) (o : Option UnitParts) → IfSome o IsAxisUnit →
     IfSome (norm_units level kinds.Plain o) IsAxisUnit
 plain-units-kept level None s = tt
-plain-units-kept level (Some u) s = (unit-kept level kinds.Plain u s.0, as-no-scale kinds.Plain u.kind (λ e. cc) s.1)
+plain-units-kept level (Some u) s =
+    (unit-kept level kinds.Plain u s.0, as-no-scale kinds.Plain u.kind (λ e. cc) s.1)
 
 -- ---- axes
 

@@ -245,7 +245,8 @@ those-picked c d slot front rest f =
     ≡ (if b then and_then (chosen c d slot.classes front) (those c d rest) else those c d rest)) [
       | true ↦ λ e. ap (λ xs. xs ++ those c d rest) (those-chosen c d slot slot.classes front refl e f)
           ∙ and_then-is (chosen c d slot.classes front) (those c d rest)
-      | false ↦ λ e. ap (λ xs. xs ++ those c d rest) (slot-lacks c d slot front e f)
+      | false ↦ λ e. ap (λ xs. xs ++ those c d rest)
+          (slot-lacks c d slot front e f)
     ] refl)
 
 pub those-looked : (c d : Class) (slots : List SlotParts) (items : Siblings) (v : View c slots items) →

@@ -66,7 +66,8 @@ module _ (numbers : NumbersDecide) (sets : SetsDecide) (level : Level) where
   -- ---- frames
 
   pub datum-agrees : FormDecides IsDatum (norm_datum level) (AgreeDatum level)
-  datum-agrees a b in-a in-b = grind (arith, ellipsoid-agrees, values-agree numbers, sets.idents level)
+  datum-agrees a b in-a in-b =
+      grind (arith, ellipsoid-agrees, values-agree numbers, sets.idents level)
 
   pub ensemble-agrees : FormDecides IsEnsemble (norm_ensemble level) (AgreeEnsemble level)
   ensemble-agrees a b in-a in-b =

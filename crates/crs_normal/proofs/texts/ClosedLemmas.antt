@@ -14,7 +14,8 @@ abbrev closed_by : ℕ → List ℕ → (ℕ → Option (List ℕ)) → Option (
 closed_by zero rest within = Some rest
 closed_by (suc depth) rest within = within depth
 
--- what follows the `]` that closes the outermost of the opened brackets, with so many within it; in quotes or not
+-- what follows the `]` that closes the outermost of the opened brackets, with so many within it; in
+-- quotes or not
 abbrev behind : ℕ → Bool → List ℕ → Option (List ℕ)
 behind depth quoted [] = None
 behind depth quoted (b ∷ bytes) =

@@ -129,8 +129,10 @@ module _ (c : Class) where
         those c d (More item rest)
         ≡ (if is_class d (Some k) then if_left item side (those c d rest)
         else (if is_class d (Some l) then if_right item side (those c d rest) else those c d rest))
-    either-holds (inl e) d rest = named d k item rest e ∙ only-left (is_class d (Some k)) d (those c d rest)
-    either-holds (inr e) d rest = named d l item rest e ∙ not-both d (is_class d (Some k)) refl (those c d rest)
+    either-holds (inl e) d rest =
+        named d k item rest e ∙ only-left (is_class d (Some k)) d (those c d rest)
+    either-holds (inr e) d rest =
+        named d l item rest e ∙ not-both d (is_class d (Some k)) refl (those c d rest)
 
 module _ {c : Class} where
   -- items of one class

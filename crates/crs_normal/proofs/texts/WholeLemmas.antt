@@ -81,7 +81,8 @@ last-zero n k =
 
 none-of : (n k : ℕ) → 0 ≡ n * 10 ^ k → n ≡ 0
 none-of zero k e = refl
-none-of (suc m) k e = absurd (omega (arith, e, mul-le-mul_left (suc m) (one-le-pow k 10 (omega arith))))
+none-of (suc m) k e =
+    absurd (omega (arith, e, mul-le-mul_left (suc m) (one-le-pow k 10 (omega arith))))
 
 sized : (d n : ℕ) (power : ℤ) → d < 10 ^ 38 → is_power power ≡ true → (d % 10 ≢ 0) ⊎ (d ≡ 0) →
     d * 10 ^ (up_of power + 0) ≡ n * 10 ^ (0 + down_of power) → (n ≡ 0) ⊎ IsMeasured (whole_number n)

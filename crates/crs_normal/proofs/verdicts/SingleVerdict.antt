@@ -104,7 +104,8 @@ abbrev IsPlainOf : List ℕ → Type 0
 IsPlainOf raw = IsNormal (value_from raw) × (raw ≡ plain (value_from raw))
 
 abbrev plain_of : (raw : List ℕ) → Verdict (IsPlainOf raw)
-plain_of raw = both (tested (is_normal (value_from raw)) (λ e. e) (λ e. e)) (equal raw (plain (value_from raw)))
+plain_of raw =
+    both (tested (is_normal (value_from raw)) (λ e. e) (λ e. e)) (equal raw (plain (value_from raw)))
 
 pub plain-is-plain : LowerLaws → (raw : List ℕ) → IsPlainOf raw → IsPlain raw
 plain-is-plain l raw h = subst IsPlain (sym h.1) (l.is_plain (value_from raw) h.0)

@@ -49,7 +49,8 @@ quote false r = reader true [] r.arguments r.open_nodes
 abbrev opened : Reader → Open
 opened r = record { keyword = reverse r.bytes; before = r.arguments }
 
--- after a byte outside quotes: an opening delimiter, a comma, a closing one, or a byte of a single item
+-- after a byte outside quotes: an opening delimiter, a comma, a closing one, or a byte of a single
+-- item
 abbrev outside : Reader → ℕ → Reader
 outside r b =
     if b == 91 then reader false [] [] (opened r ∷ r.open_nodes)

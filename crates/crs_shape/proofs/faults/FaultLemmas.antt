@@ -166,7 +166,8 @@ by-keyword : (is : Bool) (item : Item) (Arguments : RefusedAt → Type 0) (found
 by-keyword false item Arguments found h = exact-left _ _ (λ fault x. false≢true x.0) (Some (misplaced item)) (exact-own false item)
 by-keyword true item Arguments found h = exact-right _ _ (exact-own true item) found (exact-as _ _ (λ fault. ((λ x. (refl, x)), λ x. x.1)) found h)
 
-mutual unfolding first_inside first_in_arguments
+mutual
+  unfolding first_inside first_in_arguments
 
   pub exact_inside : (c : Class) (item : Item) → IsExact (Inside c item) (first_inside c item)
   exact_inside c (leaf kind place raw) = exact-own (is_of c (leaf kind place raw)) (leaf kind place raw)

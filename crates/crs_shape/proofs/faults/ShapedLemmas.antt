@@ -35,7 +35,8 @@ by-test : (b : Bool) (own : RefusedAt) (found : Option RefusedAt) → (if b then
 by-test true own found e = (refl, e)
 by-test false own found e = cc
 
-mutual unfolding first_inside first_in_arguments
+mutual
+  unfolding first_inside first_in_arguments
 
   shaped-none : (c : Class) (item : Item) → first_inside c item ≡ None → Shaped c item
   shaped-none c (leaf kind place raw) e = (by-test _ _ None e).0

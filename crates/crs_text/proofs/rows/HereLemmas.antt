@@ -1,4 +1,5 @@
--- The rows of a tree, one by one: what an item's row says, and where its arguments and the argument after it are.
+-- The rows of a tree, one by one: what an item's row says, and where its arguments and the argument
+-- after it are.
 use Rattle.std.proofs.Common.{◌≡◌, ℕ, zero, suc, ◌≤◌, ◌<◌, List, [], ◌∷◌, ◌++◌, length, drop, map, refl, ap, append_assoc, length-append, arith}
 use Rattle.std.proofs.Math.Seq.{drop-append_seam}
 use Rattle.std.proofs.lemmas.List.{append-nil, map-append}
@@ -40,7 +41,8 @@ mutual
 
   items-heres_of : (items : Siblings) (depth : ℕ) → map items_at (heres_of depth items) ≡ inside_items items
   items-heres_of End depth = refl
-  items-heres_of (More item items) depth = simp (map-append, items-heres_in item depth, items-heres_of items depth)
+  items-heres_of (More item items) depth =
+      simp (map-append, items-heres_in item depth, items-heres_of items depth)
 
 mutual
   pub length-rows : (item : Item) (depth : ℕ) → length (rows depth item) ≡ size_of item
@@ -63,7 +65,8 @@ mutual
 
   rows-heres_of : (items : Siblings) (depth : ℕ) → rows_of_items depth items ≡ map row_at (heres_of depth items)
   rows-heres_of End depth = refl
-  rows-heres_of (More item items) depth = simp (map-append, rows-heres_in item depth, rows-heres_of items depth)
+  rows-heres_of (More item items) depth =
+      simp (map-append, rows-heres_in item depth, rows-heres_of items depth)
 
 pub rows-heres : (tree : Item) → rows 0 tree ≡ map row_at (heres tree)
 rows-heres tree = rows-heres_in tree 0

@@ -36,7 +36,8 @@ pub record IsAhead (text : List ℕ) (at : ℕ) (ts before : List Token) (left :
   pub parts : before ≡ ts ++ more
   pub fronts : Fronts (length text) (drop at text) more left
 
--- these places are those of the delimiters that are open here, no further on than the tokens that lead to the place
+-- these places are those of the delimiters that are open here,
+-- no further on than the tokens that lead to the place
 pub record IsNested (text : List ℕ) (place at : ℕ) (places : List ℕ) : Type 0 where
   pub tokens : List Token
   pub fronts : Fronts (length text) text tokens (drop at text)

@@ -15,7 +15,8 @@ before_tokens (item ∷ before) = before_tokens before ++ (tokens item ++ comma 
 -- the tokens that lead into the open nodes
 abbrev pub frames_tokens : List Frame → List Token
 frames_tokens [] = []
-frames_tokens (f ∷ fs) = frames_tokens fs ++ (single word f.place f.keyword ∷ opening f.square ∷ before_tokens f.before)
+frames_tokens (f ∷ fs) =
+    frames_tokens fs ++ (single word f.place f.keyword ∷ opening f.square ∷ before_tokens f.before)
 
 -- the tokens that lead to a state
 abbrev pub unread : State → List Token

@@ -1,4 +1,5 @@
--- A table over its source gives back the item whose rows it has, and the source has each row's raw bytes.
+-- A table over its source gives back the item whose rows it has, and the source has each row's raw
+-- bytes.
 use Rattle.std.proofs.Common.{◌≡◌, ℕ, suc, ◌+◌, ◌≤◌, ◌<◌, List, [], ◌∷◌, ◌++◌, length, take, drop, map, refl, sym, ◌∙◌, ap, subst, arith}
 use Rattle.std.proofs.lemmas.List.{map-append, get_or-map}
 use Rattle.std.proofs.lemmas.List.Elements.{All-nil, All-cons, All-append, All-get_or}

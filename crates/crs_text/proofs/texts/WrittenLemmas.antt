@@ -12,9 +12,12 @@ use Rattle.crs_text.proofs.tokens.ViableLemmas.{node_tokens}
 abbrev mutual
   -- the items are equal but for places and the kind of delimiters
   pub SameItem : Item → Item → Type 0
-  SameItem (leaf kind place raw) (leaf other_kind other_place other_raw) = (kind ≡ other_kind) × (raw ≡ other_raw)
-  SameItem (leaf kind place raw) (node other_place other_keyword other_square other_first rest other_close) = ⊥
-  SameItem (node place keyword square first others close) (leaf other_kind other_place other_raw) = ⊥
+  SameItem (leaf kind place raw) (leaf other_kind other_place other_raw) =
+      (kind ≡ other_kind) × (raw ≡ other_raw)
+  SameItem (leaf kind place raw)
+      (node other_place other_keyword other_square other_first rest other_close) = ⊥
+  SameItem (node place keyword square first others close) (leaf other_kind other_place other_raw) =
+      ⊥
   SameItem (node place keyword square first others close)
       (node other_place other_keyword other_square other_first rest other_close) =
       (keyword ≡ other_keyword) × SameItem first other_first × SameItems others rest

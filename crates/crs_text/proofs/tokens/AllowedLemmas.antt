@@ -21,7 +21,8 @@ mutual
 
   opens-others : (items : Siblings) (held : List Bool) (more : List Token) → fold open_after held (others_tokens items ++ more) ≡ fold open_after held more
   opens-others End held more = refl
-  opens-others (More item items) held more = rw (append_assoc, opens-item item, opens-others items)
+  opens-others (More item items) held more =
+      rw (append_assoc, opens-item item, opens-others items)
 
 opens-before : (before : List Item) (held : List Bool) → fold open_after held (before_tokens before) ≡ held
 opens-before [] held = refl

@@ -237,13 +237,15 @@ flaw_no_token r total t left rest skip f g = beside r total t left rest skip f g
 -- ---- one flaw
 
 IsLongestUtf8-one : (bytes : List ℕ) (m n : ℕ) → IsLongestUtf8 bytes m → IsLongestUtf8 bytes n → m ≡ n
-IsLongestUtf8-one bytes m n p q = omega (arith, p.longest n q.within q.well_formed, q.longest m p.within p.well_formed)
+IsLongestUtf8-one bytes m n p q =
+    omega (arith, p.longest n q.within q.well_formed, q.longest m p.within p.well_formed)
 
 same_after : (a b left : List ℕ) → left ≡ 34 ∷ a → left ≡ 34 ∷ b → a ≡ b
 same_after a b left p q = same_tail 34 34 a b (sym p ∙ q)
 
 through_open : (after inside : List ℕ) → Through after inside → IsInside after → inside ≡ after
-through_open after inside t o = elim t [ inl s ↦ absurd (shut_not_open after s.0 s.1 s.2 o) | inr e ↦ e.1 ]
+through_open after inside t o =
+    elim t [ inl s ↦ absurd (shut_not_open after s.0 s.1 s.2 o) | inr e ↦ e.1 ]
 
 -- flaws that begin alike are one flaw
 alike : (r s : Reason) (left : List ℕ) (k m : ℕ) → IsFlaw r left k → IsFlaw s left m → shape_for r ≡ shape_for s → (r ≡ s) × (k ≡ m)

@@ -18,7 +18,8 @@ fold-some : (ds : List ℕ) (n : ℕ) → 0 < n → 0 < fold (λ m d. m * 10 + (
 fold-some [] n some = some
 fold-some (d ∷ ds) n some = fold-some ds (n * 10 + (d - 48)) (omega (arith, some))
 
--- digits, and what follows them: the first byte that decides is a digit that isn't 0, or comes after them
+-- digits, and what follows them: the first byte that decides is a digit that isn't 0, or comes
+-- after them
 telling-in : (ds rest : List ℕ) (b : ℕ) → find is_telling (ds ++ rest) ≡ Some b → 49 ≤ b → ((n : ℕ) → 0 < fold (λ m d. m * 10 + (d - 48)) n ds) ⊎ (find is_telling rest ≡ Some b)
 telling-in [] rest b e low = inr e
 telling-in (d ∷ ds) rest b e low =

@@ -6,7 +6,8 @@ use Rattle.crs_desk.proofs.FaultLemmas.{line_taken}
 use Rattle.crs_desk.proofs.line.matches_by.Goals as goal
 
 pub returns-in-Ok-clause-faultless : goal.returns-in-Ok-clause-faultless
-returns-in-Ok-clause-faultless c = no_fault c.args.command _ c.requires c.in-Ok.ensures.kinds
+returns-in-Ok-clause-faultless c =
+    no_fault c.args.command _ c.requires c.in-Ok.ensures.kinds
 
 pub returns-in-Ok-clause-ok : goal.returns-in-Ok-clause-ok
 returns-in-Ok-clause-ok c =

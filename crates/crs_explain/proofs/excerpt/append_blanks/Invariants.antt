@@ -5,4 +5,5 @@ use Rattle.crs_explain.specs.Excerpt.{printed, blanks}
 use Rattle.crs_explain.proofs.excerpt.append_blanks.Given as goal
 
 abbrev pub invariant-loop-c : goal.invariant-loop-c
-invariant-loop-c l = l.out.items ≡ l.fn.out.items ++ flat_map (λ c. blanks (char_width false (printed c))) l.yielded
+invariant-loop-c l =
+    l.out.items ≡ l.fn.out.items ++ flat_map (λ c. blanks (char_width false (printed c))) l.yielded

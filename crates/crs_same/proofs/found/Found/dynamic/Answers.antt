@@ -5,4 +5,5 @@ use Rattle.crs_same.proofs.found.Found.dynamic.Goals as goal
 
 pub returns : goal.returns
 unfolding parts_of_dynamic
-returns c = via c.optional_number-found.result (search rules) (search rules)
+returns c =
+    via c.optional_number-found.result (search rules) (search rules)
