@@ -37,8 +37,7 @@ pub extern "C" fn crsdesk_same(
     })
 }
 
-/// The first part in which the CRSs of two texts differ at a level: the words of its path, with `/` between them; no
-/// words exactly where they are the same.
+/// The first part in which two CRSs differ at a level: its path's words, with `/` between; none if they are the same.
 ///
 /// 0: each spells a CRS, and the path is at the front of `out`; `length` is its number of bytes. 1: the first spells
 /// none, and `refused` says why. 2: the first spells a CRS and the second none, and `refused` says why. 3: memory was
@@ -94,8 +93,7 @@ pub extern "C" fn crsdesk_differences(
 }
 
 /// All parts in which the CRSs of two texts differ at a level, three pieces each: the path, and the values in the first
-/// and in the second, with nothing escaped and no bytes where there is no value. No pieces exactly where they are the
-/// same.
+/// and in the second, with nothing escaped and no bytes for no value. No pieces exactly where they are the same.
 ///
 /// 0: each spells a CRS; the bytes of all pieces are at the front of `out`, one after the other, and where each ends at
 /// the front of `ends`; `length` and `count` are their numbers. 1: the first spells none, and `refused` says why. 2: the

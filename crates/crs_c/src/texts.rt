@@ -17,8 +17,7 @@ use std::alloc::Global;
 /// Whether a text spells a CRS, and of which kind; no value is built.
 ///
 /// 0: it does, and `kind` is the number of its kind. 1: it spells none, and `refused` says why. 3: memory was
-/// refused. What a code doesn't mention is as before. ISO 19162:2019, "Coordinate reference systems"; the checks are
-/// the profile's.
+/// refused. What a code doesn't mention is as before. ISO 19162:2019, "Coordinate reference systems".
 #[unsafe(no_mangle)]
 #[tactic(auto, unfolding(crate::specs::Check::IsCheckAnswer))]
 pub extern "C" fn crsdesk_check(

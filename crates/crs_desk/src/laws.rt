@@ -29,8 +29,7 @@ pub fn lines_joined()
     crs_streams::laws::lines_are_cut();
 }
 
-/// The CRSs that two forms spell are the same at the level exactly where the texts are the same under the rules: so
-/// `same` under rules tells whether they are.
+/// The CRSs that two forms spell are the same at the level exactly where the texts are the same under the rules.
 pub fn forms_spell_the_same()
     ensures { (r : RulesParts) (level : Level) (first second a b : List ℕ) (x y : Crs) → AreRules r →
         IsForm r level first a → IsForm r level second b → Spells a x → Spells b y →

@@ -1,5 +1,4 @@
-//! The lines that were added last, each with its group: a line that comes again is known by its bytes, and isn't read
-//! again. What there is no memory for isn't remembered.
+//! The lines that were added last, each with its group: one that comes again is known by its bytes, and isn't read.
 ghost use Rattle.std.specs.Prelude.{◌≡◌, ◌<◌, [], All, IfOk, IfSome, List, None, OnOk, Some};
 ghost use Rattle.crs_value.specs.declared.values.level.Level.{Level};
 ghost use Rattle.crs_writer.specs.Canonical.{CanonicalText};
@@ -163,9 +162,8 @@ fn replace_bytes(bytes: &mut Vec<u8>, text: &[u8]) -> Result<(), AllocError>
     bytes.extend_from_slice(text)
 }
 
-// The first place of a text's pair, by its length and its bytes, but the first few, which are of a keyword. None: the
-// text is too long. Texts can be made to share a pair of places. Then none is known, and each costs what any new line
-// does: a look at its bytes and a copy.
+// The first place of a text's pair, by its length and bytes, but the first few, which are of a keyword; None: it is too
+// long. Texts can be made to share a pair of places: then each costs what any new line does, a look at it and a copy.
 pub(crate) fn place_of(text: &[u8]) -> Option<usize>
     ensures { IfSome result (λ place. place < 256) }
 {

@@ -22,11 +22,9 @@ use crs_value::{Crs, Level, read};
 use std::alloc::{AllocError, Global};
 
 /// The form of a text under rules, at a level: the canonical text of the CRS that the text's canonical text spells,
-/// rewritten by the rules. Two answers under the same rules and at one level have equal bytes exactly where the texts
-/// are the same under the rules.
+/// rewritten by the rules. Under the same rules two are equal exactly where the texts are the same under them.
 ///
-/// `Refused`: the text spells no CRS; number and place are those of `crs_value::read`. `Memory`: there is no memory for
-/// it.
+/// `Refused`: the text spells no CRS, as `crs_value::read` says. `Memory`: there is no memory for it.
 pub fn canon_under(alloc: Global, text: &[u8], level: Level, rules: &Rules) -> Result<Canon, Fault>
     ensures answer { MatchResult result (λ form. IsForm rules.now level text.now form.bytes) (IsFaultOfText text.now) }
     ensures level { IfOk result (λ form. form.level ≡ level) }

@@ -84,8 +84,7 @@ impl Rules {
         Ok(())
     }
 
-    /// A unit of this kind counts as the other, whose name and factor are written for it. If two have one alias, the first
-    /// holds.
+    /// A unit of this kind counts as the other, whose name and factor are written for it; of one alias the first holds.
     ///
     /// `AllocError`: there is no memory for it, and the rules are as before.
     pub fn alias_unit(

@@ -6,9 +6,8 @@ ghost use Rattle.crs_streams.specs.Escaped.{escaped, hex_byte, shown_char, steer
 use bstr::{ByteSlice, ByteVec};
 use std::alloc::AllocError;
 
-/// Appends a text as a line shows it: backslashes are escaped, and characters that steer a terminal, end a line or
-/// change the direction of a text, as `\\`, `\n`, `\x1B` and `\u202E`; what is no UTF-8 is U+FFFD. `AllocError`: there
-/// is no memory for it.
+/// Appends a text as a line shows it: backslashes are escaped, and what steers a terminal, ends a line or turns a
+/// text, as `\\`, `\n`, `\x1B` and `\u202E`; what is no UTF-8 is U+FFFD. `AllocError`: there is no memory for it.
 pub fn append_escaped(bytes: &[u8], out: &mut Vec<u8>) -> Result<(), AllocError>
     ensures { OnOk result (out.new.items ≡ out.old.items ++ escaped bytes.now) }
 {

@@ -62,8 +62,7 @@ impl<W: Write> Sink<W> {
         Ok(())
     }
 
-    // One write of some bytes, and how many of them the writer took. An interruption is a failure, as it is of a read:
-    // the writer's own `write_all` would try again.
+    // One write, and how many bytes the writer took. An interruption is a failure: its own `write_all` would try again.
     fn write(&mut self, bytes: &[u8]) -> io::Result<usize>
         ensures bound { WritesAtMost result bytes.now }
         ensures bytes { WriteAppends self.old.contents self.new.contents result bytes.now }

@@ -1,5 +1,4 @@
-//! The library's calls, task by task, over the parts of a row. `docs/CALLING.md` shows functions of the other files as they
-//! are here.
+//! The library's calls, task by task, over the parts of a row. `docs/CALLING.md` shows functions of the other files.
 mod difference;
 mod faults;
 mod key;

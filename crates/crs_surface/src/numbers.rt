@@ -5,9 +5,8 @@ use crs_decimal::{Decimal, NumberFault};
 use crs_text::Refusal;
 use std::str;
 
-/// What a call answers of the number that is read, or `fault` and what it displays: `plain` and its plain spelling, `text` and
-/// the next part with this spelling behind it, its parts, `whole` and the whole number that it is, or whether it equals
-/// the number of the next part.
+/// What a call answers of the number that is read, or `fault` and what it displays: `plain` and its spelling, `text`
+/// and the next part with it behind, its parts, `whole` and the number that it is, or whether it equals the next.
 pub fn put_number(out: &mut Answer, row: &Row<'_>) {
     if let Some(number) = parsed(out, row.part(0)) {
         match row.call {
@@ -48,8 +47,7 @@ fn put_parts(out: &mut Answer, number: &Decimal) {
     out.put(if number.is_zero() { ", zero" } else { "" });
 }
 
-// `equal` where two numbers are the same by `==` and by `same_number`, in either order; `different` where
-// both calls say so.
+// `equal` where two numbers are the same by `==` and by `same_number`, in either order; `different` by both else.
 fn put_equality(out: &mut Answer, a: &Decimal, other: &[u8]) {
     if let Some(b) = parsed(out, other) {
         out.put(

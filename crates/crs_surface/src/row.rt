@@ -28,8 +28,7 @@ impl<'t> Row<'t> {
         }
     }
 
-    /// A line with the call's name, and then the parts, a NUL byte between two. The error is a name that isn't UTF-8, or
-    /// out of memory.
+    /// A line with the call's name, and then the parts, a NUL byte between. The error: no UTF-8, or out of memory.
     pub fn of(alloc: Global, bytes: &'t [u8]) -> io::Result<Row<'t>> {
         let mut row = Row::new(alloc);
         let mut lines = bytes.splitn(2, |byte| *byte == b'\n');

@@ -43,8 +43,7 @@ pub struct Done {
 }
 
 impl<'t> Run<'t> {
-    /// The run of the command that the first word names, in the manner that the other words say, over the parts of a row;
-    /// None where a word says none.
+    /// The run that the first word names, in the manner of the others, over the parts of a row; None for other words.
     pub fn of(words: &'t str, row: &'t Row<'_>) -> Option<Run<'t>> {
         let (command, manner) = words.split_once(' ').unwrap_or((words, ""));
         if !command.starts_with("run_") {

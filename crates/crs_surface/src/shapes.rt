@@ -5,8 +5,7 @@ use crate::texts::read_agreed;
 use crs_shape::{Class, Slot, class_of, fit, fit_root, keywords, root_class, slots};
 use crs_text::{Fault, read_items};
 
-/// `class` and the first keyword of the root's class, or the refusal of the text or of its shape; `another answer in
-/// pieces` where a cut into pieces gives one.
+/// `class` and the root class's first keyword, or a refusal; `another answer in pieces` where pieces give one.
 pub fn put_class(out: &mut Answer, input: &[u8]) {
     if let Some(items) = read_agreed(out, input)
         && let Some(class) = out.accepted(fit_root(&items).map_err(Fault::Refused))
@@ -22,8 +21,7 @@ fn put_keyword(out: &mut Answer, class: Class) {
     }
 }
 
-// The class that keywords lead to, parted by blanks: the first names a root, each other one what it names in the class
-// before it. None where they lead to none, as is put.
+// The class that keywords lead to, with blanks between: a root's, then each in the class before it; None is put.
 fn class_at(out: &mut Answer, path: &[u8]) -> Option<Class> {
     let class = named_class(path);
     if class.is_none() {
@@ -51,9 +49,8 @@ pub fn put_keywords(out: &mut Answer, input: &[u8]) {
     }
 }
 
-/// The slots of the class that keywords lead to: each with the classes that are allowed there by their first
-/// keywords, or as `number`, `text` and `word`, joined by `|`, and a mark: `?` where it may be left out, `+` where it
-/// may be repeated, `*` for both.
+/// The slots of the class that keywords lead to: each with its classes' first keywords, or `number`, `text` and `word`,
+/// joined by `|`, and a mark: `?` where it may be left out, `+` where it may be repeated, `*` for both.
 pub fn put_slots(out: &mut Answer, input: &[u8]) {
     if let Some(class) = class_at(out, input) {
         out.put("slots");

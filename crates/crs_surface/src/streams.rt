@@ -1,5 +1,4 @@
-//! Readers and writers that a program may meet: a reader that cuts its text into pieces, goes on without end or
-//! fails, and a writer that takes few bytes or fails.
+//! A reader that cuts its text into pieces, goes on without end or fails, and a writer that takes few bytes or fails.
 use std::alloc::Global;
 use std::io;
 use std::io::{ErrorKind, Read, Write};

@@ -1,5 +1,4 @@
-//! Values taken apart, field by field, and written as they stood in a text without white space, with first keywords and
-//! plain numbers.
+//! Values taken apart, field by field, and written with first keywords, plain numbers and no white space.
 
 // Takes a value apart by a pattern of all its fields, and puts each, in the way that is named behind it where one is.
 macro_rules! put_fields {

@@ -1,5 +1,4 @@
-//! Files of rows, in the form of those in `tests`, as far as calls need it: `let`, and a `table` of `call`, `input`, `times`,
-//! `pieces` and `output`.
+//! Files of rows in the form of those in `tests`: `let`, and tables of `call`, `input`, `times`, `pieces`, `output`.
 use crs_surface::{Answer, Row, put_answer, unusable};
 use std::alloc::AllocError;
 use std::rt::Files;

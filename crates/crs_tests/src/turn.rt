@@ -1,5 +1,4 @@
-//! One call that takes memory, made between two lines on standard output, so that a test can refuse a growth of memory
-//! to this call, and to nothing else.
+//! One call that takes memory, between two lines on standard output, so that a test refuses growths to it alone.
 use crs_surface::Answer;
 use std::alloc::Global;
 use std::io;
@@ -32,8 +31,7 @@ impl<'r, R: Print + AllocGlobal> Turn<'r, R> {
         self.out.alloc()
     }
 
-    /// Ends the call, and has its answer put: of the call that is tried it writes `answered`, and remembers whether that
-    /// failed.
+    /// Ends the call, and has its answer put: of the call that is tried it writes `answered`, and remembers a failure.
     pub fn end(&mut self) -> &mut Answer {
         if self.is_tried {
             self.ended = io::writer(self.rt).write_all(b"answered\n");

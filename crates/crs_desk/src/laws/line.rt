@@ -136,9 +136,8 @@ pub fn explain_takes_texts_and_options()
         ≡ Some (Other (codes "full") (one ∷ other ∷ []) (work.Standard (task.Explain manner.Lines))) }
 {}
 
-/// The words after `canon`, `check` and `group` are files, however many they are, where no word is a flag. The level is
-/// `full` there. The two words after `same --files` are files, and so are one or two after `explain --files`, where no
-/// word is a flag.
+/// The words after `canon`, `check` and `group` are files, however many, where no word is a flag; the level is `full`
+/// there. So are the two words after `same --files`, and one or two after `explain --files`, where none is a flag.
 pub fn words_are_files()
     ensures canon { (program name : Text) (names : List Text) → list_all is_plain_word (name ∷ names) ≡ true →
         asked (program ∷ codes "canon" ∷ name ∷ names) ≡ Some (Other (codes "full") [] (work.Files (task.Canon OneText) (name ∷ names) [])) }

@@ -68,8 +68,7 @@ pub fn run_files<I: Inputs, W: Write>(
     Ok(status)
 }
 
-// What stands before each line of a file's answer: nothing where there is one file, else its name, before a line with a
-// colon, and in an object as the first member.
+// What stands before each line of a file's answer: nothing for one file, else its name, or a first member with it.
 fn prefix_of(
     alloc: Global,
     task: FileTask<'_>,

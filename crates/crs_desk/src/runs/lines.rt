@@ -1,6 +1,5 @@
-//! Runs over lines: each line of a stream is a text, and what a command writes for it goes into a sink. Bytes are cut
-//! into lines piece by piece: a line that is whole within a piece is read in place; the bytes of others are kept until
-//! their line feed comes.
+//! Runs over lines: each line of a stream is a text, and what a command writes for it goes into a sink. A line that is
+//! whole within a piece of the stream is read in place; the bytes of others are kept until their line feed comes.
 ghost use Rattle.std.specs.Prelude.{◌≡◌, ◌≤◌, ◌^◌, ◌↔◌, [], IfErr, IfOk, IsErrOf, OnOk, false, length, true, ◌+◌, ◌<◌};
 ghost use Rattle.std.specs.Prelude.{◌++◌, ◌∷◌, ℕ, List, IsFalse, IsTrue};
 ghost use Rattle.crs_streams.specs.Streams.{fresh_source, SinkState};

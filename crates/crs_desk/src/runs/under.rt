@@ -1,5 +1,4 @@
-//! Texts under rules: what `canon` writes of one; two are compared by their forms; and the parts in which their CRSs
-//! differ are explained, and those that rules take away.
+//! Texts under rules: what `canon` writes of one, `same` of two by their forms, and `explain` of the parts that differ.
 ghost use Rattle.std.specs.Prelude.{◌≡◌, ◌≤◌, ◌++◌, IfOk, MatchResult, OnOk, codes, length};
 ghost use Rattle.std.specs.List.{prefix_len};
 ghost use Rattle.std.specs.Option.{option_map};

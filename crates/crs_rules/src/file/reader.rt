@@ -24,8 +24,7 @@ use std::marker::Model;
 
 /// The rules that the bytes of a rules file spell; for more files, see [`RulesReader`].
 ///
-/// `Refused`: the first line that is refused, with its number and place. `Memory`: there is no memory for the rules.
-/// Time is linear in the bytes.
+/// `Refused`: the first refused line, with number and place. `Memory`: no memory for the rules. Time is linear in them.
 pub fn read_rules(alloc: Global, bytes: &[u8]) -> Result<Rules, RulesFault>
     ensures { MatchResult result (SpellsRules bytes.now) (IsRefusedBy (RefusesFile start bytes.now)) }
 {

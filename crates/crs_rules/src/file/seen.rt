@@ -50,8 +50,7 @@ impl Hash for Key {
 
     ghost respects_eq = { members-hash };
 
-    // A digest, since many names can be found whose words lead the hasher of a map to one state. The power of the
-    // factor isn't among what is digested: there are few.
+    // A digest, since words that lead a map's hasher to one state are found; the factor's power, of few, isn't in it.
     fn hash<H: Hasher>(&self, state: &mut H) {
         state.write_u64(digest(&self.name, self.factor.digits()));
     }

@@ -3,8 +3,7 @@
 use crs_text::Fault;
 use std::alloc::{AllocError, Global};
 
-/// What to tell a user: for a refusal, its number, name and place, with the text from there on; out of memory, that
-/// the same call may be made again.
+/// What to tell a user: a refusal's number, name, place and the text from there on; or that memory ran out.
 pub fn told(alloc: Global, text: &[u8], fault: &Fault) -> Result<String, AllocError> {
     match fault.refusal() {
         Some(refusal) => {
