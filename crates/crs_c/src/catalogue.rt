@@ -20,8 +20,7 @@ pub struct Room {
     hidden: u64,
 }
 
-/// Makes a catalogue of no texts, at the level of this number. Code 0, or 4: no level has the number, and the catalogue is
-/// one at full. It takes no memory.
+/// Makes a catalogue of no texts, at the level of this number, without memory. Code 0, or 4: no such level, so at full.
 #[unsafe(no_mangle)]
 pub unsafe extern "C" fn crsdesk_catalogue_new(alloc: Global, at: *mut Room, level: u32) -> u32
     requires* { sem 𝓛 (has_room at) }

@@ -179,8 +179,7 @@ pub struct ExplanationPieces {
     /// Where the node begins in which something else is expected, the first byte being 0; 0 where that isn't known.
     pub node: usize,
     /// The piece of the line with the caret, in two lines; the line of what is found and expected; the keyword of that
-    /// node; what is found; what is open, was meant or is asked for; what the number means; hints; and then the names of
-    /// all that could stand there.
+    /// node; what is found; what is open, was meant or is asked for; what the number means; hints; and then names.
     pub pieces: Pieces,
 }
 

@@ -1,7 +1,6 @@
 //! Rules that say what counts as the same: the form of a text under rules.
 //!
-//! A text's form is the canonical text of the CRS that its canonical text spells, rewritten by the rules. Two texts are
-//! the same under rules where their forms are equal.
+//! A text's form is its canonical text's CRS, rewritten by the rules and spelled; texts of equal forms are the same there.
 #![tactic(auto)]
 
 mod aliases;

@@ -166,8 +166,7 @@ impl<'b, 'a> Found<'b, 'a> {
     }
 }
 
-/// Whether two geodetic or geographic CRSs are the same: kind, name, dynamic part, frame, prime meridian, system and
-/// end. ISO 19162:2019, "Geodetic and geographic CRS".
+/// Whether two geodetic or geographic CRSs are the same. ISO 19162:2019, "Geodetic and geographic CRS".
 pub fn same_geodetic<'a>(a: &Geodetic<'a>, b: &Geodetic<'a>, level: Level) -> bool
     ensures { IsTrue result ↔ AreSame parts_of_geodetic level a.now b.now }
 {

@@ -191,8 +191,7 @@ impl<'b, 'a> Found<'b, 'a> {
     }
 }
 
-/// Whether two ellipsoids are the same: name, semi-major axis, inverse flattening, unit and identifiers. A missing unit
-/// is the metre. ISO 19162:2019, "Ellipsoid".
+/// Whether two ellipsoids are the same; a missing unit is the metre. ISO 19162:2019, "Ellipsoid".
 pub fn same_ellipsoid<'a>(a: &Ellipsoid<'a>, b: &Ellipsoid<'a>, level: Level) -> bool
     ensures { IsTrue result ↔ AreSame parts_of_ellipsoid level a.now b.now }
 {
@@ -215,8 +214,7 @@ pub fn same_datum<'a>(a: &Datum<'a>, b: &Datum<'a>, level: Level) -> bool
     Found::first().datum(At::start(level), a, b).is_same()
 }
 
-/// Whether two ensembles are the same: name, the set of members, the ellipsoid in both or in neither, accuracy and
-/// identifiers. ISO 19162:2019, "Datum ensemble".
+/// Whether two ensembles are the same, the ellipsoid in both or in neither. ISO 19162:2019, "Datum ensemble".
 pub fn same_ensemble<'a>(a: &Ensemble<'a>, b: &Ensemble<'a>, level: Level) -> bool
     ensures { IsTrue result ↔ AreSame parts_of_ensemble level a.now b.now }
 {

@@ -8,8 +8,7 @@ use crate::sets::SetMember;
 use crate::single::{same_length, same_optional_text, same_value};
 use crs_value::{BoundingBox, Extent, Level, Usage};
 
-/// Whether two bounding boxes are the same: south, west, north and east. A box is compared alike at every level.
-/// ISO 19162:2019, "Geographic bounding box".
+/// Whether two bounding boxes are the same, alike at every level. ISO 19162:2019, "Geographic bounding box".
 pub fn same_box(a: &BoundingBox, b: &BoundingBox, _level: Level) -> bool
     ensures { IsTrue result ↔ SameBox a.now b.now }
 {

@@ -5,8 +5,7 @@ use crs_group::{Catalogue, Placed};
 use crs_text::Refusal;
 use std::str;
 
-/// The answers of a catalogue's calls, one a line, with `; ` between two: `add N TEXT`, `groups`, `lines N`,
-/// `text N` and `refused`.
+/// The answers of a catalogue's calls, one a line: `add N TEXT`, `groups`, `lines N`, `text N` and `refused`.
 pub fn put_catalogue(out: &mut Answer, row: &Row<'_>) {
     let mut catalogue = Catalogue::new(out.alloc(), row.level);
     for (index, line) in row.text().split(|byte| *byte == b'\n').enumerate() {

@@ -58,8 +58,7 @@ pub fn the_level_is_a_word()
     ensures whole { (program : Text) → takes desk (program ∷ codes "canon" ∷ codes "--level" ∷ []) ≡ false }
 {}
 
-/// With `--repeated`, before the level or after it, `group` writes the groups of two lines or more; with `--names` it
-/// writes names for numbers, with `--json` objects.
+/// With `--repeated` `group` writes the groups of two lines or more, with `--names` names, with `--json` objects.
 pub fn group_has_flags()
     ensures repeated { (program : Text) → asked (program ∷ codes "group" ∷ codes "--repeated" ∷ [])
         ≡ Some (Other (codes "full") [] (work.Standard (task.Group (record { repeated = true; names = false; json = false })))) }

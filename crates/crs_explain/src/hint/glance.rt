@@ -62,8 +62,7 @@ pub(crate) fn digit_count(text: &[u8]) -> usize {
     text.iter().take_while(|it| it.is_ascii_digit()).count()
 }
 
-/// The word that the bytes begin with after white space, and what follows it and white space: a letter, then letters,
-/// digits and underscores; empty where there is none.
+/// The word behind white space, a letter, then letters, digits and underscores, or none; and what follows it and white space.
 pub(crate) fn split_word(text: &[u8]) -> (&[u8], &[u8]) {
     let text = text.trim_ascii_start();
     let length = match text {
