@@ -8,9 +8,13 @@ ghost use Rattle.crs_c.specs.PieceBuffers.{buffers_of};
 
 use crate::calls::canon::answer_entries;
 use crate::calls::codes::kind_number;
-use crate::calls::explain::{explained_refusal, explanation, give_explanation, kind_of_text};
+use crate::calls::explain::{
+    explained_refusal, explanation, give_refused, kind_of_text, refusal_and_numbers,
+};
 use crate::calls::refused::tell;
-use crate::{Entry, Explained, NO_LEVEL, NO_MEMORY, OK, REFUSED, Refused, give, level_numbered};
+use crate::{
+    Entry, Explained, NO_LEVEL, NO_MEMORY, OK, REFUSED, Refused, give, give_pieces, level_numbered,
+};
 use crs_canon::canon;
 use std::alloc::Global;
 
@@ -75,7 +79,7 @@ pub extern "C" fn crsdesk_explain(
 /// `out` or more pieces than `ends` has room for; `length` and `count` are their numbers, and a buffer with the room has
 /// what it has with 1. What a code doesn't mention is as before.
 #[unsafe(no_mangle)]
-#[tactic(auto, unfolding(crate::specs::ExplainPieces::IsRefusalPiecesAnswer, crate::specs::ExplainPieces::IsRefusalExplained))]
+#[tactic(auto, unfolding(crate::specs::ExplainPieces::IsRefusalPiecesAnswer, crate::specs::ExplainPieces::IsRefusalExplained, crate::specs::ExplainPieces::IsExplanationGiven))]
 pub extern "C" fn crsdesk_refusal_pieces(
     alloc: Global,
     text: &[u8],
@@ -92,7 +96,8 @@ pub extern "C" fn crsdesk_refusal_pieces(
 {
     match explained_refusal(alloc, text) {
         Ok(Some((refusal, told))) => {
-            give_explanation(refusal, &told, out, length, ends, count, explained)
+            *explained = refusal_and_numbers(refusal, &told);
+            give_refused(&told.pieces, out, length, ends, count)
         }
         Ok(None) => OK,
         Err(_) => NO_MEMORY,

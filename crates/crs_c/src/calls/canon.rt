@@ -46,7 +46,7 @@ pub fn answer_entries(
     let mut room = Vec::new(alloc);
     let mut at = 0;
     for index in 0..entries.len() {
-        let (entry, code) = answer(alloc, texts, entries[index], level, out, at, &mut room);
+        let (entry, code) = answer((texts, level), entries[index], out, at, &mut room);
         if code != OK {
             return (index, code);
         }
@@ -58,18 +58,17 @@ pub fn answer_entries(
 
 // Answers an entry, and writes its canonical text at this place, first into memory that goes from entry to entry.
 fn answer(
-    alloc: Global,
-    texts: &[u8],
+    asked: (&[u8], Level),
     entry: Entry,
-    level: Level,
     out: &mut [u8],
     at: usize,
     room: &mut Vec<u8>,
 ) -> (Entry, u32)
     requires { at ≤ length out.old }
-    ensures { IsTurn level texts.now at entry out.old result.0 out.new result.1 }
+    ensures { IsTurn asked.entry.1 asked.entry.0.now at entry out.old result.0 out.new result.1 }
 {
-    match canon_in(alloc, text_of(texts, entry), level, room) {
+    let (texts, level) = asked;
+    match canon_in(*room.allocator(), text_of(texts, entry), level, room) {
         Ok(canonical) => {
             let answered = written(canonical.bytes(), entry, out, at);
             *room = canonical.into_bytes();

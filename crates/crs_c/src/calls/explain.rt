@@ -1,16 +1,16 @@
 //! The kind of the CRS that a text spells, or why it is refused, explained to a person, and as data.
-ghost use Rattle.std.specs.Prelude.{IfOk, MatchOption, MatchResult};
+ghost use Rattle.std.specs.Prelude.{◌≡◌, ◌==◌, ℕ, IfOk, MatchOption, MatchResult, if◌then◌else◌};
 ghost use Rattle.crs_value.specs.Spells.{IsFaultOfText, Refuses, SpellsKind};
 ghost use Rattle.crs_canon.specs.MainTheorem.{IsAccepted};
 ghost use Rattle.crs_explain.specs.Explained.{AreExplainedPieces};
 ghost use Rattle.crs_c.specs.Explain.{IsExplanation};
-ghost use Rattle.crs_c.specs.ExplainPieces.{IsExplanationGiven};
-ghost use Rattle.crs_c.specs.PieceBuffers.{buffers_of};
+ghost use Rattle.crs_c.specs.ExplainPieces.{refusal_and_numbers};
+ghost use Rattle.crs_c.specs.PieceBuffers.{AreGiven, buffers_of};
 
 use crate::calls::buffer::give_pieces;
 use crate::calls::codes::{OK, REFUSED};
 use crate::calls::refused::{Refused, place_and_number};
-use crs_explain::{ExplanationPieces, refusal_pieces, refusal_text};
+use crs_explain::{ExplanationPieces, Pieces, refusal_pieces, refusal_text};
 use crs_text::{Fault, Refusal, read_items};
 use crs_value::{Kind, kind_of, laws};
 use std::alloc::{AllocError, Global};
@@ -85,28 +85,29 @@ pub struct Explained {
     pub node: usize,
 }
 
-/// Gives the explanation of a refusal in pieces.
-#[tactic(auto, unfolding(crate::specs::ExplainPieces::IsExplanationGiven))]
-pub fn give_explanation(
-    refusal: Refusal,
-    told: &ExplanationPieces,
-    out: &mut [u8],
-    length: &mut usize,
-    ends: &mut [usize],
-    count: &mut usize,
-    explained: &mut Explained,
-) -> u32
-    ensures { IsExplanationGiven refusal told.now
-        (record { buffers = buffers_of out.old length.old ends.old count.old; explained = explained.old })
-        (record { buffers = buffers_of out.new length.new ends.new count.new; explained = explained.new })
-        result }
+/// A refusal and the numbers of its explanation.
+pub fn refusal_and_numbers(refusal: Refusal, told: &ExplanationPieces) -> Explained
+    ensures { result ≡ refusal_and_numbers refusal told.now }
 {
-    *explained = Explained {
+    Explained {
         refused: place_and_number(refusal),
         line: told.line,
         column: told.column,
         node: told.node,
-    };
-    let given = give_pieces(&told.pieces, out, length, ends, count);
+    }
+}
+
+/// Gives the pieces of a refusal: with code 1 where they have room.
+pub fn give_refused(
+    pieces: &Pieces,
+    out: &mut [u8],
+    length: &mut usize,
+    ends: &mut [usize],
+    count: &mut usize,
+) -> u32
+    ensures { (given : ℕ) × AreGiven pieces.now (buffers_of out.old length.old ends.old count.old)
+        (buffers_of out.new length.new ends.new count.new) given × (result ≡ (if given == 0 then 1 else given)) }
+{
+    let given = give_pieces(pieces, out, length, ends, count);
     if given == OK { REFUSED } else { given }
 }
