@@ -7,7 +7,6 @@ use Rattle.crs_shape.specs.declared.unit_kind.UnitKind.{UnitKind}
 use Rattle.crs_shape.specs.declared.direction.Direction.TheVariants as directions
 use Rattle.crs_shape.specs.declared.system_type.SystemType.TheVariants as types
 use Rattle.crs_shape.specs.declared.unit_kind.UnitKind.TheVariants as kinds
-use Rattle.crs_shape.specs.declared.direction.Direction.TheVariants as direction
 
 -- the bytes are this word, letter case aside
 abbrev pub SpellsWord : List ℕ → List ℕ → Type 0
@@ -71,8 +70,8 @@ unit_word kinds.Plain = codes "UNIT"
 
 -- a length for what goes up or down, else an angle
 abbrev pub kind_by_direction : Direction → UnitKind
-kind_by_direction direction.Up = kinds.Length
-kind_by_direction direction.Down = kinds.Length
+kind_by_direction directions.Up = kinds.Length
+kind_by_direction directions.Down = kinds.Length
 kind_by_direction other = kinds.Angle
 
 -- the kind of unit that an axis asks for, by the type of its coordinate system and its own direction
