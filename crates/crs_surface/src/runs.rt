@@ -183,10 +183,9 @@ pub fn put_handed(out: &mut Answer, input: &[u8]) {
     }
 }
 
-/// Runs a command with its first read failing, then its second, and so on, or its writes. A run whose read fails must end with
-/// `ReadFailed` by this read, with nothing written, or with the first whole lines of the answer where lines are answered as
-/// they come; one whose write fails with `WriteFailed` and a front of the answer, which is longer with each write. How many
-/// did, and what the run after them did.
+/// Runs a command with its first read failing, then its second, and so on, or its writes. A run whose read fails must
+/// end with `ReadFailed` and nothing written, or the first whole lines where lines are answered as they come; one whose
+/// write fails with `WriteFailed` and a front of the answer, longer each time. How many did, and what the next one did.
 pub fn put_failed(out: &mut Answer, words: &str, row: &Row<'_>, what: &str) {
     let Some(mut run) = Run::of(words, row) else {
         return out.put("no such call");

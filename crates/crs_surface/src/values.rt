@@ -139,9 +139,8 @@ fn append_set(idents: &[Ident<'_>], level: Level, out: &mut Vec<u8>) -> Appended
     Some(written.and(Ok(set.same(&set, level))))
 }
 
-/// `text` and what a part of the CRS of a text appends by itself, or the refusal of the text; `no` and the part's name where
-/// it has no such part, `one way` where the part isn't the same as itself, and `nothing` for an empty set, which appends
-/// nothing.
+/// `text` and what a part of a text's CRS appends by itself, or the refusal; `no` and the name of a part that it lacks,
+/// `one way` where the part isn't the same as itself, and `nothing` for an empty set, which appends nothing.
 pub fn put_part(out: &mut Answer, row: &Row<'_>, part: &str) {
     let mut text = Vec::new(out.alloc());
     let appended = match read(out.alloc(), row.text()) {
@@ -195,9 +194,8 @@ fn compared_with<'t>(
     }
 }
 
-/// `same`, or `different` and the first part in which the CRSs of two texts differ, or what is told of their axes, or the
-/// refusal of the first text that has one; `one way` where the orders of the two disagree, or where one call says that they
-/// are the same, and the other not.
+/// `same`, or `different` and the first part in which two texts' CRSs differ, or what is told of their axes, or the first
+/// refusal; `one way` where the orders of the two disagree, or one call alone says that they are the same.
 pub fn put_same(out: &mut Answer, row: &Row<'_>) {
     let (alloc, first, second) = (out.alloc(), row.part(0), row.part(1));
     if let Some(forth) = out.accepted(compared(alloc, first, second, row.level))

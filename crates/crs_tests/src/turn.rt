@@ -39,9 +39,8 @@ impl<'r, R: Print + AllocGlobal> Turn<'r, R> {
         &mut self.out
     }
 
-    /// Prints a line `answer` with the answer, and whether that is all: where it is `memory`, out of memory, a line `kept` says
-    /// whether all that the call was handed is as it was before, `yes` or `no`, and the same call comes once more, whose
-    /// answer is printed in a line `again`.
+    /// Prints a line `answer`, and whether that is all: where it is `memory`, out of memory, a line `kept` says whether
+    /// what the call was handed is as before, `yes` or `no`, and the same call comes once more, with a line `again`.
     pub fn is_done(&mut self, is_kept: bool) -> io::Result<bool> {
         let is_answered = self.out.bytes().is_ok();
         if is_answered || !self.is_tried {
