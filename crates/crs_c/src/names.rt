@@ -28,8 +28,7 @@ pub extern "C" fn crsdesk_refusal_name(number: u32, out: &mut [u8], length: &mut
 
 /// The version of the library.
 ///
-/// 0: it is at the front of `out`; `length` is its number of bytes. 5: it has more bytes than `out`; `length` is their
-/// number.
+/// 0: it is at the front of `out`; `length` is its number of bytes. 5: `out` has less room; `length` is their number.
 #[unsafe(no_mangle)]
 pub extern "C" fn crsdesk_version(out: &mut [u8], length: &mut usize) -> u32
     ensures { IsGiven version

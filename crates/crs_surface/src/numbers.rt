@@ -5,8 +5,8 @@ use crs_decimal::{Decimal, NumberFault};
 use crs_text::Refusal;
 use std::str;
 
-/// What a call answers of the number that is read, or `fault` and what it displays: its `plain` spelling, `text` and the
-/// next part with it behind, its parts, `whole` and the number that it is, or whether it equals that of the next part.
+/// What a call answers of the number that is read, or `fault` and what it displays: its `plain` spelling, `text` and
+/// the next part with it behind, its parts, `whole` and the number that it is, or whether it equals that of the next part.
 pub fn put_number(out: &mut Answer, row: &Row<'_>) {
     if let Some(number) = parsed(out, row.part(0)) {
         match row.call {

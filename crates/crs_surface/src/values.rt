@@ -194,7 +194,7 @@ fn compared_with<'t>(
     }
 }
 
-/// `same`, or `different` and the first part in which two texts' CRSs differ, or what is told of their axes, or the first
+/// `same`, or `different` and the first part in which two texts' CRSs differ, or what is told of axes, or the first
 /// refusal; `one way` where the orders of the two disagree, or one call alone says that they are the same.
 pub fn put_same(out: &mut Answer, row: &Row<'_>) {
     let (alloc, first, second) = (out.alloc(), row.part(0), row.part(1));
