@@ -6,7 +6,10 @@
 
        growths C refused R
 
-   Else those are counted that are made in refusing_call(), of which the `asked`th is refused; `counted` says how many
+   With REFUSE_FROM=call too, only those count that are made between a write to standard output that begins with "call\n"
+   and one that begins with "answered\n".
+
+   Without REFUSE those are counted that are made in refusing_call(), of which the `asked`th is refused; `counted` says how many
    there were, and how many blocks were taken and not given back.
 
    For programs of one thread. glibc alone: the real calls are those that it keeps under other names. */
@@ -15,6 +18,7 @@
 #include <stdint.h>
 #include <stdio.h>
 #include <stdlib.h>
+#include <string.h>
 #include <sys/syscall.h>
 #include <unistd.h>
 
@@ -27,13 +31,15 @@ struct {
     unsigned long asked, growths, refused;
     long in_use;
 } counted;
-static int counts_all, is_counting;
+static int counts_all, is_by_writes, is_counting;
 
 __attribute__((constructor)) static void begin(void)
 {
     const char *number = getenv("REFUSE");
     counted.asked = number ? strtoul(number, NULL, 10) : 0;
-    counts_all = is_counting = number != NULL;
+    counts_all = number != NULL;
+    is_by_writes = counts_all && getenv("REFUSE_FROM") != NULL;
+    is_counting = counts_all && !is_by_writes;
 }
 
 /* After main: these programs end by its return alone. */
@@ -93,4 +99,25 @@ void free(void *old)
 {
     counted.in_use -= is_counting && old;
     __libc_free(old);
+}
+
+static int begins(const void *bytes, size_t count, const char *front)
+{
+    size_t length = strlen(front);
+    return count >= length && memcmp(bytes, front, length) == 0;
+}
+
+ssize_t write(int file, const void *bytes, size_t count)
+{
+    if (file == 1 && is_by_writes && begins(bytes, count, "call\n"))
+        is_counting = 1;
+    if (file == 1 && is_by_writes && begins(bytes, count, "answered\n"))
+        is_counting = 0;
+    return syscall(SYS_write, file, bytes, count);
+}
+
+/* The same, under the other name by which programs call it. */
+ssize_t __write(int file, const void *bytes, size_t count)
+{
+    return write(file, bytes, count);
 }

@@ -83,7 +83,7 @@ def test_call(kind: str, case: rows.Case, refusing: pathlib.Path) -> None:
     ample, want = head + answer, head + b"memory\nkept yes\nagain " + answer
     given, takes_memory = case.call + b"\n" + b"\0".join(case.parts), b"no-growth" not in case.flags
     for nth in range(MOST):
-        more = {"LD_PRELOAD": str(refusing), "REFUSE_FROM": "", "REFUSE": str(nth)}
+        more = {"LD_PRELOAD": str(refusing), "REFUSE_FROM": "call", "REFUSE": str(nth)}
         done = subprocess.run(
             [program, kind],
             input=given,
