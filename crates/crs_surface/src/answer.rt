@@ -1,5 +1,5 @@
 //! The answer of a call, as a row writes it.
-use crs_text::{Fault, Refusal};
+use crs_text::Fault;
 use std::alloc::{AllocError, Global};
 use std::fmt::Display;
 use std::io;
@@ -65,12 +65,10 @@ impl Answer {
     /// What was accepted; None where a text was refused, which is put.
     pub fn accepted<T>(&mut self, found: Result<T, Fault>) -> Option<T> {
         match found {
-            Ok(value) => Some(value),
-            Err(fault) => {
-                self.put_fault(fault);
-                None
-            }
+            Ok(value) => return Some(value),
+            Err(fault) => self.put_fault(fault),
         }
+        None
     }
 
     pub fn put(&mut self, text: &str) {
@@ -82,6 +80,17 @@ impl Answer {
         self.note(done);
     }
 
+    /// Puts a word, which ends in a blank, and bytes.
+    pub fn put_after(&mut self, word: &str, bytes: &[u8]) {
+        self.put(word);
+        self.put_bytes(bytes);
+    }
+
+    /// Where a call appends to the answer; whether it could is then noted.
+    pub fn end(&mut self) -> &mut Vec<u8> {
+        &mut self.bytes
+    }
+
     /// Puts what a format gives, as `write!` asks for it.
     pub fn write_fmt<D: Display + Drop>(&mut self, value: D) {
         let mut text = String::new(self.alloc());
@@ -90,18 +99,15 @@ impl Answer {
         self.put(text.as_str());
     }
 
-    /// Puts the refusal of a text, or remembers that memory ran out.
+    /// Puts `refused`, the number, the name and the place, or remembers that memory ran out.
     pub fn put_fault(&mut self, fault: Fault) {
         match fault {
-            Fault::Refused(refusal) => self.put_refusal(refusal),
+            Fault::Refused(refusal) => {
+                let (number, place): (u8, usize) = (refusal.number(), refusal.place());
+                let name: &'static str = refusal.name();
+                write!(self, "refused {number} {name} at {place}");
+            }
             Fault::Memory(error) => self.note(Err(error)),
         }
-    }
-
-    /// Puts `refused`, the number, the name and the place.
-    pub fn put_refusal(&mut self, refusal: Refusal) {
-        let (number, place): (u8, usize) = (refusal.number(), refusal.place());
-        let name: &'static str = refusal.name();
-        write!(self, "refused {number} {name} at {place}");
     }
 }

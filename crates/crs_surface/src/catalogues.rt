@@ -26,7 +26,7 @@ fn put_call(out: &mut Answer, catalogue: &mut Catalogue, line: &[u8]) {
         }
         b"groups" => write!(out, "{}", catalogue.groups()),
         b"lines" => put_lines(out, catalogue.lines(number_of(rest))),
-        b"text" => put_group_text(out, catalogue.text(number_of(rest))),
+        b"text" => out.put_bytes(catalogue.text(number_of(rest)).unwrap_or(b"none")),
         b"refused" => put_refused(out, catalogue.refused()),
         _ => out.put("no such call"),
     }
@@ -41,8 +41,7 @@ fn split_blank(text: &[u8]) -> (&[u8], &[u8]) {
 fn number_of(digits: &[u8]) -> usize {
     str::from_utf8(digits)
         .ok()
-        .and_then(|it| it.parse().ok())
-        .unwrap_or(0)
+        .map_or(0, |it| it.parse().unwrap_or(0))
 }
 
 /// Where a line was placed.
@@ -69,11 +68,6 @@ fn put_lines(out: &mut Answer, lines: Option<&[u64]>) {
     }
 }
 
-// The text of a group; `none` where there is no such group.
-fn put_group_text(out: &mut Answer, text: Option<&[u8]>) {
-    out.put_bytes(text.unwrap_or(b"none"));
-}
-
 // The lines that were refused.
 fn put_refused(out: &mut Answer, refused: &[(u64, Refusal)]) {
     out.put("refused");
@@ -88,8 +82,7 @@ pub fn put_all(out: &mut Answer, catalogue: &Catalogue) {
     for group in 1..=catalogue.groups() {
         out.put("; ");
         put_lines(out, catalogue.lines(group));
-        out.put("; ");
-        put_group_text(out, catalogue.text(group));
+        out.put_after("; ", catalogue.text(group).unwrap_or(b"none"));
     }
     out.put("; ");
     put_refused(out, catalogue.refused());

@@ -3,16 +3,12 @@
 //! all their fields and variants. The examples of `docs/CALLING.md` are here too.
 #![tactic(auto)]
 
-mod about;
 mod answer;
 mod calls;
 mod canonical;
 mod catalogues;
 mod examples;
-mod failures;
-mod nodes;
 mod numbers;
-mod pieces;
 mod requests;
 mod row;
 mod runs;
@@ -23,15 +19,14 @@ mod texts;
 mod values;
 mod written;
 
-pub use about::{about_both, about_crs, about_items, about_value, kind_word};
 pub use answer::Answer;
 pub use calls::put_answer;
-pub use canonical::put_spelling;
+pub use canonical::{append_part, put_spelling};
 pub use catalogues::{put_all, put_placed};
-pub use nodes::append_part;
-pub use pieces::{answer_of, fed, put_taken};
 pub use requests::put_request;
 pub use row::{Row, parts_of, unusable};
 pub use runs::{Run, put_outcome, put_written};
+pub use sameness::compared;
 pub use streams::Page;
-pub use texts::put_read;
+pub use texts::{answer_of, fed, put_read, put_taken};
+pub use values::kind_word;

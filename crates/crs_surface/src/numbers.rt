@@ -5,11 +5,21 @@ use crs_decimal::{Decimal, NumberFault};
 use crs_text::Refusal;
 use std::str;
 
-/// `plain` and the plain spelling of the number that is read, or `fault` and what it displays.
-pub fn put_plain(out: &mut Answer, input: &[u8]) {
-    if let Some(number) = parsed(out, input) {
-        out.put("plain ");
-        put_spelling(out, &number);
+/// What a call answers of the number that is read, or `fault` and what it displays: `plain` and its plain spelling, `text` and
+/// the next part with this spelling behind it, its parts, `whole` and the whole number that it is, or whether it equals
+/// the number of the next part.
+pub fn put_number(out: &mut Answer, row: &Row<'_>) {
+    if let Some(number) = parsed(out, row.part(0)) {
+        match row.call {
+            "Decimal::parse" => put_spelled(out, &number, "plain ", b""),
+            "Decimal::write" => put_spelled(out, &number, "text ", row.part(1)),
+            "Decimal::digits" => put_parts(out, &number),
+            "Decimal::whole" => match number.whole() {
+                Some(whole) => write!(out, "whole {whole}"),
+                None => out.put("none"),
+            },
+            _ => put_equality(out, &number, row.part(1)),
+        }
     }
 }
 
@@ -22,65 +32,39 @@ fn parsed(out: &mut Answer, input: &[u8]) -> Option<Decimal> {
     None
 }
 
-/// The sign, the digits and the power of the number that is read, and `zero` where it is one.
-pub fn put_parts(out: &mut Answer, input: &[u8]) {
-    if let Some(number) = parsed(out, input) {
-        let sign = if number.is_negative() { '-' } else { '+' };
-        let digits: u128 = number.digits();
-        let power: i32 = number.power();
-        write!(out, "sign {sign}, digits {digits}, power {power}");
-        out.put(if number.is_zero() { ", zero" } else { "" });
-    }
+/// The plain spelling of a number behind a word and a text.
+pub fn put_spelled(out: &mut Answer, number: &Decimal, word: &str, text: &[u8]) {
+    out.put_after(word, text);
+    let done = number.write(out.end());
+    out.note(done);
 }
 
-/// `equal` where two numbers are the same by `==` and by `same_number`, in either order; `different` where
-/// both calls say so.
-pub fn put_equality(out: &mut Answer, row: &Row<'_>) {
-    if let Some(a) = parsed(out, row.part(0))
-        && let Some(b) = parsed(out, row.part(1))
-    {
-        out.put(agreed(&a, &b));
+// The sign, the digits and the power of a number, and `zero` where it is one.
+fn put_parts(out: &mut Answer, number: &Decimal) {
+    let sign = if number.is_negative() { '-' } else { '+' };
+    let digits: u128 = number.digits();
+    let power: i32 = number.power();
+    write!(out, "sign {sign}, digits {digits}, power {power}");
+    out.put(if number.is_zero() { ", zero" } else { "" });
+}
+
+// `equal` where two numbers are the same by `==` and by `same_number`, in either order; `different` where
+// both calls say so.
+fn put_equality(out: &mut Answer, a: &Decimal, other: &[u8]) {
+    if let Some(b) = parsed(out, other) {
+        out.put(
+            match (equality(a, &b), a.same_number(&b), b.same_number(a)) {
+                (true, true, true) => "equal",
+                (false, false, false) => "different",
+                _ => "one way",
+            },
+        );
     }
 }
 
 fn equality<T: Copy + Eq>(a: &T, b: &T) -> bool {
     let copy = *a;
     copy == *b
-}
-
-fn agreed(a: &Decimal, b: &Decimal) -> &'static str {
-    match (equality(a, b), a.same_number(b), b.same_number(a)) {
-        (true, true, true) => "equal",
-        (false, false, false) => "different",
-        _ => "one way",
-    }
-}
-
-/// `text`, and a text with the plain spelling of a number appended.
-pub fn put_appended(out: &mut Answer, row: &Row<'_>) {
-    if let Some(number) = parsed(out, row.part(1))
-        && let Some(mut text) = out.made(row.part(0).to_vec(out.alloc()))
-    {
-        out.note(number.write(&mut text));
-        out.put("text ");
-        out.put_bytes(&text);
-    }
-}
-
-/// The plain spelling of a number.
-pub fn put_spelling(out: &mut Answer, number: &Decimal) {
-    let mut spelling = Vec::new(out.alloc());
-    out.note(number.write(&mut spelling));
-    out.put_bytes(&spelling);
-}
-
-/// `whole` and the number that is read, as a whole number; `none` where it isn't one.
-pub fn put_whole(out: &mut Answer, input: &[u8]) {
-    match parsed(out, input).map(|number| number.whole()) {
-        Some(Some(whole)) => write!(out, "whole {whole}"),
-        Some(None) => out.put("none"),
-        None => (),
-    }
 }
 
 /// `name` and the name of the refusal that has this number; `none` where no refusal has it.

@@ -12,13 +12,12 @@ pub fn put_request(out: &mut Answer, asked: &Result<Request, RequestFault>) {
         }
         Ok(Request::Group(level)) => put_command(out, "group", &[level]),
         Ok(_) => out.put("another command"),
-        Err(RequestFault::Line(error)) => put_message(out, error),
+        Err(RequestFault::Line(error)) => {
+            let error: &clap::Error = error;
+            write!(out, "message {error}");
+        }
         Err(RequestFault::Memory(error)) => out.note(Err(*error)),
     }
-}
-
-fn put_message(out: &mut Answer, error: &clap::Error) {
-    write!(out, "message {error}");
 }
 
 fn put_command(out: &mut Answer, name: &str, words: &[&LineWord]) {

@@ -15,21 +15,11 @@ use std::io::Read;
 /// A run of a command over its text or texts, in a manner.
 #[derive(Clone, Copy)]
 pub struct Run<'t> {
-    command: Command,
+    command: &'t str,
     // the second is that of `run_same`
     texts: [&'t [u8]; 2],
     level: Level,
     pub manner: Manner,
-}
-
-#[derive(Clone, Copy)]
-enum Command {
-    Canon,
-    CanonLines,
-    Check,
-    CheckLines,
-    Group,
-    Same,
 }
 
 /// What a command answers beside what it writes.
@@ -45,26 +35,24 @@ pub enum Outcome {
 #[derive(Drop)]
 pub struct Done {
     pub outcome: Result<Outcome, RunFault>,
-    /// How often it has read.
-    pub reads: u64,
-    pub source_failed: bool,
-    pub sink_failed: bool,
-    pub written: Vec<u8>,
+    // how often it has read
+    reads: u64,
+    source_failed: bool,
+    sink_failed: bool,
 }
 
 impl<'t> Run<'t> {
     /// The run of the command that the first word names, in the manner that the other words say, over the parts of a row;
     /// None where a word says none.
-    pub fn of(words: &str, row: &'t Row<'_>) -> Option<Run<'t>> {
-        let (name, manner) = words.split_once(' ').unwrap_or((words, ""));
-        let (command, texts) = match name {
-            "run_canon" => (Command::Canon, [row.text(), &[]]),
-            "run_canon_lines" => (Command::CanonLines, [row.text(), &[]]),
-            "run_check" => (Command::Check, [row.text(), &[]]),
-            "run_check_lines" => (Command::CheckLines, [row.text(), &[]]),
-            "run_group" => (Command::Group, [row.text(), &[]]),
-            "run_same" => (Command::Same, [row.part(0), row.part(1)]),
-            _ => return None,
+    pub fn of(words: &'t str, row: &'t Row<'_>) -> Option<Run<'t>> {
+        let (command, manner) = words.split_once(' ').unwrap_or((words, ""));
+        if !command.starts_with("run_") {
+            return None;
+        }
+        let texts = if command == "run_same" {
+            [row.part(0), row.part(1)]
+        } else {
+            [row.text(), &[]]
         };
         let (level, manner) = (row.level, Manner::read(manner)?);
         Some(Run {
@@ -77,15 +65,7 @@ impl<'t> Run<'t> {
 
     /// Whether each line is answered by itself.
     pub fn is_by_line(self) -> bool {
-        matches!(self.command, Command::CanonLines | Command::CheckLines)
-    }
-
-    /// What the run does.
-    pub fn done(self, alloc: Global) -> Done {
-        let mut page = Page::new(alloc, self.manner);
-        let mut done = self.fill(alloc, &mut page);
-        done.written = page.written;
-        done
+        self.command.ends_with("_lines")
     }
 
     /// Runs the command onto a page, which has what is written; a text that it reads is read in the run's manner.
@@ -96,25 +76,24 @@ impl<'t> Run<'t> {
         let mut stream = Stream::new(Pieces::new(text, self.manner));
         let mut sink = Sink::new(page);
         let outcome = match self.command {
-            Command::Canon => run_canon(alloc, level, &mut source, &mut sink).map(Status),
-            Command::CanonLines => {
+            "run_canon" => run_canon(alloc, level, &mut source, &mut sink).map(Status),
+            "run_canon_lines" => {
                 let command = CanonText { level };
                 run_lines(alloc, &OfLine { command }, &mut stream, &mut sink).map(Status)
             }
-            Command::Check => run_check(alloc, &mut source, &mut sink).map(Status),
-            Command::CheckLines => {
+            "run_check" => run_check(alloc, &mut source, &mut sink).map(Status),
+            "run_check_lines" => {
                 let command = CheckText;
                 run_lines(alloc, &OfLine { command }, &mut stream, &mut sink).map(Status)
             }
-            Command::Group => run_group(alloc, level, &mut source, &mut sink).map(Groups),
-            Command::Same => run_same(alloc, level, text, second, &mut sink).map(Status),
+            "run_group" => run_group(alloc, level, &mut source, &mut sink).map(Groups),
+            _ => run_same(alloc, level, text, second, &mut sink).map(Status),
         };
         Done {
             outcome,
             reads: u64::from(source.reads()).saturating_add(stream.reads()),
             source_failed: source.failed() || stream.failed(),
             sink_failed: sink.failed(),
-            written: Vec::new(alloc),
         }
     }
 }
@@ -138,23 +117,29 @@ pub fn put_outcome(out: &mut Answer, outcome: &Result<Outcome, RunFault>) {
 
 /// What the run that a row's words name did; `no such call` where they name none.
 pub fn put_run(out: &mut Answer, row: &Row<'_>) {
-    match Run::of(row.call, row) {
-        Some(run) => put_done(out, &run.done(out.alloc())),
-        None => out.put("no such call"),
-    }
+    let Some(run) = Run::of(row.call, row) else {
+        return out.put("no such call");
+    };
+    let mut page = Page::new(out.alloc(), run.manner);
+    let done = run.fill(out.alloc(), &mut page);
+    put_done(out, &done, &page.written);
 }
 
-/// What a run did: how it ended, the count of its reads, which of source and sink has failed, and what it wrote.
-pub fn put_done(out: &mut Answer, done: &Done) {
+// What a run did: how it ended, the count of its reads, which of source and sink has failed, and what it wrote.
+fn put_done(out: &mut Answer, done: &Done, written: &[u8]) {
     put_outcome(out, &done.outcome);
     write!(out, ", reads {}", done.reads);
-    if done.source_failed {
-        out.put(", source failed");
-    }
-    if done.sink_failed {
-        out.put(", sink failed");
-    }
-    put_written(out, &done.written);
+    out.put(if done.source_failed {
+        ", source failed"
+    } else {
+        ""
+    });
+    out.put(if done.sink_failed {
+        ", sink failed"
+    } else {
+        ""
+    });
+    put_written(out, written);
 }
 
 /// `, written` and what was written, or that nothing was.
@@ -162,8 +147,7 @@ pub fn put_written(out: &mut Answer, written: &[u8]) {
     if written.is_empty() {
         out.put(", nothing written");
     } else {
-        out.put(", written ");
-        out.put_bytes(written);
+        out.put_after(", written ", written);
     }
 }
 
@@ -179,8 +163,7 @@ pub fn put_filled(out: &mut Answer, words: &str, input: &[u8]) {
         match reader.read(&mut room) {
             Ok(0) => return out.put("end"),
             Ok(count) => {
-                out.put("[");
-                out.put_bytes(&room[..count]);
+                out.put_after("[", &room[..count]);
                 out.put("], ");
             }
             Err(_) => out.put("failure, "),
@@ -202,4 +185,45 @@ pub fn put_handed(out: &mut Answer, input: &[u8]) {
         write!(out, "reads {reads}");
         put_written(out, &written);
     }
+}
+
+/// Runs a command with its first read failing, then its second, and so on, or its writes. A run whose read fails must end with
+/// `ReadFailed` by this read, with nothing written, or with the first whole lines of the answer where lines are answered as
+/// they come; one whose write fails with `WriteFailed` and a front of the answer, which is longer with each write. How many
+/// did, and what the run after them did.
+pub fn put_failed(out: &mut Answer, words: &str, row: &Row<'_>, what: &str) {
+    let Some(mut run) = Run::of(words, row) else {
+        return out.put("no such call");
+    };
+    let mut whole = Page::new(out.alloc(), run.manner);
+    let _done = run.fill(out.alloc(), &mut whole);
+    let mut least: usize = 0;
+    // No row reads or writes more often.
+    for nth in 1..10_000 {
+        if what == "reads" {
+            run.manner.fails_at = nth;
+        } else {
+            run.manner.stops_at = nth;
+        }
+        let mut page = Page::new(out.alloc(), run.manner);
+        let done = run.fill(out.alloc(), &mut page);
+        let written = page.written.as_slice();
+        let is_front = whole.written.starts_with(written);
+        let is_left = written.is_empty()
+            || run.is_by_line() && written.ends_with(b"\n") && is_front;
+        let is_failed = match done.outcome {
+            Err(RunFault::ReadFailed) => {
+                is_left && done.reads == u64::from(nth) && done.source_failed && !done.sink_failed
+            }
+            Err(RunFault::WriteFailed) => done.sink_failed && written.len() >= least && is_front,
+            _ => false,
+        };
+        if !is_failed {
+            let count = nth - 1;
+            write!(out, "{count} {what} failed in turn; then ");
+            return put_done(out, &done, written);
+        }
+        least = written.len().saturating_add(1);
+    }
+    out.put("no end");
 }

@@ -1,50 +1,76 @@
 //! The calls that compare CRSs.
-use crate::about::about_both;
 use crate::answer::Answer;
 use crate::row::Row;
 use crs_same::parts::same_axis;
 use crs_same::{Path, first_part, same};
-use crs_value::{Axis, Crs, Level};
+use crs_text::Fault;
+use crs_value::{Axis, Crs, Level, read};
+use std::alloc::Global;
 
-/// `same`, or `different` and the first part in which the CRSs of two texts differ, or the refusal of the first text that
-/// has one; `one way` where the orders of the two disagree, or where one call says that they are the same, and the other not.
-pub fn put_same(out: &mut Answer, row: &Row<'_>) {
-    let (alloc, level) = (out.alloc(), row.level);
-    let (first, second) = (row.part(0), row.part(1));
-    let forth = about_both(alloc, first, second, |a, b| compared(a, b, level));
-    let back = about_both(alloc, second, first, |a, b| compared(a, b, level));
-    if let Some(forth) = out.accepted(forth)
-        && let Some(back) = out.accepted(back)
-    {
-        put_compared(out, &forth, &back);
+/// What is asked of two CRSs.
+#[derive(Drop)]
+pub struct Compared {
+    is_same: bool,
+    /// The first part in which they differ.
+    pub path: Option<Path>,
+    // whether the first axes of two vertical CRSs are the same by themselves; `no axes` for other ones
+    axes: &'static str,
+}
+
+/// What is asked of the CRSs of two texts, or the refusal of the first text that has one.
+pub fn compared<'t>(
+    alloc: Global,
+    first: &'t [u8],
+    second: &'t [u8],
+    level: Level,
+) -> Result<Compared, Fault> {
+    match read(alloc, first) {
+        Ok(first) => compared_with(alloc, &first, second, level),
+        Err(fault) => Err(fault),
     }
 }
 
-// Whether two CRSs are the same, and the first part in which they differ.
-fn compared<'a>(a: &Crs<'a>, b: &Crs<'a>, level: Level) -> (bool, Option<Path>) {
-    (same(a, b, level), first_part(a, b, level))
+fn compared_with<'t>(
+    alloc: Global,
+    first: &Crs<'t>,
+    second: &'t [u8],
+    level: Level,
+) -> Result<Compared, Fault> {
+    match read(alloc, second) {
+        Ok(second) => Ok(Compared {
+            is_same: same(first, &second, level),
+            path: first_part(first, &second, level),
+            axes: axes_of(first, &second, level),
+        }),
+        Err(fault) => Err(fault),
+    }
 }
 
-fn put_compared(out: &mut Answer, forth: &(bool, Option<Path>), back: &(bool, Option<Path>)) {
-    match (forth, back) {
-        ((true, None), (true, None)) => out.put("same"),
-        ((false, Some(path)), (false, Some(other))) if path.steps() == other.steps() => {
+/// `same`, or `different` and the first part in which the CRSs of two texts differ, or what is told of their axes, or the
+/// refusal of the first text that has one; `one way` where the orders of the two disagree, or where one call says that they
+/// are the same, and the other not.
+pub fn put_same(out: &mut Answer, row: &Row<'_>) {
+    let (alloc, first, second) = (out.alloc(), row.part(0), row.part(1));
+    if let Some(forth) = out.accepted(compared(alloc, first, second, row.level))
+        && let Some(back) = out.accepted(compared(alloc, second, first, row.level))
+    {
+        if row.call == "same_axis" {
+            out.put(forth.axes);
+        } else {
+            put_compared(out, &forth, &back);
+        }
+    }
+}
+
+fn put_compared(out: &mut Answer, forth: &Compared, back: &Compared) {
+    match (&forth.path, &back.path, forth.is_same, back.is_same) {
+        (None, None, true, true) => out.put("same"),
+        (Some(path), Some(other), false, false) if path.steps() == other.steps() => {
             out.put("different ");
-            let mut text = Vec::new(out.alloc());
-            out.note(path.write(&mut text));
-            out.put_bytes(&text);
+            let done = path.write(out.end());
+            out.note(done);
         }
         _ => out.put("one way"),
-    }
-}
-
-/// Whether the first axes of two vertical CRSs are the same by themselves; `no axes` for other ones.
-pub fn put_same_axis(out: &mut Answer, row: &Row<'_>) {
-    let level = row.level;
-    let (first, second) = (row.part(0), row.part(1));
-    let asked = about_both(out.alloc(), first, second, |a, b| axes_of(a, b, level));
-    if let Some(told) = out.accepted(asked) {
-        out.put(told);
     }
 }
 

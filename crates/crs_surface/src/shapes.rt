@@ -1,21 +1,18 @@
 //! The calls on the shapes of texts.
 use crate::answer::Answer;
-use crate::pieces::read_agreed;
 use crate::row::Row;
-use crs_shape::{Class, Slot, class_of, fit, fit_root, keywords, known, root_class, slots};
-use crs_text::read_items;
+use crate::texts::read_agreed;
+use crs_shape::{Class, Slot, class_of, fit, fit_root, keywords, root_class, slots};
+use crs_text::{Fault, read_items};
 
 /// `class` and the first keyword of the root's class, or the refusal of the text or of its shape; `another answer in
 /// pieces` where a cut into pieces gives one.
 pub fn put_class(out: &mut Answer, input: &[u8]) {
-    if let Some(items) = read_agreed(out, input) {
-        match fit_root(&items) {
-            Ok(class) => {
-                out.put("class ");
-                put_keyword(out, class);
-            }
-            Err(refusal) => out.put_refusal(refusal),
-        }
+    if let Some(items) = read_agreed(out, input)
+        && let Some(class) = out.accepted(fit_root(&items).map_err(Fault::Refused))
+    {
+        out.put("class ");
+        put_keyword(out, class);
     }
 }
 
@@ -49,8 +46,7 @@ pub fn put_keywords(out: &mut Answer, input: &[u8]) {
     if let Some(class) = class_at(out, input) {
         out.put("keywords");
         for keyword in keywords(class) {
-            out.put(" ");
-            out.put_bytes(keyword.spelling());
+            out.put_after(" ", keyword.spelling());
         }
     }
 }
@@ -72,9 +68,7 @@ pub fn put_slots(out: &mut Answer, input: &[u8]) {
 fn put_slot(out: &mut Answer, slot: &Slot) {
     let classes: &'static [Class] = slot.classes();
     for (index, class) in classes.iter().enumerate() {
-        if index > 0 {
-            out.put("|");
-        }
+        out.put(if index > 0 { "|" } else { "" });
         put_class_word(out, *class);
     }
     out.put(match (slot.required(), slot.many()) {
@@ -94,19 +88,12 @@ fn put_class_word(out: &mut Answer, class: Class) {
     }
 }
 
-/// Whether any class has the keyword.
-pub fn put_known(out: &mut Answer, input: &[u8]) {
-    out.put(if known(input) { "known" } else { "unknown" });
-}
-
 /// `fits` where a text has the shape of the class that the keywords of the part before it lead to, or its refusal.
 pub fn put_fit(out: &mut Answer, row: &Row<'_>) {
     if let Some(class) = class_at(out, row.part(0))
         && let Some(items) = out.accepted(read_items(out.alloc(), row.part(1)))
+        && let Some(()) = out.accepted(fit(&items, items.root(), class).map_err(Fault::Refused))
     {
-        match fit(&items, items.root(), class) {
-            Ok(()) => out.put("fits"),
-            Err(refusal) => out.put_refusal(refusal),
-        }
+        out.put("fits");
     }
 }

@@ -1,11 +1,11 @@
-//! The calls on texts and their items.
+//! The calls on texts and their items, and on texts in pieces.
 ghost use Rattle.crs_text.specs.Items.{HasId};
 
 use crate::answer::Answer;
-use crate::numbers::put_spelling;
-use crate::pieces::{agree_in_many, read_agreed};
+use crate::numbers::put_spelled;
 use crate::row::Row;
-use crs_text::{Fault, ItemId, ItemKind, Items, read_items};
+use crs_text::{Fault, Feeder, ItemId, ItemKind, Items, read_items};
+use std::alloc::{AllocError, Global};
 
 // No item is inside more delimiters than these.
 const DEPTH: u8 = 12;
@@ -41,8 +41,7 @@ pub fn put_column(out: &mut Answer, row: &Row<'_>) {
 pub fn put_prefixes(out: &mut Answer, input: &[u8]) {
     out.put("refusals");
     for count in 0..input.len() {
-        let prefix = &input[..count];
-        put_prefix(out, prefix);
+        put_prefix(out, &input[..count]);
     }
 }
 
@@ -73,9 +72,7 @@ fn put_item(out: &mut Answer, items: &Items<'_>, id: ItemId, depth: u8)
     }
     out.put("[");
     for i in 0..items.arg_count(id) {
-        if i > 0 {
-            out.put(", ");
-        }
+        out.put(if i > 0 { ", " } else { "" });
         if depth > 0
             && let Some(arg) = items.arg(id, i)
         {
@@ -94,8 +91,7 @@ fn put_raw(out: &mut Answer, items: &Items<'_>, id: ItemId)
         ItemKind::Number => ("number ", ""),
         ItemKind::Text => ("text \"", "\""),
     };
-    out.put(before);
-    out.put_bytes(items.raw(id));
+    out.put_after(before, items.raw(id));
     out.put(behind);
 }
 
@@ -123,10 +119,90 @@ fn put_cell(out: &mut Answer, items: &Items<'_>, id: ItemId, column: &str) -> Op
         "places" if items.contains(id) => write!(out, "{}", items.place(id)),
         "places" => return None,
         "closes" => write!(out, "{}", items.close(id)?),
-        "numbers" => put_spelling(out, &items.number(id)?),
+        "numbers" => put_spelled(out, &items.number(id)?, "", b""),
         "sizes" => write!(out, "{}", items.size(id)),
         "nexts" => write!(out, "{}", items.place(items.next(id)?)),
         _ => write!(out, "{:?}", items.keyword(id)?),
     }
     Some(())
+}
+
+// The longest text of which every cut is tried.
+const LONGEST: usize = 2000;
+
+/// The answer of each piece, and then that of `finish`, with `; ` between two: `ok`, the items, or the refusal.
+pub fn put_fed(out: &mut Answer, row: &Row<'_>) {
+    let mut feeder = Feeder::new(out.alloc());
+    for index in 0..row.count() {
+        put_taken(out, feeder.feed(row.part(index)));
+        out.put("; ");
+    }
+    put_read(out, feeder.finish());
+}
+
+/// What `feed` answers: `ok`, or the refusal.
+pub fn put_taken(out: &mut Answer, taken: Result<(), Fault>) {
+    if out.accepted(taken).is_some() {
+        out.put("ok");
+    }
+}
+
+/// The items of a text. None where it is refused, which is put, or has another answer in pieces, as is then put.
+pub fn read_agreed<'t>(out: &mut Answer, text: &'t [u8]) -> Option<Items<'t>> {
+    if !out.made(agree(out.alloc(), text))? {
+        out.put("another answer in pieces");
+        return None;
+    }
+    out.accepted(read_items(out.alloc(), text))
+}
+
+/// Whether a text that isn't long gives the same answer as a whole, in any two pieces, and in pieces of 1 to 7 bytes.
+pub fn agree(alloc: Global, text: &[u8]) -> Result<bool, AllocError> {
+    Ok(text.len() > LONGEST || agree_in_two(alloc, text)? && agree_in_many(alloc, text)?)
+}
+
+fn agree_in_two(alloc: Global, text: &[u8]) -> Result<bool, AllocError> {
+    let whole = answer_of(read_items(alloc, text), alloc);
+    for cut in 0..text.len() {
+        let (first, second) = text.split_at(cut);
+        if !agrees_in(alloc, &[first, second], &whole)? {
+            return Ok(false);
+        }
+    }
+    Ok(true)
+}
+
+/// Whether a text gives the same answer as a whole and in pieces of 1 to 7 bytes.
+pub fn agree_in_many(alloc: Global, text: &[u8]) -> Result<bool, AllocError> {
+    let whole = answer_of(read_items(alloc, text), alloc);
+    for size in 1..8 {
+        let pieces: Vec<&[u8]> = text.chunks(size).collect(alloc)?;
+        if !agrees_in(alloc, &pieces, &whole)? {
+            return Ok(false);
+        }
+    }
+    Ok(true)
+}
+
+fn agrees_in(alloc: Global, pieces: &[&[u8]], whole: &Answer) -> Result<bool, AllocError> {
+    let feeder = fed(alloc, pieces)?;
+    answer_of(feeder.finish(), alloc).is(whole)
+}
+
+/// A feeder of these pieces; `finish` answers the refusal of one again.
+pub fn fed(alloc: Global, pieces: &[&[u8]]) -> Result<Feeder, AllocError> {
+    let mut feeder = Feeder::new(alloc);
+    for piece in pieces {
+        if let Err(Fault::Memory(error)) = feeder.feed(piece) {
+            return Err(error);
+        }
+    }
+    Ok(feeder)
+}
+
+/// The items that were read, node by node, or the refusal, as an answer by itself.
+pub fn answer_of(read: Result<Items<'_>, Fault>, alloc: Global) -> Answer {
+    let mut answer = Answer::new(alloc);
+    put_read(&mut answer, read);
+    answer
 }

@@ -3,8 +3,8 @@
 #![tactic(auto)]
 
 mod rows;
-mod trial;
 mod trials;
+mod turn;
 
 use anyhow::Result;
 use crs_surface::Row;
