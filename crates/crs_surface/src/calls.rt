@@ -2,7 +2,7 @@
 use crate::answer::Answer;
 use crate::examples::{put_difference, put_keys};
 use crate::row::Row;
-use crate::{canonical, catalogues, numbers, runs, sameness, shapes, texts, values, written};
+use crate::{catalogues, numbers, runs, shapes, texts, values, written};
 use crs_shape::known;
 
 /// Puts the answer of a row's call.
@@ -28,9 +28,9 @@ pub fn put_answer(out: &mut Answer, row: &Row<'_>) {
 fn put_answer_of_value(out: &mut Answer, row: &Row<'_>) {
     match row.call.split_once(' ').unwrap_or((row.call, "")) {
         ("read", _) => values::put_read(out, row.text()),
-        ("canon", _) => canonical::put_canon(out, row),
-        ("same" | "same_axis", _) => sameness::put_same(out, row),
-        ("write", part) => canonical::put_part(out, row, part),
+        ("canon", _) => values::put_canon(out, row),
+        ("same" | "same_axis", _) => values::put_same(out, row),
+        ("write", part) => values::put_part(out, row, part),
         ("written", how) => written::put_whole(out, row, how),
         ("example", "key") => put_keys(out, row),
         ("example", _) => put_difference(out, row),

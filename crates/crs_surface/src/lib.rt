@@ -5,14 +5,11 @@
 
 mod answer;
 mod calls;
-mod canonical;
 mod catalogues;
 mod examples;
 mod numbers;
-mod requests;
 mod row;
 mod runs;
-mod sameness;
 mod shapes;
 mod streams;
 mod texts;
@@ -21,12 +18,9 @@ mod written;
 
 pub use answer::Answer;
 pub use calls::put_answer;
-pub use canonical::{append_part, put_spelling};
 pub use catalogues::{put_all, put_placed};
-pub use requests::put_request;
 pub use row::{Row, parts_of, unusable};
-pub use runs::{Run, put_outcome, put_written};
-pub use sameness::compared;
+pub use runs::{Run, put_outcome, put_request, put_written};
 pub use streams::Page;
 pub use texts::{answer_of, fed, put_read, put_taken};
-pub use values::kind_word;
+pub use values::{append_part, compared, kind_word, put_spelling};

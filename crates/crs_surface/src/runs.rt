@@ -1,10 +1,11 @@
-//! Runs of commands over texts, and what is put of them.
+//! Command lines, runs of commands over texts, and what is put of them.
 use self::Outcome::{Groups, Status};
 use crate::answer::Answer;
 use crate::row::Row;
 use crate::streams::{Manner, Page, Pieces};
 use crs_desk::{
-    CanonText, CheckText, Filling, OfLine, Stream, run_canon, run_check, run_lines, run_same,
+    CanonText, CheckText, Filling, LineWord, OfLine, Request, RequestFault, Stream, run_canon,
+    run_check, run_lines, run_same,
 };
 use crs_group::{RunFault, Sink, Source, Summary, run_group};
 use crs_value::Level;
@@ -226,4 +227,30 @@ pub fn put_failed(out: &mut Answer, words: &str, row: &Row<'_>, what: &str) {
         least = written.len().saturating_add(1);
     }
     out.put("no end");
+}
+
+/// The command, and its words in brackets, the level first; where the line is wrong, what is said to the user.
+pub fn put_request(out: &mut Answer, asked: &Result<Request, RequestFault>) {
+    match asked {
+        Ok(Request::Canon(level)) => put_command(out, "canon", &[level]),
+        Ok(Request::Check) => out.put("check"),
+        Ok(Request::Same(first, second, level)) => {
+            put_command(out, "same", &[level, first, second])
+        }
+        Ok(Request::Group(level)) => put_command(out, "group", &[level]),
+        Ok(_) => out.put("another command"),
+        Err(RequestFault::Line(error)) => {
+            let error: &clap::Error = error;
+            write!(out, "message {error}");
+        }
+        Err(RequestFault::Memory(error)) => out.note(Err(*error)),
+    }
+}
+
+fn put_command(out: &mut Answer, name: &str, words: &[&LineWord]) {
+    out.put(name);
+    for word in words {
+        let word: &str = word.as_str();
+        write!(out, " [{word}]");
+    }
 }

@@ -19,10 +19,7 @@ pub fn put_tree(out: &mut Answer, input: &[u8]) {
 
 /// `tree` and the items that were read, node by node, or the refusal.
 pub fn put_read(out: &mut Answer, read: Result<Items<'_>, Fault>) {
-    if let Some(items) = out.accepted(read) {
-        out.put("tree ");
-        put_item(out, &items, items.root(), DEPTH);
-    }
+    put_items(out, read, "tree");
 }
 
 /// What each item has in the column that a call names, `none` where it has nothing there, in the order in which the items
@@ -30,9 +27,14 @@ pub fn put_read(out: &mut Answer, read: Result<Items<'_>, Fault>) {
 /// (`closes`), the values of `numbers`, how many items are in each, itself included (`sizes`), the places of the arguments
 /// after them in their nodes (`nexts`), and the `keywords` that words and nodes' words are.
 pub fn put_column(out: &mut Answer, row: &Row<'_>) {
-    if let Some(items) = out.accepted(read_items(out.alloc(), row.text())) {
-        out.put(row.call);
-        put_each(out, &items, items.root(), row.call, DEPTH);
+    let read = read_items(out.alloc(), row.text());
+    put_items(out, read, row.call);
+}
+
+fn put_items(out: &mut Answer, read: Result<Items<'_>, Fault>, column: &str) {
+    if let Some(items) = out.accepted(read) {
+        out.put_after(column, b" ");
+        put_each(out, &items, items.root(), column, DEPTH);
     }
 }
 
@@ -62,24 +64,28 @@ fn put_verdict(out: &mut Answer, fault: Fault) {
     }
 }
 
-// A node by its keyword and its arguments in brackets, every other item by its kind and its raw bytes.
-fn put_item(out: &mut Answer, items: &Items<'_>, id: ItemId, depth: u8)
+// What an item and those in it have in a column; in a `tree` the arguments of a node are in brackets.
+fn put_each(out: &mut Answer, items: &Items<'_>, id: ItemId, column: &str, depth: u8)
     requires { HasId items.now id }
 {
-    put_raw(out, items, id);
-    if items.close(id).is_none() {
-        return;
+    if put_cell(out, items, id, column).is_none() {
+        out.put("none");
     }
-    out.put("[");
     for i in 0..items.arg_count(id) {
-        out.put(if i > 0 { ", " } else { "" });
+        out.put(match column {
+            "tree" if i == 0 => "[",
+            "tree" => ", ",
+            _ => " ",
+        });
         if depth > 0
             && let Some(arg) = items.arg(id, i)
         {
-            put_item(out, items, arg, depth - 1);
+            put_each(out, items, arg, column, depth - 1);
         }
     }
-    out.put("]");
+    if column == "tree" && items.arg_count(id) > 0 {
+        out.put("]");
+    }
 }
 
 fn put_raw(out: &mut Answer, items: &Items<'_>, id: ItemId)
@@ -95,27 +101,12 @@ fn put_raw(out: &mut Answer, items: &Items<'_>, id: ItemId)
     out.put(behind);
 }
 
-fn put_each(out: &mut Answer, items: &Items<'_>, id: ItemId, column: &str, depth: u8)
-    requires { HasId items.now id }
-{
-    out.put(" ");
-    if put_cell(out, items, id, column).is_none() {
-        out.put("none");
-    }
-    for i in 0..items.arg_count(id) {
-        if depth > 0
-            && let Some(arg) = items.arg(id, i)
-        {
-            put_each(out, items, arg, column, depth - 1);
-        }
-    }
-}
-
 // None where the item has nothing in the column.
 fn put_cell(out: &mut Answer, items: &Items<'_>, id: ItemId, column: &str) -> Option<()>
     requires { HasId items.now id }
 {
     match column {
+        "tree" => put_raw(out, items, id),
         "places" if items.contains(id) => write!(out, "{}", items.place(id)),
         "places" => return None,
         "closes" => write!(out, "{}", items.close(id)?),
