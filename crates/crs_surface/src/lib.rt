@@ -4,7 +4,6 @@
 #![tactic(auto)]
 
 mod answer;
-mod calls;
 mod catalogues;
 mod examples;
 mod numbers;
@@ -17,9 +16,8 @@ mod values;
 mod written;
 
 pub use answer::Answer;
-pub use calls::put_answer;
 pub use catalogues::{put_all, put_placed};
-pub use row::{Row, parts_of, unusable};
+pub use row::{Row, parts_of, put_answer, unusable};
 pub use runs::{Run, put_outcome, put_request, put_written};
 pub use streams::Page;
 pub use texts::{answer_of, fed, put_read, put_taken};

@@ -25,6 +25,8 @@ macro_rules! put_field {
     ($out:ident, $field:ident) => { $field.put($out) };
     ($out:ident, $field:ident, in_keyword) => {};
     ($out:ident, $field:ident, as_word) => { $out.word($field.word().as_bytes()) };
+    ($out:ident, $field:ident, optional_code) => { if let Some(code) = $field { $out.code(code); } };
+    ($out:ident, $field:ident, optional_parts) => { if let Some(parts) = $field { $out.parts(parts); } };
     ($out:ident, $field:ident, $how:ident) => { $out.$how($field) };
     ($out:ident, $field:ident, $how:ident ($word:literal)) => { $out.$how($word, $field) };
 }
@@ -134,10 +136,10 @@ impl Text {
         put_fields!(usage, self => Usage { scope: optional_node("SCOPE"), area: optional_node("AREA"), bbox, extent });
     }
 
-    fn bare_parts(&mut self, parts: &Option<Usage<'_>>) {
-        if let Some(parts) = parts {
-            self.parts(parts);
-        }
+    // The identifiers of a node that ends with them.
+    fn to_end(&mut self, identifiers: &List<Ident<'_>>) {
+        identifiers.put(self);
+        self.close();
     }
 
     // A code without quotes where it has digits alone.
@@ -146,12 +148,6 @@ impl Text {
             self.word(code);
         } else {
             code.put(self);
-        }
-    }
-
-    fn optional_code(&mut self, code: &Option<&[u8]>) {
-        if let Some(code) = code {
-            self.code(code);
         }
     }
 }
@@ -239,11 +235,8 @@ impl Written for Horizontal<'_> {
             Horizontal::Geodetic(crs) => crs.put(out),
             Horizontal::Projected(crs) => crs.put(out),
         }
-        out.look(
-            self,
-            parts::same_horizontal(self, self, Level::Full),
-            "Horizontal",
-        );
+        let is_same = parts::same_horizontal(self, self, Level::Full);
+        out.look(self, is_same, "Horizontal");
     }
 }
 
@@ -308,20 +301,8 @@ impl Written for DeformationModel<'_> {
 
 impl Written for System<'_> {
     fn put(&self, out: &mut Text) {
-        let System {
-            system_type,
-            dimension,
-            identifiers,
-            axes,
-            unit,
-        } = self;
         out.open("CS");
-        out.word(system_type.word().as_bytes());
-        dimension.put(out);
-        identifiers.put(out);
-        out.close();
-        axes.put(out);
-        unit.put(out);
+        put_fields!(self, out => System { system_type: as_word, dimension, identifiers: to_end, axes, unit });
     }
 }
 
@@ -374,7 +355,7 @@ impl Written for Parameter<'_> {
 
 impl Written for Tail<'_> {
     fn put(&self, out: &mut Text) {
-        put_fields!(self, out => Tail { bare_parts: bare_parts, usages, identifiers, remark: optional_node("REMARK") });
+        put_fields!(self, out => Tail { bare_parts: optional_parts, usages, identifiers, remark: optional_node("REMARK") });
     }
 }
 

@@ -1,5 +1,5 @@
-//! Files of rows, in the form of those in `tests`, as far as calls need it: `let`, `table`, `case`, `call`, `input`, `times`
-//! and `output`.
+//! Files of rows, in the form of those in `tests`, as far as calls need it: `let`, and a `table` of `call`, `input`, `times`,
+//! `pieces` and `output`.
 use crs_surface::{Answer, Row, put_answer};
 use std::alloc::{AllocError, Global};
 use std::rt::Files;
@@ -11,13 +11,8 @@ pub fn run_file(rt: &(impl Files + Print + AllocGlobal), name: &str) -> io::Resu
     let text = fs::read_to_string(rt, path.as_str())?;
     let mut reader = Reader::new(rt.alloc());
     for line in text.as_str().lines() {
-        let (key, rest) = split_word(line);
-        if key == "case" || key == "table" {
-            reader.finish(rt)?;
-        }
-        reader.read(key, rest)?;
+        reader.read(rt, line)?;
     }
-    reader.finish(rt)?;
     let Reader { rows, differ, .. } = &reader;
     println!(rt; "{name}: {rows} rows, {differ} differ")
 }
@@ -28,11 +23,7 @@ struct Reader<'t> {
     names: Vec<(&'t str, Vec<u8>)>,
     columns: &'t str,
     // the call of all rows of a table
-    table_call: &'t str,
-    // the case that is read, which has no name where there is none
-    case: &'t str,
-    row: Row<'t>,
-    expected: Vec<u8>,
+    call: &'t str,
     rows: u64,
     differ: u64,
 }
@@ -42,34 +33,14 @@ impl<'t> Reader<'t> {
         Reader {
             names: Vec::new(alloc),
             columns: "",
-            table_call: "",
-            case: "",
-            row: Row::new(alloc),
-            expected: Vec::new(alloc),
+            call: "",
             rows: 0,
             differ: 0,
         }
     }
 
-    // Asks what the case asks, where there is one.
-    fn finish(&mut self, rt: &(impl Print + AllocGlobal)) -> io::Result<()> {
-        if self.case.is_empty() {
-            return Ok(());
-        }
-        let mut came = Answer::new(rt.alloc());
-        put_answer(&mut came, &self.row);
-        self.rows = self.rows.saturating_add(1);
-        if came.bytes()? != self.expected.as_slice() {
-            self.differ = self.differ.saturating_add(1);
-            let case = self.case;
-            println!(rt; "{case}:")?;
-            came.print(rt)?;
-        }
-        self.case = "";
-        Ok(())
-    }
-
-    fn read(&mut self, key: &str, rest: &'t str) -> Result<(), AllocError> {
+    fn read(&mut self, rt: &(impl Print + AllocGlobal), line: &'t str) -> io::Result<()> {
+        let (key, rest) = split_word(line);
         match key {
             "let" => {
                 let (name, text) = split_word(rest);
@@ -78,61 +49,60 @@ impl<'t> Reader<'t> {
             }
             "table" => {
                 self.columns = rest;
-                self.table_call = "";
+                self.call = "";
             }
-            "case" => self.read_case(rest)?,
-            "call" if self.case.is_empty() => self.table_call = rest,
-            _ => self.add(key, rest)?,
+            "call" => self.call = rest,
+            "case" => self.ask(rt, rest)?,
+            _ => (),
         }
         Ok(())
     }
 
-    fn read_case(&mut self, rest: &'t str) -> Result<(), AllocError> {
-        let mut fields = rest.split(" | ");
-        self.case = fields.next().unwrap_or("");
-        self.row = Row::new(*self.expected.allocator());
-        self.row.set_call(self.table_call);
-        self.expected.clear();
+    // Asks what a case asks, and prints what came where the case has another answer.
+    fn ask(&mut self, rt: &(impl Print + AllocGlobal), case: &'t str) -> io::Result<()> {
+        let mut fields = case.split(" | ");
+        let name = fields.next().unwrap_or("");
+        let mut row = Row::new(rt.alloc());
+        row.set_call(self.call);
+        let mut expected = Vec::new(rt.alloc());
         for (column, field) in self.columns.split(" | ").zip(fields) {
-            match split_word(column) {
-                (key, "") => self.add(key, field)?,
-                (key, count) => self.add_many(key, count, field)?,
+            match column {
+                "#" => (),
+                "call" => row.set_call(field),
+                "output" => expected = self.text_of(field)?,
+                _ => self.add(&mut row, column, field)?,
             }
+        }
+        let mut came = Answer::new(rt.alloc());
+        put_answer(&mut came, &row);
+        self.rows = self.rows.saturating_add(1);
+        if came.bytes()? != expected.as_slice() {
+            self.differ = self.differ.saturating_add(1);
+            println!(rt; "{name}:")?;
+            came.print(rt)?;
         }
         Ok(())
     }
 
-    fn add(&mut self, key: &str, rest: &'t str) -> Result<(), AllocError> {
-        match key {
-            "" | "#" => (),
-            "call" => self.row.set_call(rest),
-            "input" => self.add_many("times", "1", rest)?,
-            "times" | "pieces" => {
-                let (count, text) = split_word(rest);
-                self.add_many(key, count, text)?;
-            }
-            "output" => self.expected = self.text_of(rest)?,
-            // no call is named so
-            _ => self.row.set_call("none"),
-        }
-        Ok(())
-    }
-
-    // A text so many times, or in pieces of so many bytes.
-    fn add_many(&mut self, key: &str, count: &str, text: &str) -> Result<(), AllocError> {
+    // Adds a text, once or so many times, or in pieces of so many bytes.
+    fn add(&self, row: &mut Row<'t>, column: &str, field: &str) -> Result<(), AllocError> {
+        let (count, text) = match column {
+            "input" => ("1", field),
+            _ => split_word(field),
+        };
         let text = self.text_of(text)?;
-        if key == "times" {
-            return self.row.add(count.parse().unwrap_or(0), &text);
+        if column != "pieces" {
+            return row.add(count.parse().unwrap_or(0), &text);
         }
         for piece in text.chunks(count.parse().unwrap_or(1).max(1)) {
-            self.row.add(1, piece)?;
+            row.add(1, piece)?;
         }
         Ok(())
     }
 
     // The bytes that a text means: `\n`, `\r`, `\t`, `\\`, `\xhh` and `\{NAME}`, every other character for itself.
     fn text_of(&self, text: &str) -> Result<Vec<u8>, AllocError> {
-        let mut out = Vec::new(*self.expected.allocator());
+        let mut out = Vec::new(*self.names.allocator());
         let mut rest = text.as_bytes();
         for _turn in 0..text.len() {
             rest = match rest {
