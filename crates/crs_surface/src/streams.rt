@@ -5,21 +5,19 @@ use std::io;
 use std::io::{ErrorKind, Read, Write};
 
 /// How a text is read and an answer written: a row's words `pieces=N`, `fails=N`, `endless`, `takes=N`, `stops=N` and
-/// `interrupted`.
+/// `interrupted`. Reads and writes are counted from 1; none fails at 0.
 #[derive(Clone, Copy)]
 pub struct Manner {
-    /// The most bytes of one read.
-    pub piece: usize,
-    /// The read that fails, counted from 1; none where it is 0.
+    // the most bytes of one read, and of one write
+    piece: usize,
+    takes: usize,
+    /// The read that fails.
     pub fails_at: u32,
-    /// Whether the text begins anew where it ends.
-    pub is_endless: bool,
-    /// The most bytes that one write takes.
-    pub takes: usize,
-    /// The write that fails, counted from 1; none where it is 0.
+    /// The write that fails.
     pub stops_at: u32,
-    /// How it fails.
-    pub failure: ErrorKind,
+    // whether the text begins anew where it ends
+    is_endless: bool,
+    failure: ErrorKind,
 }
 
 impl Manner {

@@ -1,6 +1,6 @@
 //! Files of rows, in the form of those in `tests`, as far as calls need it: `let`, and a `table` of `call`, `input`, `times`,
 //! `pieces` and `output`.
-use crs_surface::{Answer, Row, put_answer};
+use crs_surface::{Answer, Row, put_answer, unusable};
 use std::alloc::{AllocError, Global};
 use std::rt::Files;
 use std::{fs, io};
@@ -53,7 +53,8 @@ impl<'t> Reader<'t> {
             }
             "call" => self.call = rest,
             "case" => self.ask(rt, rest)?,
-            _ => (),
+            "" | "#" => (),
+            _ => return Err(unusable()),
         }
         Ok(())
     }
@@ -70,7 +71,8 @@ impl<'t> Reader<'t> {
                 "#" => (),
                 "call" => row.set_call(field),
                 "output" => expected = self.text_of(field)?,
-                _ => self.add(&mut row, column, field)?,
+                "input" | "times" | "pieces" => self.add(&mut row, column, field)?,
+                _ => return Err(unusable()),
             }
         }
         let mut came = Answer::new(rt.alloc());
