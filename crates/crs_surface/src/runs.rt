@@ -130,16 +130,12 @@ pub fn put_run(out: &mut Answer, row: &Row<'_>) {
 fn put_done(out: &mut Answer, done: &Done, written: &[u8]) {
     put_outcome(out, &done.outcome);
     write!(out, ", reads {}", done.reads);
-    out.put(if done.source_failed {
-        ", source failed"
-    } else {
-        ""
-    });
-    out.put(if done.sink_failed {
-        ", sink failed"
-    } else {
-        ""
-    });
+    if done.source_failed {
+        out.put(", source failed");
+    }
+    if done.sink_failed {
+        out.put(", sink failed");
+    }
     put_written(out, written);
 }
 
@@ -212,11 +208,13 @@ pub fn put_failed(out: &mut Answer, words: &str, row: &Row<'_>, what: &str) {
         let is_front = whole.written.starts_with(written);
         let is_left = written.is_empty()
             || run.is_by_line() && written.ends_with(b"\n") && is_front;
-        let is_failed = match done.outcome {
-            Err(RunFault::ReadFailed) => {
+        let is_failed = match (what, &done.outcome) {
+            ("reads", Err(RunFault::ReadFailed)) => {
                 is_left && done.reads == u64::from(nth) && done.source_failed && !done.sink_failed
             }
-            Err(RunFault::WriteFailed) => done.sink_failed && written.len() >= least && is_front,
+            ("writes", Err(RunFault::WriteFailed)) => {
+                done.sink_failed && written.len() >= least && is_front
+            }
             _ => false,
         };
         if !is_failed {

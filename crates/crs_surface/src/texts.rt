@@ -149,10 +149,9 @@ pub fn read_agreed<'t>(out: &mut Answer, text: &'t [u8]) -> Option<Items<'t>> {
 
 /// Whether a text that isn't long gives the same answer as a whole, in any two pieces, and in pieces of 1 to 7 bytes.
 pub fn agree(alloc: Global, text: &[u8]) -> Result<bool, AllocError> {
-    Ok(text.len() > LONGEST || agree_in_two(alloc, text)? && agree_in_many(alloc, text)?)
-}
-
-fn agree_in_two(alloc: Global, text: &[u8]) -> Result<bool, AllocError> {
+    if text.len() > LONGEST {
+        return Ok(true);
+    }
     let whole = answer_of(read_items(alloc, text), alloc);
     for cut in 0..text.len() {
         let (first, second) = text.split_at(cut);
@@ -160,11 +159,11 @@ fn agree_in_two(alloc: Global, text: &[u8]) -> Result<bool, AllocError> {
             return Ok(false);
         }
     }
-    Ok(true)
+    agree_in_many(alloc, text)
 }
 
-/// Whether a text gives the same answer as a whole and in pieces of 1 to 7 bytes.
-pub fn agree_in_many(alloc: Global, text: &[u8]) -> Result<bool, AllocError> {
+// Whether a text gives the same answer as a whole and in pieces of 1 to 7 bytes.
+fn agree_in_many(alloc: Global, text: &[u8]) -> Result<bool, AllocError> {
     let whole = answer_of(read_items(alloc, text), alloc);
     for size in 1..8 {
         let pieces: Vec<&[u8]> = text.chunks(size).collect(alloc)?;
