@@ -158,7 +158,7 @@ pub fn put_part(out: &mut Answer, row: &Row<'_>, part: &str) {
 
 /// What is asked of two CRSs.
 #[derive(Drop)]
-pub struct Compared {
+pub struct Comparison {
     is_same: bool,
     /// The first part in which they differ.
     pub path: Option<Path>,
@@ -172,7 +172,7 @@ pub fn compared<'t>(
     first: &'t [u8],
     second: &'t [u8],
     level: Level,
-) -> Result<Compared, Fault> {
+) -> Result<Comparison, Fault> {
     match read(alloc, first) {
         Ok(first) => compared_with(alloc, &first, second, level),
         Err(fault) => Err(fault),
@@ -184,9 +184,9 @@ fn compared_with<'t>(
     first: &Crs<'t>,
     second: &'t [u8],
     level: Level,
-) -> Result<Compared, Fault> {
+) -> Result<Comparison, Fault> {
     match read(alloc, second) {
-        Ok(second) => Ok(Compared {
+        Ok(second) => Ok(Comparison {
             is_same: same(first, &second, level),
             path: first_part(first, &second, level),
             axes: axes_of(first, &second, level),
@@ -211,7 +211,7 @@ pub fn put_same(out: &mut Answer, row: &Row<'_>) {
     }
 }
 
-fn put_compared(out: &mut Answer, forth: &Compared, back: &Compared) {
+fn put_compared(out: &mut Answer, forth: &Comparison, back: &Comparison) {
     match (&forth.path, &back.path, forth.is_same, back.is_same) {
         (None, None, true, true) => out.put("same"),
         (Some(path), Some(other), false, false) if path.steps() == other.steps() => {

@@ -136,7 +136,7 @@ fn try_request(rt: &(impl Print + AllocGlobal), row: &Row<'_>) -> io::Result<()>
     for index in 0..row.count() {
         words.push(str::from_utf8(row.part(index)).map_err(|_| unusable())?)?;
     }
-    try_reading(rt, Call::Request(&words))
+    try_reading(rt, Call::Request(words.as_slice()))
 }
 
 // `canon_of` the CRS that a text spells, or an append of the part of it that is named.
