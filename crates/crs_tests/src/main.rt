@@ -19,7 +19,7 @@ fn main(rt: HostRuntime) -> Result<()> {
         trials::try_call(&rt, &Row::of(rt.alloc(), &bytes)?)?;
         return Ok(());
     }
-    for name in "numbers texts shapes values sameness streams examples".split(' ') {
+    for name in "numbers texts shapes values streams examples".split(' ') {
         rows::run_file(&rt, name)?;
     }
     Ok(())
