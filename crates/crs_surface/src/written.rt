@@ -43,7 +43,7 @@ use crs_value::{
     List, Member, Meridian, Method, Parameter, Projected, System, SystemType, Tail, Unit, UnitKind,
     Usage, Vertical, read,
 };
-use std::alloc::{AllocError, Global};
+use std::alloc::AllocError;
 
 /// A value that is taken apart by a pattern of all its fields or variants.
 pub trait Written {
@@ -54,7 +54,11 @@ pub trait Written {
 /// The CRS of a text, taken apart and written. Of one that is `canonical` each node is looked at by itself, too: `another` and
 /// the name of one that isn't the same as itself, or that appends another text than how it stands.
 pub fn put_whole(out: &mut Answer, row: &Row<'_>, how: &str) {
-    let mut text = Text::new(out.alloc());
+    let mut text = Text {
+        out: Answer::new(out.alloc()),
+        is_first: true,
+        odd: None,
+    };
     match read(out.alloc(), row.text()) {
         Ok(crs) => crs.put(&mut text),
         Err(fault) => return out.put_fault(fault),
@@ -79,14 +83,6 @@ pub struct Text {
 }
 
 impl Text {
-    fn new(alloc: Global) -> Text {
-        Text {
-            out: Answer::new(alloc),
-            is_first: true,
-            odd: None,
-        }
-    }
-
     // Looks whether a node is the same as itself, and appends what was just put of it.
     fn look<T: Canonical>(&mut self, node: &T, is_same: bool, name: &'static str) {
         let alloc = self.out.alloc();

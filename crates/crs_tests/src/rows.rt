@@ -1,7 +1,7 @@
 //! Files of rows, in the form of those in `tests`, as far as calls need it: `let`, and a `table` of `call`, `input`, `times`,
 //! `pieces` and `output`.
 use crs_surface::{Answer, Row, put_answer, unusable};
-use std::alloc::{AllocError, Global};
+use std::alloc::AllocError;
 use std::rt::Files;
 use std::{fs, io};
 
@@ -9,7 +9,13 @@ use std::{fs, io};
 pub fn run_file(rt: &(impl Files + Print + AllocGlobal), name: &str) -> io::Result<()> {
     let path = format!(in rt.alloc(); "{name}.rows")?;
     let text = fs::read_to_string(rt, path.as_str())?;
-    let mut reader = Reader::new(rt.alloc());
+    let mut reader = Reader {
+        names: Vec::new(rt.alloc()),
+        columns: "",
+        call: "",
+        rows: 0,
+        differ: 0,
+    };
     for line in text.as_str().lines() {
         reader.read(rt, line)?;
     }
@@ -29,16 +35,6 @@ struct Reader<'t> {
 }
 
 impl<'t> Reader<'t> {
-    fn new(alloc: Global) -> Reader<'t> {
-        Reader {
-            names: Vec::new(alloc),
-            columns: "",
-            call: "",
-            rows: 0,
-            differ: 0,
-        }
-    }
-
     fn read(&mut self, rt: &(impl Print + AllocGlobal), line: &'t str) -> io::Result<()> {
         let (key, rest) = split_word(line);
         match key {
