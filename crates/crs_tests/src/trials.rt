@@ -39,7 +39,7 @@ fn try_change(rt: &(impl Print + AllocGlobal), row: &Row<'_>) -> io::Result<()> 
     let text = row.part(0);
     match row.call {
         "Decimal::write" => match Decimal::parse(text) {
-            Ok(number) => try_append(rt, Appended::Number(number)),
+            Ok(number) => try_append(rt, &Appended::Number(number)),
             Err(_) => Err(unusable()),
         },
         "Path::write" => try_path(rt, text, row.part(1)),
@@ -146,7 +146,7 @@ fn try_of_crs(rt: &(impl Print + AllocGlobal), call: &str, text: &[u8]) -> io::R
             if call == "canon_of" {
                 try_reading(rt, Call::CanonOf(&crs))
             } else {
-                try_append(rt, Appended::Part(&crs, call))
+                try_append(rt, &Appended::Part(&crs, call))
             }
         }
         Err(fault) => Err(unmade(fault)),
@@ -163,7 +163,7 @@ enum Appended<'a, 't> {
 
 impl Appended<'_, '_> {
     // A CRS that has no such part is no input of the call: nothing is appended.
-    fn append(self, out: &mut Vec<u8>) -> Result<(), AllocError> {
+    fn append(&self, out: &mut Vec<u8>) -> Result<(), AllocError> {
         match self {
             Appended::Number(number) => number.write(out),
             Appended::Path(path) => path.write(out),
@@ -178,7 +178,7 @@ impl Appended<'_, '_> {
 const BEFORE: &[u8] = b"before:";
 
 // An append to a vector that has no room left.
-fn try_append(rt: &(impl Print + AllocGlobal), what: Appended<'_, '_>) -> io::Result<()> {
+fn try_append(rt: &(impl Print + AllocGlobal), what: &Appended<'_, '_>) -> io::Result<()> {
     let mut bytes = BEFORE.to_vec(rt.alloc())?;
     bytes.shrink_to_fit();
     let mut turn = Turn::begin(rt)?;
@@ -202,7 +202,7 @@ fn try_path<'t>(
 ) -> io::Result<()> {
     let found = compared(rt.alloc(), first, second, Level::Full).map_err(unmade)?;
     match &found.path {
-        Some(path) => try_append(rt, Appended::Path(path)),
+        Some(path) => try_append(rt, &Appended::Path(path)),
         None => Err(unusable()),
     }
 }
