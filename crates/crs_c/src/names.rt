@@ -7,8 +7,8 @@ use crs_text::Refusal;
 
 /// The name of a refusal's number.
 ///
-/// 0: it is at the front of `out`; `length` is its number of bytes. 5: it has more bytes than `out`; `length` is
-/// their number. 6: no refusal has this number. What a code doesn't mention is as before.
+/// 0: it is at the front of `out`; `length` is its number of bytes. 5: `out` has less room; `length` is their number. 6:
+/// no refusal has this number. What a code doesn't mention is as before.
 #[unsafe(no_mangle)]
 #[tactic(auto, unfolding(crate::specs::Names::IsNameAnswer))]
 pub extern "C" fn crsdesk_refusal_name(number: u32, out: &mut [u8], length: &mut usize) -> u32

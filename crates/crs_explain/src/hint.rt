@@ -41,11 +41,11 @@ pub(crate) enum Filling<'a> {
     Place(usize),
     /// A control character, in hexadecimal digits.
     Control(u8),
-    Node(Node<'a>),
+    Node(NodeStart<'a>),
     /// A node inside another.
-    Inside(Node<'a>, Node<'a>),
+    Inside(NodeStart<'a>, NodeStart<'a>),
     /// Nodes that are open, behind these bytes if there are any.
-    Open(&'static [u8], &'a [Node<'a>]),
+    Open(&'static [u8], &'a [NodeStart<'a>]),
 }
 
 impl<'a> Hint<'a> {
@@ -58,7 +58,7 @@ impl<'a> Hint<'a> {
 
 /// A node of a text: where it begins, its keyword, which may be no bytes, and its opening delimiter.
 #[derive(Clone, Copy, Default)]
-pub(crate) struct Node<'t> {
+pub(crate) struct NodeStart<'t> {
     pub(crate) begin: usize,
     pub(crate) keyword: &'t [u8],
     pub(crate) delimiter: u8,

@@ -12,7 +12,7 @@ pub(crate) mod order;
 mod parts;
 
 // A part that rules change.
-trait Part<'a>: Sized + Drop {
+trait RuledPart<'a>: Sized + Drop {
     ghost under: { Meaning → Self → Self };
 
     fn rewrite(&mut self, rules: &'a Rules)
@@ -20,7 +20,7 @@ trait Part<'a>: Sized + Drop {
 }
 
 // Rewrites a part that may be missing.
-fn rewrite_part<'a, T: Part<'a>>(part: &mut Option<T>, rules: &'a Rules)
+fn rewrite_part<'a, T: RuledPart<'a>>(part: &mut Option<T>, rules: &'a Rules)
     ensures { part.new ≡ option_map (T.under (meaning rules.now)) part.old }
 {
     if let Some(found) = part {
@@ -32,7 +32,7 @@ fn rewrite_part<'a, T: Part<'a>>(part: &mut Option<T>, rules: &'a Rules)
 #[derive(Drop)]
 struct Rewriting<'a>(&'a Rules);
 
-impl<'a, T: Part<'a>> Change<T> for Rewriting<'a> {
+impl<'a, T: RuledPart<'a>> Change<T> for Rewriting<'a> {
     ghost changed = { λ c part. T.under (meaning c.0.now) part };
 
     fn change(&self, value: &mut T) {
@@ -40,7 +40,7 @@ impl<'a, T: Part<'a>> Change<T> for Rewriting<'a> {
     }
 }
 
-fn rewrite_each<'a, T: Part<'a>>(members: &mut List<T>, rules: &'a Rules)
+fn rewrite_each<'a, T: RuledPart<'a>>(members: &mut List<T>, rules: &'a Rules)
     ensures { members.new ≡ map (T.under (meaning rules.now)) members.old }
 {
     members.change_each(&Rewriting(rules));

@@ -2,7 +2,7 @@
 use self::Outcome::{Groups, Status};
 use crate::answer::Answer;
 use crate::row::Row;
-use crate::streams::{Manner, Page, Pieces};
+use crate::streams::{Page, Pieces, Transfer};
 use crs_desk::{
     CanonText, CheckText, Filling, LineWord, OfLine, Request, RequestFault, Stream, run_canon,
     run_check, run_lines, run_same,
@@ -13,14 +13,14 @@ use std::alloc::{AllocError, Global};
 use std::io;
 use std::io::Read;
 
-/// A run of a command over its text or texts, in a manner.
+/// A run of a command over its text or texts, in a transfer.
 #[derive(Clone, Copy)]
 pub struct Run<'t> {
     command: &'t str,
     // the second is that of `run_same`
     texts: [&'t [u8]; 2],
     level: Level,
-    pub manner: Manner,
+    pub transfer: Transfer,
 }
 
 /// What a command answers beside what it writes.
@@ -43,9 +43,9 @@ pub struct Done {
 }
 
 impl<'t> Run<'t> {
-    /// The run that the first word names, in the manner of the others, over the parts of a row; None for other words.
+    /// The run that the first word names, in the transfer of the others, over the parts of a row; None for other words.
     pub fn of(words: &'t str, row: &'t Row<'_>) -> Option<Run<'t>> {
-        let (command, manner) = words.split_once(' ').unwrap_or((words, ""));
+        let (command, transfer) = words.split_once(' ').unwrap_or((words, ""));
         if !command.starts_with("run_") {
             return None;
         }
@@ -54,12 +54,12 @@ impl<'t> Run<'t> {
         } else {
             [row.text(), &[]]
         };
-        let (level, manner) = (row.level, Manner::read(manner)?);
+        let (level, transfer) = (row.level, Transfer::read(transfer)?);
         Some(Run {
             command,
             texts,
             level,
-            manner,
+            transfer,
         })
     }
 
@@ -68,12 +68,12 @@ impl<'t> Run<'t> {
         self.command.ends_with("_lines")
     }
 
-    /// Runs the command onto a page, which has what is written; a text that it reads is read in the run's manner.
+    /// Runs the command onto a page, which has what is written; a text that it reads is read in the run's transfer.
     pub fn fill(self, alloc: Global, page: &mut Page) -> Done {
         let level = self.level;
         let [text, second] = self.texts;
-        let mut source = Source::new(Pieces::new(text, self.manner));
-        let mut stream = Stream::new(Pieces::new(text, self.manner));
+        let mut source = Source::new(Pieces::new(text, self.transfer));
+        let mut stream = Stream::new(Pieces::new(text, self.transfer));
         let mut sink = Sink::new(page);
         let outcome = match self.command {
             "run_canon" => run_canon(alloc, level, &mut source, &mut sink).map(Status),
@@ -120,7 +120,7 @@ pub fn put_run(out: &mut Answer, row: &Row<'_>) {
     let Some(run) = Run::of(row.call, row) else {
         return out.put("no such call");
     };
-    let mut page = Page::new(out.alloc(), run.manner);
+    let mut page = Page::new(out.alloc(), run.transfer);
     let done = run.fill(out.alloc(), &mut page);
     put_done(out, &done, &page.written);
 }
@@ -147,13 +147,13 @@ pub fn put_written(out: &mut Answer, written: &[u8]) {
     }
 }
 
-/// What a reader that fills its room, of 8 bytes, gives of an input that is read in the manner of the words, up to its
+/// What a reader that fills its room, of 8 bytes, gives of an input that is read in the transfer of the words, up to its
 /// end or its eighth read: the bytes of each read in brackets, `failure` for one that failed.
 pub fn put_filled(out: &mut Answer, words: &str, input: &[u8]) {
-    let Some(manner) = Manner::read(words) else {
+    let Some(transfer) = Transfer::read(words) else {
         return out.put("no such reader");
     };
-    let mut reader = Filling::new(Pieces::new(input, manner));
+    let mut reader = Filling::new(Pieces::new(input, transfer));
     let mut room = [0; 8];
     for _turn in 0..8 {
         match reader.read(&mut room) {
@@ -190,17 +190,17 @@ pub fn put_failed(out: &mut Answer, words: &str, row: &Row<'_>, what: &str) {
     let Some(mut run) = Run::of(words, row) else {
         return out.put("no such call");
     };
-    let mut whole = Page::new(out.alloc(), run.manner);
+    let mut whole = Page::new(out.alloc(), run.transfer);
     let _done = run.fill(out.alloc(), &mut whole);
     let mut least: usize = 0;
     // No row reads or writes more often.
     for nth in 1..10_000 {
         if what == "reads" {
-            run.manner.fails_at = nth;
+            run.transfer.fails_at = nth;
         } else {
-            run.manner.stops_at = nth;
+            run.transfer.stops_at = nth;
         }
-        let mut page = Page::new(out.alloc(), run.manner);
+        let mut page = Page::new(out.alloc(), run.transfer);
         let done = run.fill(out.alloc(), &mut page);
         let written = page.written.as_slice();
         let is_front = whole.written.starts_with(written);

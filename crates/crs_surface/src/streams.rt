@@ -6,7 +6,7 @@ use std::io::{ErrorKind, Read, Write};
 /// How a text is read and an answer written: a row's words `pieces=N`, `fails=N`, `endless`, `takes=N`, `stops=N` and
 /// `interrupted`. Reads and writes are counted from 1; none fails at 0.
 #[derive(Clone, Copy)]
-pub struct Manner {
+pub struct Transfer {
     // the most bytes of one read, and of one write
     piece: usize,
     takes: usize,
@@ -19,10 +19,10 @@ pub struct Manner {
     failure: ErrorKind,
 }
 
-impl Manner {
-    /// The manner that the words say; None where a word says none.
-    pub fn read(words: &str) -> Option<Manner> {
-        let mut manner = Manner {
+impl Transfer {
+    /// The transfer that the words say; None where a word says none.
+    pub fn read(words: &str) -> Option<Transfer> {
+        let mut transfer = Transfer {
             piece: usize::MAX,
             fails_at: 0,
             is_endless: false,
@@ -33,34 +33,34 @@ impl Manner {
         for word in words.split(' ') {
             match (word, word.split_once('=')) {
                 ("", _) => (),
-                ("endless", _) => manner.is_endless = true,
-                ("interrupted", _) => manner.failure = ErrorKind::Interrupted,
-                (_, Some(("pieces", count))) => manner.piece = count.parse().ok()?,
-                (_, Some(("fails", count))) => manner.fails_at = count.parse().ok()?,
-                (_, Some(("takes", count))) => manner.takes = count.parse().ok()?,
-                (_, Some(("stops", count))) => manner.stops_at = count.parse().ok()?,
+                ("endless", _) => transfer.is_endless = true,
+                ("interrupted", _) => transfer.failure = ErrorKind::Interrupted,
+                (_, Some(("pieces", count))) => transfer.piece = count.parse().ok()?,
+                (_, Some(("fails", count))) => transfer.fails_at = count.parse().ok()?,
+                (_, Some(("takes", count))) => transfer.takes = count.parse().ok()?,
+                (_, Some(("stops", count))) => transfer.stops_at = count.parse().ok()?,
                 _ => return None,
             }
         }
-        Some(manner)
+        Some(transfer)
     }
 }
 
-/// A reader of a text, in this manner.
+/// A reader of a text, in this transfer.
 #[derive(Clone, Copy)]
 pub struct Pieces<'t> {
     text: &'t [u8],
     left: &'t [u8],
-    manner: Manner,
+    transfer: Transfer,
     calls: u32,
 }
 
 impl<'t> Pieces<'t> {
-    pub fn new(text: &'t [u8], manner: Manner) -> Pieces<'t> {
+    pub fn new(text: &'t [u8], transfer: Transfer) -> Pieces<'t> {
         Pieces {
             text,
             left: text,
-            manner,
+            transfer,
             calls: 0,
         }
     }
@@ -69,13 +69,13 @@ impl<'t> Pieces<'t> {
 impl Read for Pieces<'_> {
     fn read(&mut self, buf: &mut [u8]) -> io::Result<usize> {
         self.calls = self.calls.saturating_add(1);
-        if self.calls == self.manner.fails_at {
-            return Err(io::Error::from(self.manner.failure));
+        if self.calls == self.transfer.fails_at {
+            return Err(io::Error::from(self.transfer.failure));
         }
-        if self.left.is_empty() && self.manner.is_endless {
+        if self.left.is_empty() && self.transfer.is_endless {
             self.left = self.text;
         }
-        let count = self.left.len().min(self.manner.piece).min(buf.len());
+        let count = self.left.len().min(self.transfer.piece).min(buf.len());
         for (place, byte) in buf.iter_mut().zip(self.left).take(count) {
             *place = *byte;
         }
@@ -84,19 +84,19 @@ impl Read for Pieces<'_> {
     }
 }
 
-/// A writer into memory, in this manner.
+/// A writer into memory, in this transfer.
 #[derive(Drop)]
 pub struct Page {
     pub written: Vec<u8>,
-    manner: Manner,
+    transfer: Transfer,
     calls: u32,
 }
 
 impl Page {
-    pub fn new(alloc: Global, manner: Manner) -> Page {
+    pub fn new(alloc: Global, transfer: Transfer) -> Page {
         Page {
             written: Vec::new(alloc),
-            manner,
+            transfer,
             calls: 0,
         }
     }
@@ -105,10 +105,10 @@ impl Page {
 impl Write for Page {
     fn write(&mut self, buf: &[u8]) -> io::Result<usize> {
         self.calls = self.calls.saturating_add(1);
-        if self.calls == self.manner.stops_at {
-            return Err(io::Error::from(self.manner.failure));
+        if self.calls == self.transfer.stops_at {
+            return Err(io::Error::from(self.transfer.failure));
         }
-        let count = buf.len().min(self.manner.takes);
+        let count = buf.len().min(self.transfer.takes);
         self.written.extend_from_slice(&buf[..count])?;
         Ok(count)
     }

@@ -281,7 +281,7 @@ fn try_run(rt: &(impl Print + AllocGlobal), row: &Row<'_>) -> io::Result<()> {
     let Some(run) = Run::of(row.call, row) else {
         return Err(unusable());
     };
-    let mut page = Page::new(rt.alloc(), run.manner);
+    let mut page = Page::new(rt.alloc(), run.transfer);
     // No row writes more bytes.
     page.written.reserve(65_536)?;
     let mut turn = Turn::begin(rt)?;

@@ -9,4 +9,4 @@ pub(crate) mod value;
 pub(crate) use crate::reading::arguments::{first, first_from, later, same_place};
 pub(crate) use crate::reading::cursor::Cursor;
 pub(crate) use crate::reading::firsts::{Firsts, firsts_of};
-pub(crate) use crate::reading::node::{Node, decimal_of, has_whole, number, required};
+pub(crate) use crate::reading::node::{FromNode, decimal_of, has_whole, number, required};

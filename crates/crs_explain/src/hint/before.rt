@@ -1,5 +1,5 @@
 //! What comes before a place: a look at delimiters and quoted texts, token by token, which takes no memory.
-use crate::hint::Node;
+use crate::hint::NodeStart;
 use crate::hint::glance::{back, front, is_of_word, looked_at, names, rest, split_word};
 use arrayvec::ArrayVec;
 use crs_shape::{Class, known, root_class};
@@ -25,14 +25,14 @@ pub(crate) struct Before<'t> {
     /// The text before the place.
     pub(crate) text: &'t [u8],
     /// The delimiters that are open, the outermost first: at most 12 before a refusal's place, and one may begin there.
-    pub(crate) open: ArrayVec<Node<'t>, 13>,
+    pub(crate) open: ArrayVec<NodeStart<'t>, 13>,
     quote: Option<usize>,
     /// Whether a delimiter was closed.
     has_closed: bool,
     /// Where the first quoted text begins that has nodes inside.
     pub(crate) quote_missing: Option<usize>,
     /// The first node that is where none of its kind can be, and the node that it is in.
-    pub(crate) outside: Option<(Node<'t>, Node<'t>)>,
+    pub(crate) outside: Option<(NodeStart<'t>, NodeStart<'t>)>,
 }
 
 /// What comes before a place of a text.
@@ -59,7 +59,7 @@ pub(crate) fn look_before(text: &[u8], place: usize) -> Before<'_> {
 
 impl<'t> Before<'t> {
     /// The delimiter that was opened last.
-    pub(crate) fn innermost(&self) -> Option<Node<'t>> {
+    pub(crate) fn innermost(&self) -> Option<NodeStart<'t>> {
         self.open.last().copied()
     }
 
@@ -100,7 +100,7 @@ impl<'t> Before<'t> {
     }
 
     // A node that begins at the place itself counts too: what is missing may belong before it.
-    fn enter(&mut self, node: Node<'t>, place: usize) -> bool {
+    fn enter(&mut self, node: NodeStart<'t>, place: usize) -> bool {
         if node.begin > place {
             return false;
         }
@@ -121,7 +121,7 @@ fn holds_none(keyword: &[u8]) -> bool {
 }
 
 /// The node whose opening delimiter is at a place.
-pub(crate) fn node_at(text: &[u8], at: usize, delimiter: u8) -> Node<'_> {
+pub(crate) fn node_at(text: &[u8], at: usize, delimiter: u8) -> NodeStart<'_> {
     let near = back(front(text, at), 100);
     let ahead = near.trim_ascii_end();
     let run = ahead.iter().rev().take_while(|it| is_of_word(**it)).count();
@@ -130,7 +130,7 @@ pub(crate) fn node_at(text: &[u8], at: usize, delimiter: u8) -> Node<'_> {
     let letter = word.iter().position(|it| it.is_ascii_alphabetic());
     let keyword = rest(word, letter.unwrap_or(run));
     let white = near.len().saturating_sub(ahead.len());
-    Node {
+    NodeStart {
         begin: at.saturating_sub(white).saturating_sub(keyword.len()),
         keyword,
         delimiter,

@@ -5,7 +5,7 @@ use crate::hint::front::by_front;
 use crate::hint::glance::{looked_at, rest};
 use crate::hint::place::by_place;
 use crate::hint::sentence::BY_PROJ;
-use crate::hint::{About, Filling, Hint, Node};
+use crate::hint::{About, Filling, Hint, NodeStart};
 use bstr::ByteSlice;
 use crs_streams::append_number;
 use crs_text::{Refusal, open_delimiter};
@@ -121,7 +121,7 @@ fn append_by_proj(transformation: &[u8], out: &mut Vec<u8>) -> Made<()> {
 }
 
 // `CS[ at 24`
-fn append_node(node: Node<'_>, out: &mut Vec<u8>) -> Made<()> {
+fn append_node(node: NodeStart<'_>, out: &mut Vec<u8>) -> Made<()> {
     append_capitals(node.keyword, out)?;
     out.push(node.delimiter)?;
     out.extend_from_slice(b" at ")?;

@@ -12,7 +12,7 @@ use crate::aliases::first_name;
 use crate::rewriting::frames::{GEODETIC, VERTICAL, dynamics, rewrite_frame};
 use crate::rewriting::order::arrange_crs;
 use crate::rewriting::parts::{conversion, counted_name, system, tail};
-use crate::rewriting::{Part, rewrite_each, rewrite_part};
+use crate::rewriting::{RuledPart, rewrite_each, rewrite_part};
 use crate::rules::Rules;
 use crs_shape::Class;
 use crs_value::{
@@ -93,7 +93,7 @@ fn projected<'a>(alloc: Global, value: &mut Projected<'a>, rules: &'a Rules)
     tail(&mut value.tail, rules);
 }
 
-impl<'a> Part<'a> for GeoidModel<'a> {
+impl<'a> RuledPart<'a> for GeoidModel<'a> {
     ghost under = { λ r m. named r classes.GeoidModel m };
 
     fn rewrite(&mut self, rules: &'a Rules) {

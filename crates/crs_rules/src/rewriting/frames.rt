@@ -8,14 +8,14 @@ ghost use Rattle.crs_rules.specs.Rules.{meaning, without_ensemble};
 
 use crate::aliases::first_name;
 use crate::laws::rules_are_sound;
-use crate::rewriting::{Part, rewrite_each, rewrite_part};
+use crate::rewriting::{RuledPart, rewrite_each, rewrite_part};
 use crate::rules::Rules;
 use crs_decimal::Decimal;
 use crs_shape::Class;
 use crs_value::{Datum, DeformationModel, Dynamic, Ellipsoid, Ensemble, Frame, Member, Meridian};
 use std::alloc::Global;
 
-impl<'a> Part<'a> for Ellipsoid<'a> {
+impl<'a> RuledPart<'a> for Ellipsoid<'a> {
     ghost under = { ellipsoid };
 
     fn rewrite(&mut self, rules: &'a Rules) {
@@ -24,7 +24,7 @@ impl<'a> Part<'a> for Ellipsoid<'a> {
     }
 }
 
-impl<'a> Part<'a> for Meridian<'a> {
+impl<'a> RuledPart<'a> for Meridian<'a> {
     ghost under = { meridian };
 
     fn rewrite(&mut self, rules: &'a Rules) {
@@ -56,7 +56,7 @@ fn datum<'a>(value: &mut Datum<'a>, class: Class, rules: &'a Rules)
     value.anchor_epoch = counted_number(rules.uncounted.anchors, value.anchor_epoch);
 }
 
-impl<'a> Part<'a> for Member<'a> {
+impl<'a> RuledPart<'a> for Member<'a> {
     ghost under = { λ r m. named r classes.Member m };
 
     fn rewrite(&mut self, rules: &'a Rules) {
@@ -131,7 +131,7 @@ pub(super) fn rewrite_frame<'a>(
     }
 }
 
-impl<'a> Part<'a> for DeformationModel<'a> {
+impl<'a> RuledPart<'a> for DeformationModel<'a> {
     ghost under = { λ r m. named r classes.DeformationModel m };
 
     fn rewrite(&mut self, rules: &'a Rules) {

@@ -7,14 +7,14 @@ ghost use Rattle.crs_rules.specs.Rules.{meaning};
 use crate::aliases::{first_name, unit_alias};
 use crate::laws::rules_are_sound;
 use crate::rewriting::frames::counted_number;
-use crate::rewriting::{Part, rewrite_each, rewrite_part};
+use crate::rewriting::{RuledPart, rewrite_each, rewrite_part};
 use crate::rules::Rules;
 use crs_shape::Class;
 use crs_value::{
     Axis, AxisMeridian, Conversion, Extent, Method, Parameter, System, Tail, Unit, Usage,
 };
 
-impl<'a> Part<'a> for Unit<'a> {
+impl<'a> RuledPart<'a> for Unit<'a> {
     ghost under = { λ r u. r.unit u };
 
     fn rewrite(&mut self, rules: &'a Rules) {
@@ -32,7 +32,7 @@ fn method<'a>(value: &mut Method<'a>, rules: &'a Rules)
     value.name = first_name(&rules.names, Class::Method, value.name);
 }
 
-impl<'a> Part<'a> for Parameter<'a> {
+impl<'a> RuledPart<'a> for Parameter<'a> {
     ghost under = { parameter };
 
     fn rewrite(&mut self, rules: &'a Rules) {
@@ -58,7 +58,7 @@ pub(super) fn conversion<'a>(value: &mut Conversion<'a>, rules: &'a Rules)
     rewrite_each(&mut value.parameters, rules);
 }
 
-impl<'a> Part<'a> for AxisMeridian<'a> {
+impl<'a> RuledPart<'a> for AxisMeridian<'a> {
     ghost under = { axis_meridian };
 
     fn rewrite(&mut self, rules: &'a Rules) {
@@ -67,7 +67,7 @@ impl<'a> Part<'a> for AxisMeridian<'a> {
     }
 }
 
-impl<'a> Part<'a> for Axis<'a> {
+impl<'a> RuledPart<'a> for Axis<'a> {
     ghost under = { axis };
 
     fn rewrite(&mut self, rules: &'a Rules) {
@@ -87,7 +87,7 @@ pub(super) fn system<'a>(value: &mut System<'a>, rules: &'a Rules)
     rewrite_part(&mut value.unit, rules);
 }
 
-impl<'a> Part<'a> for Extent<'a> {
+impl<'a> RuledPart<'a> for Extent<'a> {
     ghost under = { extent };
 
     fn rewrite(&mut self, rules: &'a Rules) {
@@ -96,7 +96,7 @@ impl<'a> Part<'a> for Extent<'a> {
     }
 }
 
-impl<'a> Part<'a> for Usage<'a> {
+impl<'a> RuledPart<'a> for Usage<'a> {
     ghost under = { usage };
 
     fn rewrite(&mut self, rules: &'a Rules) {

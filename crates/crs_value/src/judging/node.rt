@@ -15,7 +15,7 @@ use crate::checks::lesser;
 use crate::checks::own::own_of_part;
 use crate::judging::quick_checks::{Layout, passes_at_once};
 use crate::judging::slots::{
-    Any, Either, End, Found, One, OneOrMore, Optional, Parent, Part, Slot, Slots, Then, chain,
+    Any, Either, End, FirstFault, One, OneOrMore, Optional, Parent, Part, Slot, Slots, Then, chain,
     ends, judge_crs, taken,
 };
 use crate::reading::{Cursor, first_from};
@@ -24,7 +24,7 @@ use crs_text::{ItemId, Items, Refusal};
 
 // What was found is joined by what a node breaks by itself, which mostly is nothing: then nothing is written.
 #[inline(always)]
-fn join(found: &mut Found, own: Option<Refusal>)
+fn join(found: &mut FirstFault, own: Option<Refusal>)
     ensures { found.new ≡ lesser found.old own }
 {
     match own {
@@ -41,7 +41,7 @@ fn node_judged<S: Slots>(
     id: ItemId,
     class: Class,
     close: usize,
-    found: &mut Found,
+    found: &mut FirstFault,
 ) -> bool
     requires has { HasId items.now id }
     requires of { IsTrue (is_of class (item_at items.now id)) }
@@ -73,7 +73,7 @@ fn node_judged<S: Slots>(
 fn laid<H: Slots, T: Part>(
     parent: Parent<'_, '_>,
     at: Option<ItemId>,
-    found: &mut Found,
+    found: &mut FirstFault,
 ) -> Option<Layout>
     requires holds { Holds parent.items.now at }
     requires fits { H.fits × T.fits }
@@ -106,7 +106,7 @@ fn crs_judged<H: Slots, T: Part>(
     class: Class,
     items: &Items<'_>,
     id: ItemId,
-    found: &mut Found,
+    found: &mut FirstFault,
 ) -> bool
     requires has { HasId items.now id }
     requires of { IsTrue (is_of class (item_at items.now id)) }
@@ -152,7 +152,7 @@ fn part<S: Slots>(
     items: &Items<'_>,
     id: ItemId,
     parent: Class,
-    found: &mut Found,
+    found: &mut FirstFault,
 ) -> Option<bool>
     requires has { HasId items.now id }
     requires slots { slots_of class ≡ S.slots }
@@ -180,16 +180,16 @@ fn class_at(place: u8) -> Class
 }
 
 // An item of the class at this place, without a coordinate system, which has these slots.
-pub(crate) struct Node<const PLACE: u8, S>(S);
+pub(crate) struct OfClass<const PLACE: u8, S>(S);
 
-impl<const PLACE: u8, S: Slots> Part for Node<PLACE, S> {
+impl<const PLACE: u8, S: Slots> Part for OfClass<PLACE, S> {
     ghost classes = { class_at PLACE ∷ [] };
 
     ghost fits = { (PLACE < length every_class)
         × ((¬ (HasSystem (class_at PLACE))) × ((slots_of (class_at PLACE) ≡ S.slots) × S.fits)) };
 
     #[inline(always)]
-    fn judge(items: &Items<'_>, id: ItemId, parent: Class, found: &mut Found) -> Option<bool> {
+    fn judge(items: &Items<'_>, id: ItemId, parent: Class, found: &mut FirstFault) -> Option<bool> {
         part::<S>(class_at(PLACE), items, id, parent, found)
     }
 }
@@ -200,7 +200,7 @@ pub(crate) struct Identifier;
 impl Part for Identifier {
     ghost classes = { kinds.Identifier ∷ [] };
 
-    fn judge(items: &Items<'_>, id: ItemId, parent: Class, found: &mut Found) -> Option<bool> {
+    fn judge(items: &Items<'_>, id: ItemId, parent: Class, found: &mut FirstFault) -> Option<bool> {
         part::<row!(Identifier, chain, ())>(Class::Identifier, items, id, parent, found)
     }
 }
@@ -211,7 +211,7 @@ pub(crate) struct Parameter;
 impl Part for Parameter {
     ghost classes = { kinds.Parameter ∷ [] };
 
-    fn judge(items: &Items<'_>, id: ItemId, parent: Class, found: &mut Found) -> Option<bool> {
+    fn judge(items: &Items<'_>, id: ItemId, parent: Class, found: &mut FirstFault) -> Option<bool> {
         part::<row!(Parameter, chain, ())>(Class::Parameter, items, id, parent, found)
     }
 }
@@ -222,7 +222,7 @@ pub(crate) struct VerticalExtent;
 impl Part for VerticalExtent {
     ghost classes = { kinds.VerticalExtent ∷ [] };
 
-    fn judge(items: &Items<'_>, id: ItemId, parent: Class, found: &mut Found) -> Option<bool> {
+    fn judge(items: &Items<'_>, id: ItemId, parent: Class, found: &mut FirstFault) -> Option<bool> {
         part::<row!(VerticalExtent, chain, ())>(Class::VerticalExtent, items, id, parent, found)
     }
 }
@@ -233,7 +233,7 @@ pub(crate) struct GeodeticFrame;
 impl Part for GeodeticFrame {
     ghost classes = { kinds.GeodeticFrame ∷ [] };
 
-    fn judge(items: &Items<'_>, id: ItemId, parent: Class, found: &mut Found) -> Option<bool> {
+    fn judge(items: &Items<'_>, id: ItemId, parent: Class, found: &mut FirstFault) -> Option<bool> {
         part::<row!(GeodeticFrame, chain, ())>(Class::GeodeticFrame, items, id, parent, found)
     }
 }
@@ -244,7 +244,7 @@ pub(crate) struct GeodeticEnsemble;
 impl Part for GeodeticEnsemble {
     ghost classes = { kinds.GeodeticEnsemble ∷ [] };
 
-    fn judge(items: &Items<'_>, id: ItemId, parent: Class, found: &mut Found) -> Option<bool> {
+    fn judge(items: &Items<'_>, id: ItemId, parent: Class, found: &mut FirstFault) -> Option<bool> {
         part::<row!(GeodeticEnsemble, chain, ())>(Class::GeodeticEnsemble, items, id, parent, found)
     }
 }
@@ -257,7 +257,7 @@ impl<const PLACE: u8> Part for Single<PLACE> {
 
     ghost fits = { (PLACE < length every_class) × HasSystem (class_at PLACE) };
 
-    fn judge(items: &Items<'_>, id: ItemId, parent: Class, found: &mut Found) -> Option<bool> {
+    fn judge(items: &Items<'_>, id: ItemId, parent: Class, found: &mut FirstFault) -> Option<bool> {
         laws::walk_finds_the_fault();
         let class = class_at(PLACE);
         if !stands_as(items, id, parent, class) {
@@ -269,7 +269,7 @@ impl<const PLACE: u8> Part for Single<PLACE> {
 
 // Whether an item that may be a CRS of this class, which has a coordinate system, has no fault of shape as one; what it
 // breaks joins what was found.
-fn single_judged(items: &Items<'_>, id: ItemId, class: Class, found: &mut Found) -> bool
+fn single_judged(items: &Items<'_>, id: ItemId, class: Class, found: &mut FirstFault) -> bool
     requires has { HasId items.now id }
     requires of { IsTrue (is_of class (item_at items.now id)) }
     requires system { HasSystem class }
@@ -285,7 +285,7 @@ fn single_judged(items: &Items<'_>, id: ItemId, class: Class, found: &mut Found)
 }
 
 // Whether a whole text has no fault of shape as a CRS of this class; what it breaks joins what was found.
-pub(crate) fn root_judged(items: &Items<'_>, id: ItemId, class: Class, found: &mut Found) -> bool
+pub(crate) fn root_judged(items: &Items<'_>, id: ItemId, class: Class, found: &mut FirstFault) -> bool
     requires has { HasId items.now id }
     requires of { IsTrue (is_of class (item_at items.now id)) }
     requires root { IsAmong root_classes class }

@@ -12,49 +12,49 @@ use crs_text::{ItemId, Items, Refusal};
 
 // what a slot takes, as a type: by the class's place and its row, or one of its own, where types would nest too deep
 macro_rules! taken {
-    (Number) => { Node<0, row!(Number, chain, ())> };
-    (Text) => { Node<1, row!(Text, chain, ())> };
-    (Word) => { Node<2, row!(Word, chain, ())> };
+    (Number) => { OfClass<0, row!(Number, chain, ())> };
+    (Text) => { OfClass<1, row!(Text, chain, ())> };
+    (Word) => { OfClass<2, row!(Word, chain, ())> };
     (GeodeticCrs) => { Single<3> };
     (GeographicCrs) => { Single<4> };
     (ProjectedCrs) => { Single<5> };
     (VerticalCrs) => { Single<6> };
-    (BaseCrs) => { Node<8, row!(BaseCrs, chain, ())> };
-    (Dynamic) => { Node<9, row!(Dynamic, chain, ())> };
-    (FrameEpoch) => { Node<10, row!(FrameEpoch, chain, ())> };
-    (DeformationModel) => { Node<11, row!(DeformationModel, chain, ())> };
+    (BaseCrs) => { OfClass<8, row!(BaseCrs, chain, ())> };
+    (Dynamic) => { OfClass<9, row!(Dynamic, chain, ())> };
+    (FrameEpoch) => { OfClass<10, row!(FrameEpoch, chain, ())> };
+    (DeformationModel) => { OfClass<11, row!(DeformationModel, chain, ())> };
     (GeodeticFrame) => { GeodeticFrame };
-    (VerticalFrame) => { Node<13, row!(VerticalFrame, chain, ())> };
+    (VerticalFrame) => { OfClass<13, row!(VerticalFrame, chain, ())> };
     (GeodeticEnsemble) => { GeodeticEnsemble };
-    (VerticalEnsemble) => { Node<15, row!(VerticalEnsemble, chain, ())> };
-    (Member) => { Node<16, row!(Member, chain, ())> };
-    (EnsembleAccuracy) => { Node<17, row!(EnsembleAccuracy, chain, ())> };
-    (Anchor) => { Node<18, row!(Anchor, chain, ())> };
-    (AnchorEpoch) => { Node<19, row!(AnchorEpoch, chain, ())> };
-    (Ellipsoid) => { Node<20, row!(Ellipsoid, chain, ())> };
-    (PrimeMeridian) => { Node<21, row!(PrimeMeridian, chain, ())> };
-    (PlainUnit) => { Node<22, row!(PlainUnit, chain, ())> };
-    (LengthUnit) => { Node<23, row!(LengthUnit, chain, ())> };
-    (AngleUnit) => { Node<24, row!(AngleUnit, chain, ())> };
-    (ScaleUnit) => { Node<25, row!(ScaleUnit, chain, ())> };
-    (AxisUnit) => { Node<26, row!(AxisUnit, chain, ())> };
-    (CoordinateSystem) => { Node<27, row!(CoordinateSystem, chain, ())> };
-    (Axis) => { Node<28, row!(Axis, chain, ())> };
-    (AxisMeridian) => { Node<29, row!(AxisMeridian, chain, ())> };
-    (Order) => { Node<30, row!(Order, chain, ())> };
-    (Conversion) => { Node<31, row!(Conversion, chain, ())> };
-    (Method) => { Node<32, row!(Method, chain, ())> };
+    (VerticalEnsemble) => { OfClass<15, row!(VerticalEnsemble, chain, ())> };
+    (Member) => { OfClass<16, row!(Member, chain, ())> };
+    (EnsembleAccuracy) => { OfClass<17, row!(EnsembleAccuracy, chain, ())> };
+    (Anchor) => { OfClass<18, row!(Anchor, chain, ())> };
+    (AnchorEpoch) => { OfClass<19, row!(AnchorEpoch, chain, ())> };
+    (Ellipsoid) => { OfClass<20, row!(Ellipsoid, chain, ())> };
+    (PrimeMeridian) => { OfClass<21, row!(PrimeMeridian, chain, ())> };
+    (PlainUnit) => { OfClass<22, row!(PlainUnit, chain, ())> };
+    (LengthUnit) => { OfClass<23, row!(LengthUnit, chain, ())> };
+    (AngleUnit) => { OfClass<24, row!(AngleUnit, chain, ())> };
+    (ScaleUnit) => { OfClass<25, row!(ScaleUnit, chain, ())> };
+    (AxisUnit) => { OfClass<26, row!(AxisUnit, chain, ())> };
+    (CoordinateSystem) => { OfClass<27, row!(CoordinateSystem, chain, ())> };
+    (Axis) => { OfClass<28, row!(Axis, chain, ())> };
+    (AxisMeridian) => { OfClass<29, row!(AxisMeridian, chain, ())> };
+    (Order) => { OfClass<30, row!(Order, chain, ())> };
+    (Conversion) => { OfClass<31, row!(Conversion, chain, ())> };
+    (Method) => { OfClass<32, row!(Method, chain, ())> };
     (Parameter) => { Parameter };
-    (GeoidModel) => { Node<34, row!(GeoidModel, chain, ())> };
-    (Usage) => { Node<35, row!(Usage, chain, ())> };
-    (Scope) => { Node<36, row!(Scope, chain, ())> };
-    (Area) => { Node<37, row!(Area, chain, ())> };
-    (BoundingBox) => { Node<38, row!(BoundingBox, chain, ())> };
+    (GeoidModel) => { OfClass<34, row!(GeoidModel, chain, ())> };
+    (Usage) => { OfClass<35, row!(Usage, chain, ())> };
+    (Scope) => { OfClass<36, row!(Scope, chain, ())> };
+    (Area) => { OfClass<37, row!(Area, chain, ())> };
+    (BoundingBox) => { OfClass<38, row!(BoundingBox, chain, ())> };
     (VerticalExtent) => { VerticalExtent };
     (Identifier) => { Identifier };
-    (Citation) => { Node<41, row!(Citation, chain, ())> };
-    (Uri) => { Node<42, row!(Uri, chain, ())> };
-    (Remark) => { Node<43, row!(Remark, chain, ())> };
+    (Citation) => { OfClass<41, row!(Citation, chain, ())> };
+    (Uri) => { OfClass<42, row!(Uri, chain, ())> };
+    (Remark) => { OfClass<43, row!(Remark, chain, ())> };
     ($part:ident, $($more:ident),+) => { Either<taken!($part), taken!($($more),+)> };
 }
 
@@ -86,7 +86,7 @@ pub(crate) use judge_crs;
 pub(crate) use taken;
 
 // The first fault that was found, if any was.
-pub(crate) type Found = Option<Refusal>;
+pub(crate) type FirstFault = Option<Refusal>;
 
 // The first argument behind those of a slot, if there is one; None where a fault of shape was found.
 pub(crate) type Rest = Option<Option<ItemId>>;
@@ -108,7 +108,7 @@ pub(crate) trait Part {
 
     // Whether an argument has no fault of shape; what it breaks joins what was found. None where it is of none of
     // these classes.
-    fn judge(items: &Items<'_>, id: ItemId, parent: Class, found: &mut Found) -> Option<bool>
+    fn judge(items: &Items<'_>, id: ItemId, parent: Class, found: &mut FirstFault) -> Option<bool>
         requires has { HasId items.now id }
         requires fits { fits }
         ensures { Answers parent classes (item_at items.now id) found.old result found.new };
@@ -121,7 +121,7 @@ pub(crate) trait Slot {
     ghost fits: { Type 0 };
 
     // The arguments behind those of the slot; what these break joins what was found.
-    fn pass(parent: Parent<'_, '_>, at: Option<ItemId>, found: &mut Found) -> Rest
+    fn pass(parent: Parent<'_, '_>, at: Option<ItemId>, found: &mut FirstFault) -> Rest
         requires holds { Holds parent.items.now at }
         requires fits { fits }
         ensures holds { IfSome result (λ next. Holds parent.entry.items.now next) }
@@ -137,7 +137,7 @@ pub(crate) trait Slots {
     ghost fits: { Type 0 } = { Unit {0} };
 
     // The arguments behind those of these slots, as `pass` of one slot.
-    fn pass(parent: Parent<'_, '_>, at: Option<ItemId>, found: &mut Found) -> Rest
+    fn pass(parent: Parent<'_, '_>, at: Option<ItemId>, found: &mut FirstFault) -> Rest
         requires holds { Holds parent.items.now at }
         requires fits { fits }
         ensures holds { IfSome result (λ next. Holds parent.entry.items.now next) }
@@ -148,7 +148,7 @@ pub(crate) trait Slots {
 
 // The walk stops where an argument is missing.
 #[cold]
-fn stop_short(close: usize, found: &mut Found)
+fn stop_short(close: usize, found: &mut FirstFault)
     ensures { found.new ≡ Some (missing close) }
 {
     *found = Some(Refusal::new(13, close).unwrap());
@@ -156,7 +156,7 @@ fn stop_short(close: usize, found: &mut Found)
 
 // The walk stops at an argument that isn't allowed where it is.
 #[cold]
-fn stop_at(items: &Items<'_>, id: ItemId, found: &mut Found)
+fn stop_at(items: &Items<'_>, id: ItemId, found: &mut FirstFault)
     requires { HasId items.now id }
     ensures { found.new ≡ Some (misplaced (item_at items.now id)) }
 {
@@ -165,7 +165,7 @@ fn stop_at(items: &Items<'_>, id: ItemId, found: &mut Found)
 
 // Whether no argument is left; the walk stops at one.
 #[inline(always)]
-pub(crate) fn ends(parent: Parent<'_, '_>, at: Option<ItemId>, found: &mut Found) -> bool
+pub(crate) fn ends(parent: Parent<'_, '_>, at: Option<ItemId>, found: &mut FirstFault) -> bool
     requires { Holds parent.items.now at }
     ensures { Walked parent.entry.items.now parent.entry.class parent.entry.close [] at found.old result found.new }
 {
@@ -183,7 +183,7 @@ impl<P: Part> Slot for One<P> {
     ghost fits = { P.fits };
 
     #[inline(always)]
-    fn pass(parent: Parent<'_, '_>, at: Option<ItemId>, found: &mut Found) -> Rest {
+    fn pass(parent: Parent<'_, '_>, at: Option<ItemId>, found: &mut FirstFault) -> Rest {
         let Some(id) = at else {
             stop_short(parent.close, found);
             return None;
@@ -208,7 +208,7 @@ impl<P: Part> Slot for Optional<P> {
     ghost fits = { P.fits };
 
     #[inline(always)]
-    fn pass(parent: Parent<'_, '_>, at: Option<ItemId>, found: &mut Found) -> Rest {
+    fn pass(parent: Parent<'_, '_>, at: Option<ItemId>, found: &mut FirstFault) -> Rest {
         let Some(id) = at else { return Some(None) };
         match P::judge(parent.items, id, parent.class, found) {
             None => Some(Some(id)),
@@ -227,7 +227,7 @@ impl<P: Part> Slot for Any<P> {
     ghost fits = { P.fits };
 
     #[inline(always)]
-    fn pass(parent: Parent<'_, '_>, at: Option<ItemId>, found: &mut Found) -> Rest {
+    fn pass(parent: Parent<'_, '_>, at: Option<ItemId>, found: &mut FirstFault) -> Rest {
         let mut next = at;
         while let Some(id) = next {
             match P::judge(parent.items, id, parent.class, found) {
@@ -249,7 +249,7 @@ impl<P: Part> Slot for OneOrMore<P> {
     ghost fits = { P.fits };
 
     #[inline(always)]
-    fn pass(parent: Parent<'_, '_>, at: Option<ItemId>, found: &mut Found) -> Rest {
+    fn pass(parent: Parent<'_, '_>, at: Option<ItemId>, found: &mut FirstFault) -> Rest {
         match One::<P>::pass(parent, at, found) {
             None => None,
             Some(next) => Any::<P>::pass(parent, next, found),
@@ -266,7 +266,7 @@ impl<A: Slot, S: Slots> Slots for Then<A, S> {
     ghost fits = { A.fits × S.fits };
 
     #[inline(always)]
-    fn pass(parent: Parent<'_, '_>, at: Option<ItemId>, found: &mut Found) -> Rest {
+    fn pass(parent: Parent<'_, '_>, at: Option<ItemId>, found: &mut FirstFault) -> Rest {
         match A::pass(parent, at, found) {
             None => None,
             Some(next) => S::pass(parent, next, found),
@@ -281,7 +281,7 @@ impl Slots for End {
     ghost slots = { [] };
 
     #[inline(always)]
-    fn pass(_parent: Parent<'_, '_>, at: Option<ItemId>, _found: &mut Found) -> Rest {
+    fn pass(_parent: Parent<'_, '_>, at: Option<ItemId>, _found: &mut FirstFault) -> Rest {
         Some(at)
     }
 }
@@ -295,7 +295,7 @@ impl<A: Part, B: Part> Part for Either<A, B> {
     ghost fits = { A.fits × B.fits };
 
     #[inline(always)]
-    fn judge(items: &Items<'_>, id: ItemId, parent: Class, found: &mut Found) -> Option<bool> {
+    fn judge(items: &Items<'_>, id: ItemId, parent: Class, found: &mut FirstFault) -> Option<bool> {
         match A::judge(items, id, parent, found) {
             None => B::judge(items, id, parent, found),
             Some(ok) => Some(ok),

@@ -2,7 +2,7 @@
 ghost use Rattle.crs_text.specs.Items.{HasId};
 
 use crate::reading::arguments::{first, later};
-use crate::reading::node::{Node, decimal_of, number, required};
+use crate::reading::node::{FromNode, decimal_of, number, required};
 use crate::values::key::Keyed;
 use crate::{List, Made};
 use crs_decimal::Decimal;
@@ -33,7 +33,7 @@ impl<'i, 'a> Cursor<'i, 'a> {
     // The methods by which identifiers are read are inlined: a cursor that is lent to a call goes through memory.
 
     // The value of an argument of this class that the slots require.
-    pub(crate) fn one<T: Node<'a>>(&self, alloc: Global, class: Class) -> Made<T>
+    pub(crate) fn one<T: FromNode<'a>>(&self, alloc: Global, class: Class) -> Made<T>
         requires sound { IsSound self.now.class (item self.now) }
         requires suits { T.Suits class }
         requires enough { Requires self.now.class class 0 }
@@ -45,7 +45,7 @@ impl<'i, 'a> Cursor<'i, 'a> {
     }
 
     // The value of an argument of this class that may be missing.
-    pub(crate) fn optional<T: Node<'a>>(&self, alloc: Global, class: Class) -> Made<Option<T>>
+    pub(crate) fn optional<T: FromNode<'a>>(&self, alloc: Global, class: Class) -> Made<Option<T>>
         requires sound { IsSound self.now.class (item self.now) }
         requires suits { T.Suits class }
         ensures { IfOk result (λ value. ReadsIfAny T.Reads class self.now.class (item self.now) value) }
@@ -54,7 +54,7 @@ impl<'i, 'a> Cursor<'i, 'a> {
     }
 
     // The value of an argument of this class that may be missing; `found` is the first one.
-    pub(crate) fn optional_from<T: Node<'a>>(
+    pub(crate) fn optional_from<T: FromNode<'a>>(
         &self,
         alloc: Global,
         class: Class,
@@ -74,7 +74,7 @@ impl<'i, 'a> Cursor<'i, 'a> {
 
     // The values of all arguments of this class.
     #[inline(always)]
-    pub(crate) fn many<T: Node<'a> + Keyed>(&self, alloc: Global, class: Class) -> Made<List<T>>
+    pub(crate) fn many<T: FromNode<'a> + Keyed>(&self, alloc: Global, class: Class) -> Made<List<T>>
         requires sound { IsSound self.now.class (item self.now) }
         requires suits { T.Suits class }
         ensures { IfOk result (λ values. ReadsAll T.Reads class self.now.class (item self.now) values) }
@@ -83,7 +83,7 @@ impl<'i, 'a> Cursor<'i, 'a> {
     }
 
     // The values of all arguments of this class; `found` is the first one.
-    pub(crate) fn many_from<T: Node<'a> + Keyed>(
+    pub(crate) fn many_from<T: FromNode<'a> + Keyed>(
         &self,
         alloc: Global,
         class: Class,

@@ -20,7 +20,7 @@ use crs_text::{ItemId, Items};
 use std::alloc::Global;
 
 // A value that is read from a node of some classes.
-pub(crate) trait Node<'a>: Sized + Drop {
+pub(crate) trait FromNode<'a>: Sized + Drop {
     // The classes of these nodes: those with a text, such as a name, unless it is said otherwise.
     ghost Suits: { Class → Type 0 } = { λ c. Requires c classes.Text 0 };
 
@@ -33,7 +33,7 @@ pub(crate) trait Node<'a>: Sized + Drop {
 }
 
 // The number of a node that has one, as `ORDER[1]`.
-impl<'a> Node<'a> for Decimal {
+impl<'a> FromNode<'a> for Decimal {
     ghost Suits = { λ c. Requires c classes.Number 0 };
 
     ghost Reads = { λ c item value. ReadsNumberOf c item value };

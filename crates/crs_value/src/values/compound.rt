@@ -5,7 +5,7 @@ ghost use Rattle.crs_value.specs.inner.Cursor.{item};
 ghost use Rattle.crs_value.specs.inner.ReadOnce.{IsSound};
 ghost use Rattle.crs_value.specs.ReadsCrs.{ReadsCompound, ReadsHorizontal};
 
-use crate::reading::{Cursor, Node, first, firsts_of};
+use crate::reading::{Cursor, FromNode, first, firsts_of};
 use crate::values::usage::read_tail;
 use crate::{Geodetic, Made, Projected, Tail, Vertical};
 use crs_shape::{Class, laws};
@@ -75,7 +75,7 @@ fn read_horizontal<'a>(alloc: Global, node: &Cursor<'_, 'a>) -> Made<Horizontal<
     Projected::read(alloc, &Cursor { items, id, class }).map(Horizontal::Projected)
 }
 
-impl<'a> Node<'a> for Compound<'a> {
+impl<'a> FromNode<'a> for Compound<'a> {
     ghost Suits = { λ c. c ≡ classes.CompoundCrs };
 
     ghost Reads = { λ c item parts. ReadsCompound c item parts };

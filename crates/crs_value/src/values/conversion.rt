@@ -7,7 +7,7 @@ ghost use Rattle.crs_value.specs.Reads.{ReadsUnitOf, parameter_units, ReadsConve
 ghost use Rattle.crs_value.specs.Values.{ConversionParts, ParameterParts};
 ghost use Rattle.crs_value.specs.SoundParts.{IsConversion, IsParameter};
 
-use crate::reading::{Cursor, Node, first};
+use crate::reading::{Cursor, FromNode, first};
 use crate::values::key::{Key, Keyed};
 use crate::{Ident, Level, List, Made, Method, Unit};
 use crs_decimal::Decimal;
@@ -84,7 +84,7 @@ fn parameter_unit<'a>(alloc: Global, node: &Cursor<'_, 'a>) -> Made<Option<Unit<
     Ok(None)
 }
 
-impl<'a> Node<'a> for Conversion<'a> {
+impl<'a> FromNode<'a> for Conversion<'a> {
     ghost Suits = { λ c. c ≡ classes.Conversion };
 
     ghost Reads = { λ c item parts. ReadsConversion c item parts };
@@ -99,7 +99,7 @@ impl<'a> Node<'a> for Conversion<'a> {
     }
 }
 
-impl<'a> Node<'a> for Parameter<'a> {
+impl<'a> FromNode<'a> for Parameter<'a> {
     ghost Suits = { λ c. c ≡ classes.Parameter };
 
     ghost Reads = { λ c item parts. ReadsParameter c item parts };

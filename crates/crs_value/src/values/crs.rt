@@ -8,7 +8,7 @@ ghost use Rattle.crs_value.specs.inner.Arguments.{IsAmong};
 ghost use Rattle.crs_value.specs.Spells.{IsFaultOf};
 ghost use Rattle.crs_value.specs.declared.values.crs.Crs.{Crs};
 
-use crate::reading::{Cursor, Node};
+use crate::reading::{Cursor, FromNode};
 use crate::values::system::system_type_of;
 use crate::{Compound, Geodetic, Projected, Vertical};
 use crs_shape::{Class, SystemType};
@@ -76,7 +76,7 @@ pub fn geodetic_kind(system_type: SystemType) -> Kind
 // all its locals when it is entered. So each kind is read by an instance of its own, which isn't inlined, and the value
 // goes at once to the place of the answer.
 #[inline(never)]
-fn read_kind<'a, T: Node<'a>, F: FnOnce(T) -> Crs<'a>>(
+fn read_kind<'a, T: FromNode<'a>, F: FnOnce(T) -> Crs<'a>>(
     alloc: Global,
     node: &Cursor<'_, 'a>,
     make: F,

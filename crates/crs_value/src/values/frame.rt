@@ -8,7 +8,7 @@ ghost use Rattle.crs_value.specs.Reads.{ReadsDatum, ReadsEnsemble};
 ghost use Rattle.crs_value.specs.ReadsCrs.{ReadsFrame};
 ghost use Rattle.crs_shape.specs.declared.class.Class.TheVariants as classes;
 
-use crate::reading::{Cursor, Node, first};
+use crate::reading::{Cursor, FromNode, first};
 use crate::{Ellipsoid, Ident, List, Made, Member};
 use crs_decimal::Decimal;
 use crs_shape::{Class, laws};
@@ -125,7 +125,7 @@ impl Drop for Ensemble<'_> {
     }
 }
 
-impl<'a> Node<'a> for Datum<'a> {
+impl<'a> FromNode<'a> for Datum<'a> {
     ghost Reads = { λ c item parts. ReadsDatum c item parts };
 
     fn read(alloc: Global, node: &Cursor<'_, 'a>) -> Made<Self> {
@@ -139,7 +139,7 @@ impl<'a> Node<'a> for Datum<'a> {
     }
 }
 
-impl<'a> Node<'a> for Ensemble<'a> {
+impl<'a> FromNode<'a> for Ensemble<'a> {
     ghost Suits = { λ c. Requires c classes.Text 0 × Requires c classes.Member 0
         × Requires c classes.EnsembleAccuracy 0 };
 

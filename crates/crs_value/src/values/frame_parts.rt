@@ -6,7 +6,7 @@ ghost use Rattle.crs_value.specs.Reads.{ReadsEllipsoid, ReadsMeridian, ReadsDyna
 ghost use Rattle.crs_value.specs.inner.Arguments.{Requires};
 ghost use Rattle.crs_shape.specs.declared.class.Class.TheVariants as classes;
 
-use crate::reading::{Cursor, Node};
+use crate::reading::{Cursor, FromNode};
 use crate::{DeformationModel, Ident, List, Made, Unit};
 use crs_decimal::Decimal;
 use crs_shape::{Class, laws};
@@ -42,7 +42,7 @@ impl<'a> Model for Ellipsoid<'a> {
     ghost invariant = { λ e. IsEllipsoid (view e) };
 }
 
-impl<'a> Node<'a> for Ellipsoid<'a> {
+impl<'a> FromNode<'a> for Ellipsoid<'a> {
     ghost Suits = { λ c. c ≡ classes.Ellipsoid };
 
     ghost Reads = { λ c item parts. ReadsEllipsoid c item parts };
@@ -79,7 +79,7 @@ impl<'a> Model for Meridian<'a> {
     ghost invariant = { λ m. IsMeridian (view m) };
 }
 
-impl<'a> Node<'a> for Meridian<'a> {
+impl<'a> FromNode<'a> for Meridian<'a> {
     ghost Suits = { λ c. Requires c classes.Text 0 × Requires c classes.Number 0 };
 
     ghost Reads = { λ c item parts. ReadsMeridian c item parts };
@@ -116,7 +116,7 @@ impl Drop for Dynamic<'_> {
     }
 }
 
-impl<'a> Node<'a> for Dynamic<'a> {
+impl<'a> FromNode<'a> for Dynamic<'a> {
     ghost Suits = { λ c. c ≡ classes.Dynamic };
 
     ghost Reads = { λ c item parts. ReadsDynamic c item parts };

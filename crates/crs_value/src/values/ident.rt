@@ -11,7 +11,7 @@ ghost use Rattle.crs_value.specs.Reads.{ReadsText, single_of, ReadsIdent};
 ghost use Rattle.crs_value.specs.Sound.{IsIdent, IsNamed};
 ghost use Rattle.crs_value.specs.NamedValues.{IdentParts, NamedParts};
 
-use crate::reading::{Cursor, Node};
+use crate::reading::{Cursor, FromNode};
 use crate::values::key::{Key, Keyed, Places};
 use crate::{Level, List, Made};
 use crs_shape::Class;
@@ -61,7 +61,7 @@ fn single<'a>(node: &Cursor<'_, 'a>, k: usize) -> Option<&'a [u8]>
     }
 }
 
-impl<'a> Node<'a> for Ident<'a> {
+impl<'a> FromNode<'a> for Ident<'a> {
     ghost Suits = { λ c. c ≡ classes.Identifier };
 
     ghost Reads = { λ c item parts. ReadsIdent c item parts };
@@ -185,7 +185,7 @@ impl<'a, const KIND: u8> Model for Named<'a, KIND> {
     ghost invariant = { λ n. IsNamed (view n) };
 }
 
-impl<'a, const KIND: u8> Node<'a> for Named<'a, KIND> {
+impl<'a, const KIND: u8> FromNode<'a> for Named<'a, KIND> {
     ghost Reads = { λ c item parts. ReadsNamed c item parts };
 
     fn read(alloc: Global, node: &Cursor<'_, 'a>) -> Made<Self> {

@@ -3,7 +3,7 @@ ghost use Rattle.std.specs.Prelude.{◌≡◌};
 ghost use Rattle.crs_value.specs.ReadsCrs.{IsGeodeticClass, ReadsBase, ReadsGeodetic, ReadsProjected, ReadsVertical};
 ghost use Rattle.crs_shape.specs.declared.class.Class.TheVariants as classes;
 
-use crate::reading::{Cursor, Node, firsts_of};
+use crate::reading::{Cursor, FromNode, firsts_of};
 use crate::values::frame::read_frame;
 use crate::values::system::read_system;
 use crate::values::usage::read_tail;
@@ -55,7 +55,7 @@ impl Drop for Geodetic<'_> {
     }
 }
 
-impl<'a> Node<'a> for Geodetic<'a> {
+impl<'a> FromNode<'a> for Geodetic<'a> {
     ghost Suits = { λ c. IsGeodeticClass c };
 
     ghost Reads = { λ c item parts. ReadsGeodetic c item parts };
@@ -152,7 +152,7 @@ impl Drop for Base<'_> {
     }
 }
 
-impl<'a> Node<'a> for Projected<'a> {
+impl<'a> FromNode<'a> for Projected<'a> {
     ghost Suits = { λ c. c ≡ classes.ProjectedCrs };
 
     ghost Reads = { λ c item parts. ReadsProjected c item parts };
@@ -170,7 +170,7 @@ impl<'a> Node<'a> for Projected<'a> {
     }
 }
 
-impl<'a> Node<'a> for Base<'a> {
+impl<'a> FromNode<'a> for Base<'a> {
     ghost Suits = { λ c. c ≡ classes.BaseCrs };
 
     ghost Reads = { λ c item parts. ReadsBase c item parts };
@@ -228,7 +228,7 @@ impl Drop for Vertical<'_> {
     }
 }
 
-impl<'a> Node<'a> for Vertical<'a> {
+impl<'a> FromNode<'a> for Vertical<'a> {
     ghost Suits = { λ c. c ≡ classes.VerticalCrs };
 
     ghost Reads = { λ c item parts. ReadsVertical c item parts };

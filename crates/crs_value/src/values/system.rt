@@ -12,7 +12,7 @@ ghost use Rattle.std.specs.Option.{option_copied};
 ghost use Rattle.crs_value.specs.inner.FirstArguments.{AreFirsts};
 ghost use Rattle.crs_shape.specs.declared.class.Class.TheVariants as classes;
 
-use crate::reading::{Cursor, Firsts, Node, required};
+use crate::reading::{Cursor, Firsts, FromNode, required};
 use crate::values::key::Keyed;
 use crate::{Ident, Level, List, Made};
 use crs_decimal::Decimal;
@@ -42,7 +42,7 @@ impl<'a> Model for Unit<'a> {
     ghost invariant = { λ u. IsUnit (view u) };
 }
 
-impl<'a> Node<'a> for Unit<'a> {
+impl<'a> FromNode<'a> for Unit<'a> {
     ghost Suits = { λ c. IsUnitClass c × Requires c classes.Text 0 × Requires c classes.Number 0 };
 
     ghost Reads = { λ c item parts. ReadsUnit c item parts };
@@ -111,7 +111,7 @@ impl<'a> Model for AxisMeridian<'a> {
     ghost invariant = { λ m. IsAxisMeridian (view m) };
 }
 
-impl<'a> Node<'a> for AxisMeridian<'a> {
+impl<'a> FromNode<'a> for AxisMeridian<'a> {
     ghost Suits = { λ c. Requires c classes.Number 0 × Requires c classes.AngleUnit 0 };
 
     ghost Reads = { λ c item parts. ReadsAxisMeridian c item parts };
@@ -124,7 +124,7 @@ impl<'a> Node<'a> for AxisMeridian<'a> {
     }
 }
 
-impl<'a> Node<'a> for Axis<'a> {
+impl<'a> FromNode<'a> for Axis<'a> {
     ghost Suits = { λ c. c ≡ classes.Axis };
 
     ghost Reads = { λ c item parts. ReadsAxis c item parts };

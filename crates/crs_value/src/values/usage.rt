@@ -11,7 +11,7 @@ ghost use Rattle.crs_value.specs.Reads.{ReadsBare, ReadsTail, ReadsBox, ReadsExt
 ghost use Rattle.crs_value.specs.Values.{UsageParts, BoxParts, ExtentParts, TailParts};
 ghost use Rattle.crs_value.specs.Sound.{IsUsage, IsBox, IsExtent, IsTail};
 
-use crate::reading::{Cursor, Firsts, Node};
+use crate::reading::{Cursor, Firsts, FromNode};
 use crate::values::key::{Key, Keyed};
 use crate::{Ident, Level, List, Made, Unit};
 use crs_decimal::Decimal;
@@ -118,7 +118,7 @@ impl Drop for Tail<'_> {
     }
 }
 
-impl<'a> Node<'a> for BoundingBox {
+impl<'a> FromNode<'a> for BoundingBox {
     ghost Suits = { λ c. Requires c classes.Number 3 };
 
     ghost Reads = { λ c item parts. ReadsBox c item parts };
@@ -133,7 +133,7 @@ impl<'a> Node<'a> for BoundingBox {
     }
 }
 
-impl<'a> Node<'a> for Extent<'a> {
+impl<'a> FromNode<'a> for Extent<'a> {
     ghost Suits = { λ c. Requires c classes.Number 1 };
 
     ghost Reads = { λ c item parts. ReadsExtent c item parts };
@@ -147,7 +147,7 @@ impl<'a> Node<'a> for Extent<'a> {
     }
 }
 
-impl<'a> Node<'a> for Usage<'a> {
+impl<'a> FromNode<'a> for Usage<'a> {
     ghost Suits = { λ c. c ≡ classes.Usage };
 
     ghost Reads = { λ c item parts. ReadsUsage c item parts };

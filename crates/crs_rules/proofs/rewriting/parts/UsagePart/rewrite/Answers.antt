@@ -1,7 +1,0 @@
-use Rattle.crs_rules.proofs.PartLemmas.{usage-sound, sound-meaning}
-use Rattle.crs_rules.proofs.rewriting.parts.UsagePart.rewrite.Goals as goal
-
-pub invariant_of-self : goal.invariant_of-self
-invariant_of-self c =
-    simp c.rewrite_part.ensures
-    (usage-sound _ (sound-meaning c.args.rules.now c.rules_are_sound.ensures) _ c.self.invariant)

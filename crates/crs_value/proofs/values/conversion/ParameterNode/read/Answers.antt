@@ -1,6 +1,0 @@
-use Rattle.std.proofs.Common.{rules}
-use Rattle.crs_value.proofs.sound.CrsLemmas.{parameter-tells}
-use Rattle.crs_value.proofs.values.conversion.ParameterNode.read.Goals as goal
-
-pub invariant_of-result : goal.invariant_of-result
-invariant_of-result c = parameter-tells _ _ _ c.requires.sound (search rules)
