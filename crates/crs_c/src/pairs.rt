@@ -41,8 +41,7 @@ pub extern "C" fn crsdesk_same(
 ///
 /// 0: each spells a CRS, and the path is at the front of `out`; `length` is its number of bytes. 1: the first spells
 /// none, and `refused` says why. 2: the first spells a CRS and the second none, and `refused` says why. 3: memory was
-/// refused. 4: there is no such level. 5: the path has more bytes than `out`; `length` is their number. What a code
-/// doesn't mention is as before.
+/// refused. 4: there is no such level. 5: `out` has less room; `length` is their number. All else is as before.
 #[unsafe(no_mangle)]
 pub extern "C" fn crsdesk_first_part(
     alloc: Global,

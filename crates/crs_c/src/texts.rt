@@ -136,8 +136,7 @@ pub extern "C" fn crsdesk_canon(
 /// 0: each entry is answered; `done` is their number. 3: memory was refused to the entry after the first `done`. 4:
 /// there is no such level, and all is as before. 5: the canonical text of the entry after the first `done` has more bytes
 /// than there is room for. The first `done` entries are answered with 3 and 5 too: their code is 0, and their canonical
-/// text ends at `written_end`, or 1, and they say why their text spells no CRS. All others, the rest of `out` and what
-/// the caller sets are as before.
+/// text ends at `written_end`, or 1, and they say why their text spells no CRS. All else is as before.
 #[unsafe(no_mangle)]
 #[tactic(auto, unfolding(crate::specs::Each::IsEachAt))]
 pub extern "C" fn crsdesk_canon_each(

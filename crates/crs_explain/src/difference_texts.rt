@@ -58,8 +58,7 @@ struct ToldAt<'p> {
 /// The texts of each part in which two CRSs differ at a level, in the order of the canonical text; none exactly where
 /// they are the same. Of parameters those whose name stands once on each side, among at most 64, are told by
 /// themselves, in order of the names, by the number at `conversion/parameters["NAME"]`, the unit at `/unit` and the
-/// identifiers at `/id` behind that, each where it differs; then come the texts of the others. `AllocError`: there is
-/// no memory for it.
+/// identifiers at `/id` behind that, each where it differs; then come those of the others. `AllocError`: no memory.
 pub fn differing_parts<'a>(alloc: Global, a: &Crs<'a>, b: &Crs<'a>, level: Level) -> Made<Texts>
     ensures { IfOk result (λ texts. AreDifferenceTexts level a.now b.now texts.items) }
 {

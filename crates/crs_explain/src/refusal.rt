@@ -192,8 +192,7 @@ impl Model for ExplanationPieces {
 }
 
 /// Explains the refusal of a text as `refusal_text` does, to a program: each thing that is said there by itself. A
-/// sentence has no line feed, and no bytes where nothing is to be said. `AllocError`: there is no memory for it. Time
-/// is linear in the text.
+/// sentence has no line feed, and no bytes where nothing is to be said. `AllocError`: no memory. Time is linear.
 pub fn refusal_pieces(alloc: Global, text: &[u8], refusal: Refusal) -> Made<ExplanationPieces>
     requires { refusal.place ≤ length text.now }
     ensures { IfOk result (AreExplainedPieces text.now refusal) }

@@ -15,8 +15,7 @@ use std::io::{Read, Write};
 /// of its lines, and then for each refused line `line L:` and the refusal. Lines are numbered from 1, blank ones
 /// included. Where there is nothing to write the sink isn't asked. `ReadFailed` and `WriteFailed` where the source or
 /// the sink has failed, `TooLong(n)` where line `n` has more than 1,048,576 bytes before its line feed,
-/// `TooManyReads` where 1,048,576 reads have not shown the end, `Memory` where memory ran out. Every fault but
-/// `WriteFailed` leaves the sink untouched.
+/// `TooManyReads` where 1,048,576 reads have not shown the end, `Memory`. All but `WriteFailed` leave the sink untouched.
 pub fn run_group<R: Read, W: Write>(
     alloc: Global,
     level: Level,

@@ -86,6 +86,13 @@ impl<'b, 'a> Differences<'b, 'a> {
     }
 }
 
+// A unit that may be missing, and the kind that is asked where it is.
+#[derive(Clone, Copy)]
+pub(crate) struct Asked<'b, 'a> {
+    pub(crate) kind: UnitKind,
+    pub(crate) unit: Option<&'b Unit<'a>>,
+}
+
 // What is found so far, and what is looked for.
 #[derive(Drop)]
 pub(crate) enum Found<'b, 'a> {
@@ -246,22 +253,15 @@ impl<'b, 'a> Found<'b, 'a> {
 
     // Units, each where a kind is asked.
     #[tactic(auto, using(crate::proofs::WalkedLemmas::part_rules))]
-    pub(crate) fn unit(
-        self,
-        at: &At,
-        asked_a: UnitKind,
-        asked_b: UnitKind,
-        a: Option<&'b Unit<'a>>,
-        b: Option<&'b Unit<'a>>,
-    ) -> Self
-        ensures { Walked (units (at.now.path ▸ step.Unit) at.now.level asked_a asked_b
-            (option_copied a.entry) (option_copied b.entry)) self.entry result }
+    pub(crate) fn unit(self, at: &At, a: Asked<'b, 'a>, b: Asked<'b, 'a>) -> Self
+        ensures { Walked (units (at.now.path ▸ step.Unit) at.now.level a.entry.kind b.entry.kind
+            (option_copied a.entry.unit) (option_copied b.entry.unit)) self.entry result }
     {
-        if self.is_done() || same_units_asked(asked_a, asked_b, a, b, at.level) {
+        if self.is_done() || same_units_asked(a.kind, b.kind, a.unit, b.unit, at.level) {
             return self;
         }
-        let first = Content::optional_unit(asked_a, a);
-        let second = Content::optional_unit(asked_b, b);
+        let first = Content::optional_unit(a.kind, a.unit);
+        let second = Content::optional_unit(b.kind, b.unit);
         self.alone(at, Step::Unit, first, second)
     }
 
@@ -270,7 +270,8 @@ impl<'b, 'a> Found<'b, 'a> {
         ensures { Walked (units (at.now.path ▸ step.Unit) at.now.level kinds.Angle kinds.Angle
             (option_copied a.entry) (option_copied b.entry)) self.entry result }
     {
-        self.unit(at, UnitKind::Angle, UnitKind::Angle, a, b)
+        let kind = UnitKind::Angle;
+        self.unit(at, Asked { kind, unit: a }, Asked { kind, unit: b })
     }
 
     // The identifiers that the level keeps.

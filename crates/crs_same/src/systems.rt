@@ -1,19 +1,38 @@
 //! Axes and coordinate systems.
-ghost use Rattle.std.specs.Prelude.{◌≤◌, length, max};
+ghost use Rattle.std.specs.Prelude.{◌≡◌, ◌≤◌, length, max};
 ghost use Rattle.std.specs.Option.{option_copied};
-ghost use Rattle.crs_shape.specs.Words.{direction_word, system_word};
+ghost use Rattle.crs_shape.specs.Words.{asked_kind, direction_word, system_word};
 ghost use Rattle.crs_same.specs.declared.content.Content.TheVariants as content;
 ghost use Rattle.crs_same.specs.declared.step.Step.TheVariants as step;
 ghost use Rattle.crs_same.specs.Parts.{◌▸◌, words, optional, parts_of_axis, parts_at, parts_of_axes, parts_of_system};
 ghost use Rattle.crs_same.specs.inner.Walked.{Walked};
-ghost use Rattle.crs_same.specs.SameParts.{SameAxisMeridian};
+ghost use Rattle.crs_same.specs.SameParts.{SameAxisMeridian, own_or};
 
 use crate::content::Content;
-use crate::found::Found;
+use crate::found::{Asked, Found};
 use crate::path::At;
 use crate::step::Step;
 use crate::{axis_at, same_axis_meridians};
 use crs_value::{Axis, AxisMeridian, Direction, System, SystemType};
+
+// An axis of a coordinate system.
+#[derive(Clone, Copy)]
+struct AxisOf<'b, 'a> {
+    system: &'b System<'a>,
+    axis: &'b Axis<'a>,
+}
+
+impl<'b, 'a> AxisOf<'b, 'a> {
+    // Its unit, and the kind that its system asks of it.
+    fn unit(self) -> Asked<'b, 'a>
+        ensures kind { result.kind ≡ asked_kind self.entry.system.now.system_type self.entry.axis.now.direction }
+        ensures unit { option_copied result.unit ≡ own_or self.entry.axis.now.unit self.entry.system.now.unit }
+    {
+        let AxisOf { system, axis } = self;
+        let kind = system.system_type.asked_kind(axis.direction);
+        Asked { kind, unit: system.unit_of(axis) }
+    }
+}
 
 impl<'b, 'a> Found<'b, 'a> {
     #[tactic(auto, using(crate::proofs::WalkedLemmas::part_rules))]
@@ -56,25 +75,18 @@ impl<'b, 'a> Found<'b, 'a> {
 
     // The parts of an axis of each of two systems.
     #[tactic(auto, unfolding(crate::specs::Parts::parts_of_axis))]
-    fn axis(
-        self,
-        at: At,
-        a: &'b System<'a>,
-        b: &'b System<'a>,
-        x: &'b Axis<'a>,
-        y: &'b Axis<'a>,
-    ) -> Self
-        ensures { Walked (parts_of_axis at.path at.level a.now b.now x.now y.now) self.entry result }
+    fn axis(self, at: At, a: AxisOf<'b, 'a>, b: AxisOf<'b, 'a>) -> Self
+        ensures { Walked (parts_of_axis at.path at.level a.entry.system.now b.entry.system.now
+            a.entry.axis.now b.entry.axis.now) self.entry result }
     {
         if self.is_done() {
             return self;
         }
+        let (x, y) = (a.axis, b.axis);
         let found = self.text(&at, Step::Name, x.name, y.name);
         let found = found.direction(&at, x.direction, y.direction);
         let found = found.along(&at, &x.meridian, &y.meridian);
-        let asked = a.system_type.asked_kind(x.direction);
-        let other = b.system_type.asked_kind(y.direction);
-        let found = found.unit(&at, asked, other, a.unit_of(x), b.unit_of(y));
+        let found = found.unit(&at, a.unit(), b.unit());
         found.identifiers(&at, &x.identifiers, &y.identifiers)
     }
 
@@ -86,7 +98,9 @@ impl<'b, 'a> Found<'b, 'a> {
         let y = axis_at(b.axes.as_slice(), position);
         match (x, y) {
             (None, None) => self,
-            (Some(x), Some(y)) => self.axis(at, a, b, x, y),
+            (Some(x), Some(y)) => {
+                self.axis(at, AxisOf { system: a, axis: x }, AxisOf { system: b, axis: y })
+            }
             (None, Some(y)) => self.alone(&at, Step::Name, Content::Nothing, Content::text(y.name)),
             (Some(x), None) => self.alone(&at, Step::Name, Content::text(x.name), Content::Nothing),
         }

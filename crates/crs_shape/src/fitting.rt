@@ -18,8 +18,7 @@ use crs_text::{ItemId, ItemKind, Items, Refusal, laws};
 /// Whether an item has the shape of a class. Takes no memory; the time is linear in the item.
 ///
 /// The error is the first fault in text order: 11 or 12 at the first byte of an item that isn't allowed where it is,
-/// 11 if it is a node whose keyword is unknown; 13 at the closing delimiter of a node whose arguments aren't
-/// complete. Profile.
+/// 11 if it is a node whose keyword is unknown; 13 at the closing delimiter of a node that lacks arguments. Profile.
 pub fn fit(items: &Items<'_>, id: ItemId, class: Class) -> Result<(), Refusal>
     requires { HasId items.now id }
     ensures { MatchResult result (λ _. IsFree (Inside class (first_of (here items.now id))))

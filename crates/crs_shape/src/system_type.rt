@@ -88,8 +88,7 @@ impl SystemType {
         }
     }
 
-    /// Whether a CRS of this class may have a coordinate system of this type and dimension. ISO 19162:2019, "Coordinate
-    /// system".
+    /// Whether a CRS of this class may have a system of this type and dimension. ISO 19162:2019, "Coordinate system".
     pub fn has_dimension(self, class: Class, dimension: u64) -> bool
         ensures { IsTrue result ↔ OneIs (λ n. dimension ≡ n) (dimensions_of class self) }
     {

@@ -123,8 +123,7 @@ pub enum Keyword {
 const SMALL: u8 = 0x20;
 
 // The keywords with their bytes, in capitals, by how many these are; within a length the frequent ones go first.
-// A macro makes each table from these rows. Those of `suspects` have the bytes again, which the prover holds against the
-// same spellings (`AreSuspects`).
+// A macro makes each table from these rows. The prover holds the bytes in those of `suspects` against these spellings.
 macro_rules! keywords {
     ($table:ident, $asked:expr) => {
         $table! {
@@ -266,8 +265,7 @@ macro_rules! by_fingerprint {
     };
 }
 
-// For each fingerprint, from 0 on and three a line, the keyword that has it, or a word that is none and comes often; `_`
-// is `ID`, also where there is neither.
+// For each fingerprint, from 0 on, the keyword that has it, or another word that comes often; `_`, for neither, is `ID`.
 #[inline(always)]
 fn suspects() -> &'static [Suspect]
     ensures rows { AreSuspects result.now }

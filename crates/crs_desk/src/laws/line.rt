@@ -77,8 +77,7 @@ pub fn group_has_flags()
 {}
 
 /// With `--lines`, before the level or after it, `canon` takes each line as a text. `check` takes each line as a text
-/// where `--lines` is there, and one text else. `--lines` is neither given twice nor with a value, and `group`, which
-/// reads lines anyway, has no such flag.
+/// where `--lines` is there, and one text else. It is never given twice, or with a value; `group` has no such flag.
 pub fn canon_and_check_have_lines()
     ensures canon { (program : Text) →
         asked (program ∷ codes "canon" ∷ codes "--lines" ∷ []) ≡ Some (Other (codes "full") [] (work.Standard (task.Canon Lines))) }
@@ -102,8 +101,7 @@ pub fn canon_and_check_have_lines()
 
 /// A line asks for `explain` of standard input, of one text or of two, where no word is a flag, and of any two after
 /// `--`. The level is `full` there. The word after `--level` is the level of `explain`, alone, before two texts and
-/// after them, where no word is a flag. With `--json` `explain` is asked for JSON. The words after each `--first=` say
-/// which parts `explain` is to tell first.
+/// after them, where no word is a flag. `--json` asks for JSON. The words after each `--first=` say what is told first.
 pub fn explain_takes_texts_and_options()
     ensures alone { (program : Text) →
         asked (program ∷ codes "explain" ∷ []) ≡ Some (Other (codes "full") [] (work.Standard (task.Explain manner.Lines))) }

@@ -201,8 +201,7 @@ fn early(found: &Option<Refusal>) -> Option<Refusal>
 }
 
 // The first break within a CRS of this class, `inside`, and among its own checks. Orders are compared with each
-// other, which is quick: where nothing goes before them, the type is known and the dimension allowed, so that there
-// are three axes at most.
+// other, which is quick: where nothing goes before them, type and dimension are allowed, so the axes are three at most.
 pub(crate) fn whole_crs(node: &Cursor<'_, '_>, inside: Option<Refusal>) -> Option<Refusal>
     requires shaped { Shaped node.now.class (item node.now) }
     requires once { TakesOne node.now.class Class.CoordinateSystem }

@@ -33,8 +33,7 @@ fn join(found: &mut FirstFault, own: Option<Refusal>)
     }
 }
 
-// Whether a node that may be of this class, which has these slots, has no fault of shape as one; what it breaks joins
-// what was found.
+// Whether a node that may be of this class, which has these slots, fits it; what it breaks joins what was found.
 #[inline(never)]
 fn node_judged<S: Slots>(
     items: &Items<'_>,
@@ -100,8 +99,7 @@ fn laid<H: Slots, T: Part>(
     Some(layout)
 }
 
-// Whether an item that may be a CRS of this class, which has a coordinate system, has no fault of shape as one; what it
-// breaks joins what was found.
+// Whether an item that may be a CRS of this class, with a coordinate system, fits it; what it breaks joins what was found.
 fn crs_judged<H: Slots, T: Part>(
     class: Class,
     items: &Items<'_>,
@@ -267,8 +265,7 @@ impl<const PLACE: u8> Part for Single<PLACE> {
     }
 }
 
-// Whether an item that may be a CRS of this class, which has a coordinate system, has no fault of shape as one; what it
-// breaks joins what was found.
+// Whether an item that may be a CRS of this class, with a coordinate system, fits it; what it breaks joins what was found.
 fn single_judged(items: &Items<'_>, id: ItemId, class: Class, found: &mut FirstFault) -> bool
     requires has { HasId items.now id }
     requires of { IsTrue (is_of class (item_at items.now id)) }

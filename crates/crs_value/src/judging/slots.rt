@@ -106,8 +106,7 @@ pub(crate) trait Part {
     // Each class within has the slots that it is judged by.
     ghost fits: { Type 0 } = { Unit {0} };
 
-    // Whether an argument has no fault of shape; what it breaks joins what was found. None where it is of none of
-    // these classes.
+    // Whether an argument fits one of these classes, or None where it is of none; what it breaks joins what was found.
     fn judge(items: &Items<'_>, id: ItemId, parent: Class, found: &mut FirstFault) -> Option<bool>
         requires has { HasId items.now id }
         requires fits { fits }

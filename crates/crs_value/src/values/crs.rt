@@ -73,8 +73,7 @@ pub fn geodetic_kind(system_type: SystemType) -> Kind
 }
 
 // The CRS that `make` makes of a value of one kind; the only fault is out of memory. A function clears the memory of
-// all its locals when it is entered. So each kind is read by an instance of its own, which isn't inlined, and the value
-// goes at once to the place of the answer.
+// all its locals when it is entered. So each kind has an instance, not inlined, whose value goes at once to its place.
 #[inline(never)]
 fn read_kind<'a, T: FromNode<'a>, F: FnOnce(T) -> Crs<'a>>(
     alloc: Global,

@@ -149,8 +149,7 @@ impl Keyed for Axis<'_> {
     }
 }
 
-/// A coordinate system: `CS[type, dimension, id..]`, the axes beside it, and their shared unit.
-/// ISO 19162:2019, "Coordinate system".
+/// `CS[type, dimension, id..]`, the axes beside it, and their shared unit. ISO 19162:2019, "Coordinate system".
 pub struct System<'a> {
     /// The type.
     pub system_type: SystemType,
