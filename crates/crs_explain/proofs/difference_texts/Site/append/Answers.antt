@@ -1,6 +1,6 @@
 use Rattle.std.proofs.lemmas.Result.{on_ok_weaker}
 use Rattle.crs_explain.proofs.DifferingLemmas.{appends-one}
-use Rattle.crs_explain.proofs.difference_texts.ToldAt.append.Goals as goal
+use Rattle.crs_explain.proofs.difference_texts.Site.append.Goals as goal
 
 pub returns-in-Parameters : goal.returns-in-Parameters
 returns-in-Parameters c = rw (c.in-Parameters.is, ← c.as_slice-these.ensures, ← c.as_slice-others.ensures) c.append.ensures
