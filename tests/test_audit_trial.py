@@ -446,7 +446,7 @@ def are_apart(data: Dict[str, Any], archive: Archive) -> bool:
     return [len(it) for it in groups if it] == 4 * [1]
 
 
-@pytest.mark.needs("python3:osgeo")
+@pytest.mark.needs("python3:osgeo", "python3:jinja2")
 def test_figures(tmp_path: pathlib.Path, library: pathlib.Path) -> None:
     assert [name for name, is_so in tell(make(tmp_path)) if not is_so] == []
 
