@@ -38,9 +38,10 @@ fn split_blank(text: &[u8]) -> (&[u8], &[u8]) {
 
 // 0 where it isn't a number.
 fn number_of(digits: &[u8]) -> usize {
-    str::from_utf8(digits)
-        .ok()
-        .map_or(0, |it| it.parse().unwrap_or(0))
+    match str::from_utf8(digits) {
+        Ok(text) => text.parse().unwrap_or(0),
+        Err(_) => 0,
+    }
 }
 
 /// Where a line was placed.

@@ -7,16 +7,24 @@ use crate::answer::Answer;
 use crate::row::Row;
 use indexmap::IndexMap;
 
-/// `same`, or where the CRSs of two parts differ, or what is told of the one that is refused.
-pub fn put_difference(out: &mut Answer, row: &Row<'_>) {
+/// What the functions of an example, `key` or `difference`, answer of the parts of a row.
+pub fn put_example(out: &mut Answer, row: &Row<'_>, name: &str) {
+    match name {
+        "key" => put_keys(out, row),
+        _ => put_difference(out, row),
+    }
+}
+
+// `same`, or where the CRSs of two parts differ, or what is told of the one that is refused.
+fn put_difference(out: &mut Answer, row: &Row<'_>) {
     match difference::difference(out.alloc(), row.part(0), row.part(1)) {
         Ok(text) => out.put(text.as_str()),
         Err(fault) => write!(out, "{fault}"),
     }
 }
 
-/// The number of each part in one cache, or what to tell of it, with `; ` behind each.
-pub fn put_keys(out: &mut Answer, row: &Row<'_>) {
+// The number of each part in one cache, or what to tell of it, with `; ` behind each.
+fn put_keys(out: &mut Answer, row: &Row<'_>) {
     let mut cache = IndexMap::new(out.alloc());
     for index in 0..row.count() {
         let text = row.part(index);

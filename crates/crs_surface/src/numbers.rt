@@ -7,13 +7,13 @@ use std::str;
 
 /// What a call answers of the number that is read, or `fault` and what it displays: its `plain` spelling, `text` and
 /// the next part with it behind, its parts, `whole` and the number that it is, or whether it equals that of the next part.
-pub fn put_number(out: &mut Answer, row: &Row<'_>) {
+pub fn put_number(out: &mut Answer, row: &Row<'_>, call: &str) {
     if let Some(number) = parsed(out, row.part(0)) {
-        match row.call {
-            "Decimal::parse" => put_spelled(out, &number, "plain ", b""),
-            "Decimal::write" => put_spelled(out, &number, "text ", row.part(1)),
-            "Decimal::digits" => put_parts(out, &number),
-            "Decimal::whole" => match number.whole() {
+        match call {
+            "parse" => put_spelled(out, &number, "plain ", b""),
+            "write" => put_spelled(out, &number, "text ", row.part(1)),
+            "digits" => put_parts(out, &number),
+            "whole" => match number.whole() {
                 Some(whole) => write!(out, "whole {whole}"),
                 None => out.put("none"),
             },
@@ -67,11 +67,13 @@ fn equality<T: Copy + Eq>(a: &T, b: &T) -> bool {
 
 /// `name` and the name of the refusal that has this number; `none` where no refusal has it.
 pub fn put_name(out: &mut Answer, input: &[u8]) {
-    let number = str::from_utf8(input)
-        .ok()
-        .and_then(|text| text.parse::<u8>().ok());
-    match number.and_then(|number| Refusal::new(number, 0)) {
+    match refusal_of(input) {
         Some(refusal) => write!(out, "name {}", refusal.name()),
         None => out.put("none"),
     }
+}
+
+fn refusal_of(digits: &[u8]) -> Option<Refusal> {
+    let number: u8 = str::from_utf8(digits).ok()?.parse().ok()?;
+    Refusal::new(number, 0)
 }

@@ -1,6 +1,6 @@
 //! What is asked in a row, or of a call that is tried, and from the name of a call to its answer.
 use crate::answer::Answer;
-use crate::examples::{put_difference, put_keys};
+use crate::examples::put_example;
 use crate::{catalogues, numbers, runs, shapes, texts, values, written};
 use crs_shape::known;
 use crs_value::Level;
@@ -32,7 +32,10 @@ impl<'t> Row<'t> {
     pub fn of(alloc: Global, bytes: &'t [u8]) -> io::Result<Row<'t>> {
         let mut row = Row::new(alloc);
         let mut lines = bytes.splitn(2, |byte| *byte == b'\n');
-        row.call = str::from_utf8(lines.next().unwrap_or(&[])).map_err(|_| unusable())?;
+        match str::from_utf8(lines.next().unwrap_or(&[])) {
+            Ok(call) => row.call = call,
+            Err(_) => return Err(unusable()),
+        }
         for part in lines.next().unwrap_or(&[]).split(|byte| *byte == 0) {
             row.add(1, part)?;
         }
@@ -95,39 +98,43 @@ pub fn unusable() -> io::Error {
 
 /// Puts the answer of a row's call.
 pub fn put_answer(out: &mut Answer, row: &Row<'_>) {
+    let (name, words) = row.call.split_once(' ').unwrap_or((row.call, ""));
     let input = row.text();
-    match row.call {
-        "Refusal::new" => numbers::put_name(out, input),
+    match name {
         "feed" => texts::put_fed(out, row),
         "read_items" => texts::put_tree(out, input),
         "prefixes" => texts::put_prefixes(out, input),
-        "places" | "closes" | "numbers" | "sizes" | "nexts" | "keywords" => {
-            texts::put_column(out, row)
-        }
+        "column" => texts::put_column(out, row, words),
         "fit_root" => shapes::put_class(out, input),
         "fit" => shapes::put_fit(out, row),
         "class_of" => shapes::put_keywords(out, input),
         "slots" => shapes::put_slots(out, input),
         "known" => out.put(if known(input) { "known" } else { "unknown" }),
-        _ => put_answer_of_value(out, row),
+        _ => put_answer_of_value(out, row, name, words),
     }
 }
 
-fn put_answer_of_value(out: &mut Answer, row: &Row<'_>) {
-    match row.call.split_once(' ').unwrap_or((row.call, "")) {
-        ("read", _) => values::put_read(out, row.text()),
-        ("canon", _) => values::put_canon(out, row),
-        ("same" | "same_axis", _) => values::put_same(out, row),
-        ("write", part) => values::put_part(out, row, part),
-        ("written", how) => written::put_whole(out, row, how),
-        ("example", "key") => put_keys(out, row),
-        ("example", _) => put_difference(out, row),
-        ("Catalogue", _) => catalogues::put_catalogue(out, row),
-        ("failed_reads", words) => runs::put_failed(out, words, row, "reads"),
-        ("failed_writes", words) => runs::put_failed(out, words, row, "writes"),
-        ("Source", _) => runs::put_handed(out, row.text()),
-        ("Filling", words) => runs::put_filled(out, words, row.text()),
-        _ if row.call.starts_with("Decimal::") => numbers::put_number(out, row),
+fn put_answer_of_value(out: &mut Answer, row: &Row<'_>, name: &str, words: &str) {
+    match name {
+        "Refusal::new" => numbers::put_name(out, row.text()),
+        "Decimal" => numbers::put_number(out, row, words),
+        "read" => values::put_read(out, row.text()),
+        "canon" => values::put_canon(out, row),
+        "same" => values::put_same(out, row, words),
+        "write" => values::put_part(out, row, words),
+        "written" => written::put_whole(out, row, words),
+        "example" => put_example(out, row, words),
+        _ => put_answer_of_run(out, row, name, words),
+    }
+}
+
+fn put_answer_of_run(out: &mut Answer, row: &Row<'_>, name: &str, words: &str) {
+    match name {
+        "Catalogue" => catalogues::put_catalogue(out, row),
+        "failed_reads" => runs::put_failed(out, words, row, "reads"),
+        "failed_writes" => runs::put_failed(out, words, row, "writes"),
+        "Source" => runs::put_handed(out, row.text()),
+        "Filling" => runs::put_filled(out, words, row.text()),
         _ => runs::put_run(out, row),
     }
 }

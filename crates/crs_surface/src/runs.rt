@@ -204,7 +204,7 @@ pub fn put_failed(out: &mut Answer, words: &str, row: &Row<'_>, what: &str) {
             || run.is_by_line() && written.ends_with(b"\n") && is_front;
         let is_failed = match (what, &done.outcome) {
             ("reads", Err(RunFault::ReadFailed)) => {
-                is_left && done.reads == u64::from(nth) && done.source_failed && !done.sink_failed
+                is_left && done.reads == nth as u64 && done.source_failed && !done.sink_failed
             }
             ("writes", Err(RunFault::WriteFailed)) => {
                 done.sink_failed && written.len() >= least && is_front

@@ -4,6 +4,7 @@ use crate::row::Row;
 use crate::texts::read_agreed;
 use crs_shape::{Class, Slot, class_of, fit, fit_root, keywords, root_class, slots};
 use crs_text::{Fault, read_items};
+use std::str;
 
 /// `class` and the root class's first keyword, or a refusal; `another answer in pieces` where pieces give one.
 pub fn put_class(out: &mut Answer, input: &[u8]) {
@@ -31,10 +32,10 @@ fn class_at(out: &mut Answer, path: &[u8]) -> Option<Class> {
 }
 
 fn named_class(path: &[u8]) -> Option<Class> {
-    let mut keywords = path.split(|byte| *byte == b' ');
-    let mut class = root_class(keywords.next()?)?;
+    let mut keywords = str::from_utf8(path).ok()?.split(' ');
+    let mut class = root_class(keywords.next()?.as_bytes())?;
     for keyword in keywords {
-        class = class_of(class, keyword)?;
+        class = class_of(class, keyword.as_bytes())?;
     }
     Some(class)
 }

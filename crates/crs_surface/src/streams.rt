@@ -11,12 +11,12 @@ pub struct Transfer {
     piece: usize,
     takes: usize,
     /// The read that fails.
-    pub fails_at: u32,
+    pub fails_at: usize,
     /// The write that fails.
-    pub stops_at: u32,
+    pub stops_at: usize,
     // whether the text begins anew where it ends
     is_endless: bool,
-    failure: ErrorKind,
+    is_interrupted: bool,
 }
 
 impl Transfer {
@@ -24,25 +24,42 @@ impl Transfer {
     pub fn read(words: &str) -> Option<Transfer> {
         let mut transfer = Transfer {
             piece: usize::MAX,
-            fails_at: 0,
-            is_endless: false,
             takes: usize::MAX,
+            fails_at: 0,
             stops_at: 0,
-            failure: ErrorKind::BrokenPipe,
+            is_endless: false,
+            is_interrupted: false,
         };
         for word in words.split(' ') {
-            match (word, word.split_once('=')) {
-                ("", _) => (),
-                ("endless", _) => transfer.is_endless = true,
-                ("interrupted", _) => transfer.failure = ErrorKind::Interrupted,
-                (_, Some(("pieces", count))) => transfer.piece = count.parse().ok()?,
-                (_, Some(("fails", count))) => transfer.fails_at = count.parse().ok()?,
-                (_, Some(("takes", count))) => transfer.takes = count.parse().ok()?,
-                (_, Some(("stops", count))) => transfer.stops_at = count.parse().ok()?,
-                _ => return None,
+            let (name, count) = word.split_once('=').unwrap_or((word, "0"));
+            if !transfer.set(name, count.parse().unwrap_or(0)) {
+                return None;
             }
         }
         Some(transfer)
+    }
+
+    // Whether this is the name of a word.
+    fn set(&mut self, name: &str, count: usize) -> bool {
+        match name {
+            "" => (),
+            "pieces" => self.piece = count,
+            "fails" => self.fails_at = count,
+            "takes" => self.takes = count,
+            "stops" => self.stops_at = count,
+            "endless" => self.is_endless = true,
+            "interrupted" => self.is_interrupted = true,
+            _ => return false,
+        }
+        true
+    }
+
+    fn failure(&self) -> io::Error {
+        io::Error::from(if self.is_interrupted {
+            ErrorKind::Interrupted
+        } else {
+            ErrorKind::BrokenPipe
+        })
     }
 }
 
@@ -52,7 +69,7 @@ pub struct Pieces<'t> {
     text: &'t [u8],
     left: &'t [u8],
     transfer: Transfer,
-    calls: u32,
+    calls: usize,
 }
 
 impl<'t> Pieces<'t> {
@@ -70,17 +87,13 @@ impl Read for Pieces<'_> {
     fn read(&mut self, buf: &mut [u8]) -> io::Result<usize> {
         self.calls = self.calls.saturating_add(1);
         if self.calls == self.transfer.fails_at {
-            return Err(io::Error::from(self.transfer.failure));
+            return Err(self.transfer.failure());
         }
         if self.left.is_empty() && self.transfer.is_endless {
             self.left = self.text;
         }
-        let count = self.left.len().min(self.transfer.piece).min(buf.len());
-        for (place, byte) in buf.iter_mut().zip(self.left).take(count) {
-            *place = *byte;
-        }
-        self.left = self.left.get(count..).unwrap_or(&[]);
-        Ok(count)
+        let count = buf.len().min(self.transfer.piece);
+        self.left.read(&mut buf[..count])
     }
 }
 
@@ -89,7 +102,7 @@ impl Read for Pieces<'_> {
 pub struct Page {
     pub written: Vec<u8>,
     transfer: Transfer,
-    calls: u32,
+    calls: usize,
 }
 
 impl Page {
@@ -106,7 +119,7 @@ impl Write for Page {
     fn write(&mut self, buf: &[u8]) -> io::Result<usize> {
         self.calls = self.calls.saturating_add(1);
         if self.calls == self.transfer.stops_at {
-            return Err(io::Error::from(self.transfer.failure));
+            return Err(self.transfer.failure());
         }
         let count = buf.len().min(self.transfer.takes);
         self.written.extend_from_slice(&buf[..count])?;

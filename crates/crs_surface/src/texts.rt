@@ -26,9 +26,9 @@ pub fn put_read(out: &mut Answer, read: Result<Items<'_>, Fault>) {
 /// begin, behind the name of the call: the `places` of their first bytes, where nodes have their closing delimiters
 /// (`closes`), the values of `numbers`, how many items are in each, itself included (`sizes`), the places of the arguments
 /// after them in their nodes (`nexts`), and the `keywords` that words and nodes' words are.
-pub fn put_column(out: &mut Answer, row: &Row<'_>) {
+pub fn put_column(out: &mut Answer, row: &Row<'_>, column: &str) {
     let read = read_items(out.alloc(), row.text());
-    put_items(out, read, row.call);
+    put_items(out, read, column);
 }
 
 fn put_items(out: &mut Answer, read: Result<Items<'_>, Fault>, column: &str) {

@@ -2,6 +2,7 @@
 use crate::answer::Answer;
 use crate::row::Row;
 use crate::texts::agree;
+use crate::written::Large;
 use crs_canon::{Canon, Canonical, Set, canon, canon_of};
 use crs_same::parts::same_axis;
 use crs_same::{Path, first_part, same};
@@ -68,17 +69,17 @@ pub fn put_canon(out: &mut Answer, row: &Row<'_>) {
 // Whether this is the canonical text of the value of a text.
 fn is_spelled(alloc: Global, input: &[u8], text: &Canon) -> Result<bool, AllocError> {
     match read(alloc, input) {
-        Ok(crs) => spells(alloc, &crs, text),
+        Ok(crs) => spells(&crs, alloc, text),
         Err(_) => Ok(false),
     }
 }
 
 // Whether this is a CRS's canonical text at its level, and what the CRS appends by itself.
-fn spells(alloc: Global, crs: &Crs<'_>, text: &Canon) -> Result<bool, AllocError> {
+fn spells(crs: &Crs<'_>, alloc: Global, text: &Canon) -> Result<bool, AllocError> {
     let level = text.level();
     let own = canon_of(alloc, crs, level)?;
     let mut appended = Vec::from_slice(alloc, b"x")?;
-    crs.write(alloc, level, &mut appended)?;
+    crs.append(alloc, level, &mut appended)?;
     let is_appended = matches!(appended.as_slice(), [b'x', own @ ..] if own == text.bytes());
     Ok(own.level() == level && own.same(text) && is_appended)
 }
@@ -104,10 +105,15 @@ pub type Appended = Option<Result<bool, AllocError>>;
 /// of all identifiers. None where there is no such part, also for any other name.
 pub fn append_part(crs: &Crs<'_>, part: &str, level: Level, out: &mut Vec<u8>) -> Appended {
     match crs {
-        _ if part == "crs" => append(crs, level, out),
+        _ if part == "crs" => append_whole(crs, level, out),
         Crs::Vertical(vertical) => append_of(vertical, part, level, out),
         Crs::Geodetic(_) | Crs::Projected(_) | Crs::Compound(_) => None,
     }
+}
+
+fn append_whole(crs: &Crs<'_>, level: Level, out: &mut Vec<u8>) -> Appended {
+    let written = crs.append(*out.allocator(), level, out);
+    Some(written.and(Ok(crs.is_itself(level))))
 }
 
 fn append_of(crs: &Vertical<'_>, part: &str, level: Level, out: &mut Vec<u8>) -> Appended {
@@ -185,23 +191,27 @@ fn compared_with<'t>(
     level: Level,
 ) -> Result<Comparison, Fault> {
     match read(alloc, second) {
-        Ok(second) => Ok(Comparison {
-            is_same: same(first, &second, level),
-            path: first_part(first, &second, level),
-            axes: axes_of(first, &second, level),
-        }),
+        Ok(second) => Ok(of_two(first, &second, level)),
         Err(fault) => Err(fault),
+    }
+}
+
+fn of_two<'t>(first: &Crs<'t>, second: &Crs<'t>, level: Level) -> Comparison {
+    Comparison {
+        is_same: same(first, second, level),
+        path: first_part(first, second, level),
+        axes: axes_of(first, second, level),
     }
 }
 
 /// `same`, or `different` and the first part in which two texts' CRSs differ, or what is told of axes, or the first
 /// refusal; `one way` where the orders of the two disagree, or one call alone says that they are the same.
-pub fn put_same(out: &mut Answer, row: &Row<'_>) {
+pub fn put_same(out: &mut Answer, row: &Row<'_>, what: &str) {
     let (alloc, first, second) = (out.alloc(), row.part(0), row.part(1));
     if let Some(forth) = out.accepted(compared(alloc, first, second, row.level))
         && let Some(back) = out.accepted(compared(alloc, second, first, row.level))
     {
-        if row.call == "same_axis" {
+        if what == "axis" {
             out.put(forth.axes);
         } else {
             put_compared(out, &forth, &back);

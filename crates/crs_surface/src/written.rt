@@ -15,8 +15,26 @@ macro_rules! put_node {
         $out.open($keyword);
         $(put_field!($out, $field $(, $how $(($word))?)?);)+
         $out.close();
-        let is_same: bool = parts::$same($value, $value, Level::Full);
-        look($value, $out, is_same, stringify!($kind));
+        look($value, $out, parts::$same($value, $value, Level::Full));
+    };
+}
+
+// The same of a node with a CRS in it, at which the functions that are named look.
+macro_rules! put_large_node {
+    ($value:ident, $out:ident, $keyword:expr => $kind:ident { $($field:ident $(: $how:ident $(($word:literal))?)?),+ }) => {
+        let $kind { $($field),+ } = $value;
+        $out.open($keyword);
+        $(put_field!($out, $field $(, $how $(($word))?)?);)+
+        $out.close();
+        look_at!($value, $out);
+    };
+}
+
+macro_rules! look_at {
+    ($value:ident, $out:ident) => {
+        let alloc = $out.out.alloc();
+        let written = $value.append(alloc, Level::Full, $out.own());
+        $out.look(written, $value.is_itself(Level::Full));
     };
 }
 
@@ -42,7 +60,7 @@ use crs_value::{
     List, Member, Meridian, Method, Parameter, Projected, System, SystemType, Tail, Unit, UnitKind,
     Usage, Vertical, read,
 };
-use std::alloc::AllocError;
+use std::alloc::{AllocError, Global};
 
 /// A value that is taken apart by a pattern of all its fields or variants.
 pub trait Written {
@@ -50,24 +68,22 @@ pub trait Written {
     fn put(&self, out: &mut Text);
 }
 
-/// The CRS of a text, taken apart and written. Of one that is `canonical` each node is looked at by itself, too: `another` and
-/// the name of one that isn't the same as itself, or that appends another text than how it stands.
+/// The CRS of a text, taken apart and written. Of one that is `canonical` each node is looked at by itself, too: `another`
+/// is put behind one that isn't the same as itself, or that appends another text than how it stands.
 pub fn put_whole(out: &mut Answer, row: &Row<'_>, how: &str) {
     let mut text = Text {
         out: Answer::new(out.alloc()),
         is_first: true,
-        odd: None,
+        is_canonical: how == "canonical",
+        own: Vec::new(out.alloc()),
     };
     match read(out.alloc(), row.text()) {
         Ok(crs) => crs.put(&mut text),
         Err(fault) => return out.put_fault(fault),
     }
-    match text.odd {
-        Some(name) if how == "canonical" => write!(out, "another {name}"),
-        _ => {
-            let bytes = out.made(text.out.bytes());
-            out.put_bytes(bytes.unwrap_or(&[]));
-        }
+    match text.out.bytes() {
+        Ok(bytes) => out.put_bytes(bytes),
+        Err(error) => out.note(Err(error)),
     }
 }
 
@@ -77,23 +93,67 @@ pub struct Text {
     out: Answer,
     // whether the next part is the first one of its node
     is_first: bool,
-    // a node that isn't itself where it stands
-    odd: Option<&'static str>,
+    is_canonical: bool,
+    // what a node that is looked at appends by itself
+    own: Vec<u8>,
 }
 
 // Looks whether a node is the same as itself, and appends what was just put of it.
-fn look<T: Canonical>(node: &T, out: &mut Text, is_same: bool, name: &'static str) {
+fn look<T: Canonical>(node: &T, out: &mut Text, is_same: bool) {
     let alloc = out.out.alloc();
-    let mut own = Vec::new(alloc);
-    let written: Result<(), AllocError> = node.write(alloc, Level::Full, &mut own);
-    out.out.note(written);
-    let stands = matches!(out.out.bytes(), Ok(bytes) if bytes.ends_with(&own));
-    if !(is_same && stands && node.same(node, Level::Full)) {
-        out.odd = Some(name);
-    }
+    let written = node.write(alloc, Level::Full, out.own());
+    out.look(written, is_same && node.same(node, Level::Full));
+}
+
+/// A node with a CRS in it, at which functions of its own look: a call of `look` with one takes the prover long.
+pub trait Large {
+    /// Appends what the node appends by itself.
+    fn append(&self, alloc: Global, level: Level, out: &mut Vec<u8>) -> Result<(), AllocError>;
+
+    /// Whether the node is the same as itself.
+    fn is_itself(&self, level: Level) -> bool;
+}
+
+macro_rules! large_nodes {
+    ($($kind:ident by $same:path;)+) => {$(
+        impl Large for $kind<'_> {
+            fn append(&self, alloc: Global, level: Level, out: &mut Vec<u8>) -> Result<(), AllocError> {
+                self.write(alloc, level, out)
+            }
+
+            fn is_itself(&self, level: Level) -> bool {
+                self.same(self, level) && $same(self, self, level)
+            }
+        }
+    )+};
+}
+
+large_nodes! {
+    Crs by same;
+    Geodetic by parts::same_geodetic;
+    Projected by parts::same_projected;
+    Vertical by parts::same_vertical;
+    Compound by parts::same_compound;
+    Horizontal by parts::same_horizontal;
+    Base by parts::same_base;
 }
 
 impl Text {
+    // Where a node appends its own text.
+    fn own(&mut self) -> &mut Vec<u8> {
+        self.own.clear();
+        &mut self.own
+    }
+
+    // Puts `another` behind a node that isn't the same as itself, or whose own text isn't what was just put.
+    fn look(&mut self, written: Result<(), AllocError>, is_same: bool) {
+        self.out.note(written);
+        let stands = matches!(self.out.bytes(), Ok(bytes) if bytes.ends_with(&self.own));
+        if self.is_canonical && !(is_same && stands) {
+            self.out.put("another");
+        }
+    }
+
     // Characters as they are.
     fn word(&mut self, word: &[u8]) {
         self.out
@@ -139,12 +199,21 @@ impl Text {
 
     // A code without quotes where it has digits alone.
     fn code(&mut self, code: &[u8]) {
-        if code.iter().all(|byte| byte.is_ascii_digit()) {
+        if has_digits_alone(code) {
             self.word(code);
         } else {
             code.put(self);
         }
     }
+}
+
+fn has_digits_alone(code: &[u8]) -> bool {
+    for byte in code {
+        if !byte.is_ascii_digit() {
+            return false;
+        }
+    }
+    true
 }
 
 // A text, in quotes.
@@ -188,13 +257,13 @@ impl Written for Crs<'_> {
             Crs::Vertical(crs) => crs.put(out),
             Crs::Compound(crs) => crs.put(out),
         }
-        look(self, out, same(self, self, Level::Full), "Crs");
+        look_at!(self, out);
     }
 }
 
 impl Written for Geodetic<'_> {
     fn put(&self, out: &mut Text) {
-        put_node!(self, out, same_geodetic, match system.system_type { SystemType::Ellipsoidal => "GEOGCRS", _ => "GEODCRS" } => Geodetic {
+        put_large_node!(self, out, match system.system_type { SystemType::Ellipsoidal => "GEOGCRS", _ => "GEODCRS" } => Geodetic {
             name, dynamic, frame, meridian, system, tail
         });
     }
@@ -202,25 +271,25 @@ impl Written for Geodetic<'_> {
 
 impl Written for Projected<'_> {
     fn put(&self, out: &mut Text) {
-        put_node!(self, out, same_projected, "PROJCRS" => Projected { name, base, conversion, system, tail });
+        put_large_node!(self, out, "PROJCRS" => Projected { name, base, conversion, system, tail });
     }
 }
 
 impl Written for Base<'_> {
     fn put(&self, out: &mut Text) {
-        put_node!(self, out, same_base, "BASEGEOGCRS" => Base { name, dynamic, frame, meridian, unit, identifiers });
+        put_large_node!(self, out, "BASEGEOGCRS" => Base { name, dynamic, frame, meridian, unit, identifiers });
     }
 }
 
 impl Written for Vertical<'_> {
     fn put(&self, out: &mut Text) {
-        put_node!(self, out, same_vertical, "VERTCRS" => Vertical { name, dynamic, frame, system, geoid_models, tail });
+        put_large_node!(self, out, "VERTCRS" => Vertical { name, dynamic, frame, system, geoid_models, tail });
     }
 }
 
 impl Written for Compound<'_> {
     fn put(&self, out: &mut Text) {
-        put_node!(self, out, same_compound, "COMPOUNDCRS" => Compound { name, horizontal, vertical, tail });
+        put_large_node!(self, out, "COMPOUNDCRS" => Compound { name, horizontal, vertical, tail });
     }
 }
 
@@ -230,8 +299,7 @@ impl Written for Horizontal<'_> {
             Horizontal::Geodetic(crs) => crs.put(out),
             Horizontal::Projected(crs) => crs.put(out),
         }
-        let is_same = parts::same_horizontal(self, self, Level::Full);
-        look(self, out, is_same, "Horizontal");
+        look_at!(self, out);
     }
 }
 
@@ -241,8 +309,7 @@ impl Written for Frame<'_> {
             Frame::Datum(datum) => datum.put(out),
             Frame::Ensemble(ensemble) => ensemble.put(out),
         }
-        let is_same = parts::same_frame(self, self, Level::Full);
-        look(self, out, is_same, "Frame");
+        look(self, out, parts::same_frame(self, self, Level::Full));
     }
 }
 
@@ -360,8 +427,7 @@ impl Written for Usage<'_> {
         out.open("USAGE");
         out.parts(self);
         out.close();
-        let is_same = parts::same_usage(self, self, Level::Full);
-        look(self, out, is_same, "Usage");
+        look(self, out, parts::same_usage(self, self, Level::Full));
     }
 }
 
