@@ -8,26 +8,23 @@ macro_rules! put_fields {
     };
 }
 
-// The same as a node with this keyword, which may depend on a field, and a look at the node by itself.
-macro_rules! put_node {
-    ($value:ident, $out:ident, $same:ident, $keyword:expr => $kind:ident { $($field:ident $(: $how:ident $(($word:literal))?)?),+ }) => {
-        let $kind { $($field),+ } = $value;
-        $out.open($keyword);
-        $(put_field!($out, $field $(, $how $(($word))?)?);)+
-        $out.close();
-        look($value, $out, parts::$same($value, $value, Level::Full));
-    };
+// Takes each node apart so, with a keyword that may depend on a field, and looks at it by itself.
+macro_rules! nodes {
+    ($($look:ident $($same:ident)?: $keyword:expr => $kind:ident { $($field:ident $(: $how:ident $(($word:literal))?)?),+ })+) => {$(
+        impl Written for $kind<'_> {
+            fn put(&self, out: &mut Text) {
+                let $kind { $($field),+ } = self;
+                out.open($keyword);
+                $(put_field!(out, $field $(, $how $(($word))?)?);)+
+                out.close();
+                $look!(self, out $(, $same)?);
+            }
+        }
+    )+};
 }
 
-// The same of a node with a CRS in it, at which the functions that are named look.
-macro_rules! put_large_node {
-    ($value:ident, $out:ident, $keyword:expr => $kind:ident { $($field:ident $(: $how:ident $(($word:literal))?)?),+ }) => {
-        let $kind { $($field),+ } = $value;
-        $out.open($keyword);
-        $(put_field!($out, $field $(, $how $(($word))?)?);)+
-        $out.close();
-        look_at!($value, $out);
-    };
+macro_rules! look_as {
+    ($value:ident, $out:ident, $same:ident) => { look($value, $out, parts::$same($value, $value, Level::Full)) };
 }
 
 macro_rules! look_at {
@@ -261,35 +258,37 @@ impl Written for Crs<'_> {
     }
 }
 
-impl Written for Geodetic<'_> {
-    fn put(&self, out: &mut Text) {
-        put_large_node!(self, out, match system.system_type { SystemType::Ellipsoidal => "GEOGCRS", _ => "GEODCRS" } => Geodetic {
-            name, dynamic, frame, meridian, system, tail
-        });
+nodes! {
+    look_at: match system.system_type {
+        SystemType::Ellipsoidal => "GEOGCRS", _ => "GEODCRS" } => Geodetic { name, dynamic, frame, meridian, system, tail
     }
-}
-
-impl Written for Projected<'_> {
-    fn put(&self, out: &mut Text) {
-        put_large_node!(self, out, "PROJCRS" => Projected { name, base, conversion, system, tail });
+    look_at: "PROJCRS" => Projected { name, base, conversion, system, tail }
+    look_at: "BASEGEOGCRS" => Base { name, dynamic, frame, meridian, unit, identifiers }
+    look_at: "VERTCRS" => Vertical { name, dynamic, frame, system, geoid_models, tail }
+    look_at: "COMPOUNDCRS" => Compound { name, horizontal, vertical, tail }
+    look_as same_datum: match ellipsoid {
+        Some(_) => "DATUM", None => "VDATUM" } => Datum { name, ellipsoid, anchor: optional_node("ANCHOR"), anchor_epoch: optional_node("ANCHOREPOCH"), identifiers
     }
-}
-
-impl Written for Base<'_> {
-    fn put(&self, out: &mut Text) {
-        put_large_node!(self, out, "BASEGEOGCRS" => Base { name, dynamic, frame, meridian, unit, identifiers });
+    look_as same_ensemble: "ENSEMBLE" => Ensemble {
+        name, members, ellipsoid, accuracy: node("ENSEMBLEACCURACY"), identifiers
     }
-}
-
-impl Written for Vertical<'_> {
-    fn put(&self, out: &mut Text) {
-        put_large_node!(self, out, "VERTCRS" => Vertical { name, dynamic, frame, system, geoid_models, tail });
+    look_as same_member: "MEMBER" => Member { name, identifiers }
+    look_as same_ellipsoid: "ELLIPSOID" => Ellipsoid { name, semi_major_axis, inverse_flattening, unit, identifiers }
+    look_as same_meridian: "PRIMEM" => Meridian { name, longitude, unit, identifiers }
+    look_as same_dynamic: "DYNAMIC" => Dynamic { epoch: node("FRAMEEPOCH"), model }
+    look_as same_deformation_model: "MODEL" => DeformationModel { name, identifiers }
+    look_as same_axis: "AXIS" => Axis {
+        name, direction: as_word, meridian, order: optional_node("ORDER"), unit, identifiers
     }
-}
-
-impl Written for Compound<'_> {
-    fn put(&self, out: &mut Text) {
-        put_large_node!(self, out, "COMPOUNDCRS" => Compound { name, horizontal, vertical, tail });
+    look_as same_axis_meridian: "MERIDIAN" => AxisMeridian { longitude, unit }
+    look_as same_unit: unit_keyword(*kind) => Unit { kind: in_keyword, name, factor, identifiers }
+    look_as same_conversion: "CONVERSION" => Conversion { name, method, parameters, identifiers }
+    look_as same_method: "METHOD" => Method { name, identifiers }
+    look_as same_parameter: "PARAMETER" => Parameter { name, value, unit, identifiers }
+    look_as same_extent: "VERTICALEXTENT" => Extent { minimum, maximum, unit }
+    look_as same_geoid_model: "GEOIDMODEL" => GeoidModel { name, identifiers }
+    look_as same_ident: "ID" => Ident {
+        authority, code: code, version: optional_code, citation: optional_node("CITATION"), uri: optional_node("URI")
     }
 }
 
@@ -313,79 +312,10 @@ impl Written for Frame<'_> {
     }
 }
 
-impl Written for Datum<'_> {
-    fn put(&self, out: &mut Text) {
-        put_node!(self, out, same_datum, match ellipsoid { Some(_) => "DATUM", None => "VDATUM" } => Datum {
-            name, ellipsoid, anchor: optional_node("ANCHOR"),
-            anchor_epoch: optional_node("ANCHOREPOCH"), identifiers
-        });
-    }
-}
-
-impl Written for Ensemble<'_> {
-    fn put(&self, out: &mut Text) {
-        put_node!(self, out, same_ensemble, "ENSEMBLE" => Ensemble {
-            name, members, ellipsoid, accuracy: node("ENSEMBLEACCURACY"), identifiers
-        });
-    }
-}
-
-impl Written for Member<'_> {
-    fn put(&self, out: &mut Text) {
-        put_node!(self, out, same_member, "MEMBER" => Member { name, identifiers });
-    }
-}
-
-impl Written for Ellipsoid<'_> {
-    fn put(&self, out: &mut Text) {
-        put_node!(self, out, same_ellipsoid, "ELLIPSOID" => Ellipsoid {
-            name, semi_major_axis, inverse_flattening, unit, identifiers
-        });
-    }
-}
-
-impl Written for Meridian<'_> {
-    fn put(&self, out: &mut Text) {
-        put_node!(self, out, same_meridian, "PRIMEM" => Meridian { name, longitude, unit, identifiers });
-    }
-}
-
-impl Written for Dynamic<'_> {
-    fn put(&self, out: &mut Text) {
-        put_node!(self, out, same_dynamic, "DYNAMIC" => Dynamic { epoch: node("FRAMEEPOCH"), model });
-    }
-}
-
-impl Written for DeformationModel<'_> {
-    fn put(&self, out: &mut Text) {
-        put_node!(self, out, same_deformation_model, "MODEL" => DeformationModel { name, identifiers });
-    }
-}
-
 impl Written for System<'_> {
     fn put(&self, out: &mut Text) {
         out.open("CS");
         put_fields!(self, out => System { system_type: as_word, dimension, identifiers: to_end, axes, unit });
-    }
-}
-
-impl Written for Axis<'_> {
-    fn put(&self, out: &mut Text) {
-        put_node!(self, out, same_axis, "AXIS" => Axis {
-            name, direction: as_word, meridian, order: optional_node("ORDER"), unit, identifiers
-        });
-    }
-}
-
-impl Written for AxisMeridian<'_> {
-    fn put(&self, out: &mut Text) {
-        put_node!(self, out, same_axis_meridian, "MERIDIAN" => AxisMeridian { longitude, unit });
-    }
-}
-
-impl Written for Unit<'_> {
-    fn put(&self, out: &mut Text) {
-        put_node!(self, out, same_unit, unit_keyword(*kind) => Unit { kind: in_keyword, name, factor, identifiers });
     }
 }
 
@@ -395,24 +325,6 @@ fn unit_keyword(kind: UnitKind) -> &'static str {
         UnitKind::Angle => "ANGLEUNIT",
         UnitKind::Scale => "SCALEUNIT",
         UnitKind::Plain => "UNIT",
-    }
-}
-
-impl Written for Conversion<'_> {
-    fn put(&self, out: &mut Text) {
-        put_node!(self, out, same_conversion, "CONVERSION" => Conversion { name, method, parameters, identifiers });
-    }
-}
-
-impl Written for Method<'_> {
-    fn put(&self, out: &mut Text) {
-        put_node!(self, out, same_method, "METHOD" => Method { name, identifiers });
-    }
-}
-
-impl Written for Parameter<'_> {
-    fn put(&self, out: &mut Text) {
-        put_node!(self, out, same_parameter, "PARAMETER" => Parameter { name, value, unit, identifiers });
     }
 }
 
@@ -433,27 +345,9 @@ impl Written for Usage<'_> {
 
 impl Written for BoundingBox {
     fn put(&self, out: &mut Text) {
-        put_node!(self, out, same_box, "BBOX" => BoundingBox { south, west, north, east });
-    }
-}
-
-impl Written for Extent<'_> {
-    fn put(&self, out: &mut Text) {
-        put_node!(self, out, same_extent, "VERTICALEXTENT" => Extent { minimum, maximum, unit });
-    }
-}
-
-impl Written for GeoidModel<'_> {
-    fn put(&self, out: &mut Text) {
-        put_node!(self, out, same_geoid_model, "GEOIDMODEL" => GeoidModel { name, identifiers });
-    }
-}
-
-impl Written for Ident<'_> {
-    fn put(&self, out: &mut Text) {
-        put_node!(self, out, same_ident, "ID" => Ident {
-            authority, code: code, version: optional_code, citation: optional_node("CITATION"),
-            uri: optional_node("URI")
-        });
+        out.open("BBOX");
+        put_fields!(self, out => BoundingBox { south, west, north, east });
+        out.close();
+        look_as!(self, out, same_box);
     }
 }
