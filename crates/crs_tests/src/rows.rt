@@ -56,49 +56,26 @@ impl<'t> Reader<'t> {
 
     // Asks what a case asks, and prints what came where the case has another answer.
     fn ask(&mut self, rt: &(impl Print + AllocGlobal), case: &'t str) -> io::Result<()> {
-        let mut row = Row::new(rt.alloc());
-        let mut expected = Vec::new(rt.alloc());
-        self.read_case(&mut row, &mut expected, case)?;
-        let mut came = Answer::new(rt.alloc());
-        put_answer(&mut came, &row);
-        self.judge(rt, case, &came, &expected)
-    }
-
-    fn read_case(
-        &self,
-        row: &mut Row<'t>,
-        expected: &mut Vec<u8>,
-        case: &'t str,
-    ) -> io::Result<()> {
-        row.set_call(self.call);
         let mut fields = case.split(" | ");
-        fields.next();
-        for column in self.columns.split(" | ") {
-            let Some(field) = fields.next() else {
-                break;
-            };
+        let name = fields.next().unwrap_or("");
+        let mut row = Row::new(rt.alloc());
+        row.set_call(self.call);
+        let mut expected = Vec::new(rt.alloc());
+        for (column, field) in self.columns.split(" | ").zip(fields) {
             match column {
                 "#" => (),
                 "call" => row.set_call(field),
-                "output" => *expected = self.text_of(field)?,
-                "input" | "times" | "pieces" => self.add(row, column, field)?,
+                "output" => expected = self.text_of(field)?,
+                "input" | "times" | "pieces" => self.add(&mut row, column, field)?,
                 _ => return Err(unusable()),
             }
         }
-        Ok(())
-    }
-
-    fn judge(
-        &mut self,
-        rt: &(impl Print + AllocGlobal),
-        case: &str,
-        came: &Answer,
-        expected: &[u8],
-    ) -> io::Result<()> {
+        let mut came = Answer::new(rt.alloc());
+        put_answer(&mut came, &row);
         self.rows = self.rows.saturating_add(1);
-        if came.bytes()? != expected {
+        if came.bytes()? != expected.as_slice() {
             self.differ = self.differ.saturating_add(1);
-            println!(rt; "{case}:")?;
+            println!(rt; "{name}:")?;
             came.print(rt)?;
         }
         Ok(())

@@ -3,7 +3,7 @@ use crate::turn::Turn;
 use crs_canon::{Canon, canon, canon_of};
 use crs_decimal::Decimal;
 use crs_desk::{Request, RequestFault, request};
-use crs_group::{Catalogue, Placed};
+use crs_group::Catalogue;
 use crs_same::Path;
 use crs_surface::{
     Answer, Page, Row, Run, answer_of, append_part, compared, fed, kind_word, parts_of, put_all,
@@ -18,48 +18,39 @@ use std::{io, str};
 pub fn try_call(rt: &(impl Print + AllocGlobal), row: &Row<'_>) -> io::Result<()> {
     let text = row.part(0);
     match row.call {
-        "read_items" => try_reading(Call::ReadItems(text), rt),
-        "read" => try_reading(Call::Read(text), rt),
-        "canon" => try_reading(Call::Canon(text), rt),
+        "read_items" => try_reading(rt, Call::ReadItems(text)),
+        "read" => try_reading(rt, Call::Read(text)),
+        "canon" => try_reading(rt, Call::Canon(text)),
         "canon_of" => try_of_crs(rt, "canon_of", text),
-        "Feeder::finish" => try_finish(rt, row),
-        "value_of" => try_value_of(rt, text),
+        "Feeder::finish" => {
+            let feeder = fed(rt.alloc(), &parts_of(rt.alloc(), row)?)?;
+            try_reading(rt, Call::Finish(&feeder))
+        }
+        "value_of" => {
+            let items = read_items(rt.alloc(), text).map_err(unmade)?;
+            try_reading(rt, Call::ValueOf(&items))
+        }
         "request" => try_request(rt, row),
         _ => try_change(rt, row),
     }
 }
 
-fn try_finish(rt: &(impl Print + AllocGlobal), row: &Row<'_>) -> io::Result<()> {
-    let pieces = parts_of(rt.alloc(), row)?;
-    let feeder = fed(rt.alloc(), &pieces)?;
-    try_reading(Call::Finish(&feeder), rt)
-}
-
-fn try_value_of(rt: &(impl Print + AllocGlobal), text: &[u8]) -> io::Result<()> {
-    match read_items(rt.alloc(), text) {
-        Ok(items) => try_reading(Call::ValueOf(&items), rt),
-        Err(fault) => Err(unmade(fault)),
-    }
-}
-
 fn try_change(rt: &(impl Print + AllocGlobal), row: &Row<'_>) -> io::Result<()> {
     let text = row.part(0);
-    let (name, words) = row.call.split_once(' ').unwrap_or((row.call, ""));
-    match name {
-        "Decimal::write" => try_number(rt, text),
+    match row.call {
+        "Decimal::write" => match Decimal::parse(text) {
+            Ok(number) => try_append(rt, &Appended::Number(number)),
+            Err(_) => Err(unusable()),
+        },
         "Path::write" => try_path(rt, text, row.part(1)),
         "Set::write" => try_of_crs(rt, "set", text),
-        "Canonical::write" => try_of_crs(rt, words, text),
-        "Feeder::feed" => try_feed(rt, row),
+        "Feeder::feed" => try_feed(rt, row, row.count().saturating_sub(1)),
+        "Feeder::feed all" => try_feed(rt, row, 0),
         "Catalogue::add" => try_add(rt, row),
-        _ => try_run(rt, row),
-    }
-}
-
-fn try_number(rt: &(impl Print + AllocGlobal), text: &[u8]) -> io::Result<()> {
-    match Decimal::parse(text) {
-        Ok(number) => try_append(&Appended::Number(number), rt),
-        Err(_) => Err(unusable()),
+        _ => match row.call.split_once(' ') {
+            Some(("Canonical::write", part)) => try_of_crs(rt, part, text),
+            _ => try_run(rt, row),
+        },
     }
 }
 
@@ -83,10 +74,10 @@ enum Call<'a, 't> {
     Request(&'a [&'t str]),
 }
 
-fn try_reading(call: Call<'_, '_>, rt: &(impl Print + AllocGlobal)) -> io::Result<()> {
+fn try_reading(rt: &(impl Print + AllocGlobal), call: Call<'_, '_>) -> io::Result<()> {
     let mut turn = Turn::begin(rt)?;
     for _turn in 0..2 {
-        read_once(call, &mut turn);
+        read_once(&mut turn, call);
         if turn.is_done(true)? {
             break;
         }
@@ -94,7 +85,7 @@ fn try_reading(call: Call<'_, '_>, rt: &(impl Print + AllocGlobal)) -> io::Resul
     Ok(())
 }
 
-fn read_once<R: Print + AllocGlobal>(call: Call<'_, '_>, turn: &mut Turn<'_, R>) {
+fn read_once<R: Print + AllocGlobal>(turn: &mut Turn<'_, R>, call: Call<'_, '_>) {
     let alloc = turn.alloc();
     match call {
         Call::ReadItems(text) => put_items(turn, read_items(alloc, text)),
@@ -118,16 +109,13 @@ fn put_items<R: Print + AllocGlobal>(turn: &mut Turn<'_, R>, read: Result<Items<
 fn put_value<R: Print + AllocGlobal>(turn: &mut Turn<'_, R>, made: Result<Crs<'_>, Fault>) {
     let out = turn.end();
     match made {
-        Ok(crs) => put_crs(&crs, out),
+        Ok(crs) => {
+            out.put_after(kind_word(crs.kind()), b" ");
+            if let Some(text) = out.made(canon_of(out.alloc(), &crs, Level::Full)) {
+                out.put_bytes(text.bytes());
+            }
+        }
         Err(fault) => out.put_fault(fault),
-    }
-}
-
-fn put_crs(crs: &Crs<'_>, out: &mut Answer) {
-    out.put_after(kind_word(crs.kind()), b" ");
-    match canon_of(out.alloc(), crs, Level::Full) {
-        Ok(text) => out.put_bytes(text.bytes()),
-        Err(error) => out.note(Err(error)),
     }
 }
 
@@ -146,26 +134,22 @@ fn put_asked<R: Print + AllocGlobal>(turn: &mut Turn<'_, R>, asked: Result<Reque
 fn try_request(rt: &(impl Print + AllocGlobal), row: &Row<'_>) -> io::Result<()> {
     let mut words = Vec::new(rt.alloc());
     for index in 0..row.count() {
-        match str::from_utf8(row.part(index)) {
-            Ok(word) => words.push(word)?,
-            Err(_) => return Err(unusable()),
-        }
+        words.push(str::from_utf8(row.part(index)).map_err(|_| unusable())?)?;
     }
-    try_reading(Call::Request(words.as_slice()), rt)
+    try_reading(rt, Call::Request(words.as_slice()))
 }
 
 // `canon_of` the CRS that a text spells, or an append of the part of it that is named.
 fn try_of_crs(rt: &(impl Print + AllocGlobal), call: &str, text: &[u8]) -> io::Result<()> {
     match read(rt.alloc(), text) {
-        Ok(crs) => try_crs(&crs, rt, call),
+        Ok(crs) => {
+            if call == "canon_of" {
+                try_reading(rt, Call::CanonOf(&crs))
+            } else {
+                try_append(rt, &Appended::Part(&crs, call))
+            }
+        }
         Err(fault) => Err(unmade(fault)),
-    }
-}
-
-fn try_crs(crs: &Crs<'_>, rt: &(impl Print + AllocGlobal), call: &str) -> io::Result<()> {
-    match call {
-        "canon_of" => try_reading(Call::CanonOf(crs), rt),
-        _ => try_append(&Appended::Part(crs, call), rt),
     }
 }
 
@@ -194,7 +178,7 @@ impl Appended<'_, '_> {
 const BEFORE: &[u8] = b"before:";
 
 // An append to a vector that has no room left.
-fn try_append(what: &Appended<'_, '_>, rt: &(impl Print + AllocGlobal)) -> io::Result<()> {
+fn try_append(rt: &(impl Print + AllocGlobal), what: &Appended<'_, '_>) -> io::Result<()> {
     let mut bytes = BEFORE.to_vec(rt.alloc())?;
     bytes.shrink_to_fit();
     let mut turn = Turn::begin(rt)?;
@@ -216,57 +200,33 @@ fn try_path<'t>(
     first: &'t [u8],
     second: &'t [u8],
 ) -> io::Result<()> {
-    match compared(rt.alloc(), first, second, Level::Full) {
-        Ok(found) => match &found.path {
-            Some(path) => try_append(&Appended::Path(path), rt),
-            None => Err(unusable()),
-        },
-        Err(fault) => Err(unmade(fault)),
+    let found = compared(rt.alloc(), first, second, Level::Full).map_err(unmade)?;
+    match &found.path {
+        Some(path) => try_append(rt, &Appended::Path(path)),
+        None => Err(unusable()),
     }
 }
 
-// `Feeder::feed` of the last piece, or of `all` in turn. The answer is what the last piece is answered, and what `finish`
-// answers then, which shows which bytes the feeder holds: before, those of the pieces before the refused one.
-fn try_feed(rt: &(impl Print + AllocGlobal), row: &Row<'_>) -> io::Result<()> {
+// `Feeder::feed` of each piece in turn, after so many others. The answer is what the last piece is answered, and what
+// `finish` answers then, which shows which bytes the feeder holds: before, those of the pieces before the refused one.
+fn try_feed(rt: &(impl Print + AllocGlobal), row: &Row<'_>, count: usize) -> io::Result<()> {
     let pieces = parts_of(rt.alloc(), row)?;
-    let count = match row.call {
-        "Feeder::feed all" => 0,
-        _ => pieces.len().saturating_sub(1),
-    };
-    let mut feeder = fed(rt.alloc(), pieces.get(..count).unwrap_or(&[]))?;
-    feed_in_turn(&mut feeder, rt, &pieces, count)
-}
-
-fn feed_in_turn(
-    feeder: &mut Feeder,
-    rt: &(impl Print + AllocGlobal),
-    pieces: &[&[u8]],
-    count: usize,
-) -> io::Result<()> {
     let mut fed_count = count;
+    let mut feeder = fed(rt.alloc(), pieces.get(..count).unwrap_or(&[]))?;
     let mut turn = Turn::begin(rt)?;
     for _turn in 0..2 {
-        let taken = feed(feeder, pieces, &mut fed_count);
-        put_held(turn.end(), taken, feeder);
-        let is_kept = holds(feeder, rt.alloc(), pieces.get(..fed_count).unwrap_or(&[]))?;
-        if turn.is_done(is_kept)? {
+        let taken = feed(&mut feeder, &pieces, &mut fed_count);
+        let out = turn.end();
+        put_taken(out, taken);
+        out.put("; ");
+        put_read(out, feeder.finish());
+        let before = fed(rt.alloc(), pieces.get(..fed_count).unwrap_or(&[]))?;
+        let held = answer_of(feeder.finish(), rt.alloc());
+        if turn.is_done(answer_of(before.finish(), rt.alloc()).is(&held)?)? {
             break;
         }
     }
     Ok(())
-}
-
-fn put_held(out: &mut Answer, taken: Result<(), Fault>, feeder: &Feeder) {
-    put_taken(out, taken);
-    out.put("; ");
-    put_read(out, feeder.finish());
-}
-
-// Whether a feeder answers what one of these pieces does.
-fn holds(feeder: &Feeder, alloc: Global, pieces: &[&[u8]]) -> Result<bool, AllocError> {
-    let own = answer_of(feeder.finish(), alloc);
-    let other = fed(alloc, pieces)?;
-    answer_of(other.finish(), alloc).is(&own)
 }
 
 // What the last piece is answered. After out of memory the refused piece is the next one again.
@@ -288,39 +248,25 @@ fn try_add(rt: &(impl Print + AllocGlobal), row: &Row<'_>) -> io::Result<()> {
         return Err(unusable());
     };
     let mut catalogue = Catalogue::new(rt.alloc(), Level::Full);
+    let mut line: u64 = 1;
     for index in 0..last {
-        catalogue.add((index + 1) as u64, row.part(index))?;
+        catalogue.add(line, row.part(index))?;
+        line = line.saturating_add(1);
     }
-    add_in_turn(&mut catalogue, rt, row.count() as u64, row.part(last))
-}
-
-fn add_in_turn(
-    catalogue: &mut Catalogue,
-    rt: &(impl Print + AllocGlobal),
-    line: u64,
-    text: &[u8],
-) -> io::Result<()> {
-    let before = told(rt.alloc(), catalogue);
+    let before = told(rt.alloc(), &catalogue);
     let mut turn = Turn::begin(rt)?;
     for _turn in 0..2 {
-        let added = catalogue.add(line, text);
-        put_added(turn.end(), added, catalogue);
-        let is_kept = told(rt.alloc(), catalogue).is(&before)?;
-        if turn.is_done(is_kept)? {
+        let added = catalogue.add(line, row.part(last));
+        let out = turn.end();
+        if let Some(placed) = out.made(added) {
+            put_placed(out, placed);
+            put_all(out, &catalogue);
+        }
+        if turn.is_done(told(rt.alloc(), &catalogue).is(&before)?)? {
             break;
         }
     }
     Ok(())
-}
-
-fn put_added(out: &mut Answer, added: Result<Placed, AllocError>, catalogue: &Catalogue) {
-    match added {
-        Ok(placed) => {
-            put_placed(out, placed);
-            put_all(out, catalogue);
-        }
-        Err(error) => out.note(Err(error)),
-    }
 }
 
 fn told(alloc: Global, catalogue: &Catalogue) -> Answer {

@@ -45,15 +45,14 @@ impl<'r, R: Print + AllocGlobal> Turn<'r, R> {
         let is_answered = self.out.bytes().is_ok();
         if is_answered || !self.is_tried {
             self.ended?;
-            let word = if self.is_tried { "answer " } else { "again " };
-            io::writer(self.rt).write_all(word.as_bytes())?;
+            let word = if self.is_tried { "answer" } else { "again" };
+            print!(self.rt; "{word} ")?;
             self.out.print(self.rt)?;
         } else {
             self.is_tried = false;
             self.out = Answer::new(self.rt.alloc());
-            let kept = if is_kept { "yes\n" } else { "no\n" };
-            io::writer(self.rt).write_all(b"answer memory\nkept ")?;
-            io::writer(self.rt).write_all(kept.as_bytes())?;
+            let kept = if is_kept { "yes" } else { "no" };
+            println!(self.rt; "answer memory\nkept {kept}")?;
         }
         Ok(is_answered)
     }
