@@ -13,7 +13,7 @@ pub use crs_text::Refusal;
 pub use crs_value::Level;
 pub use line::job::{Job, JobFault, PATH_WORDS};
 pub use line::matches::request_of_matches;
-pub use line::request;
+pub use line::{is_verbose, request};
 pub use line::requests::{Comparison, Layout, LinePair, Request, RequestFault, Task, Work};
 pub use line::word::{LineWord, LineWords, WordKind};
 pub use runs::answer::{Answer, ForText, TextCommand, write_answer};

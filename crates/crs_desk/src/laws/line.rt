@@ -58,6 +58,31 @@ pub fn the_level_is_a_word()
     ensures whole { (program : Text) → takes desk (program ∷ codes "canon" ∷ codes "--level" ∷ []) ≡ false }
 {}
 
+/// `-v` or `--verbose` changes no request: before a command with any words, and behind one.
+pub fn verbose_changes_no_request()
+    ensures canon { (program : Text) (words : List Text) →
+        asked (program ∷ codes "-v" ∷ codes "canon" ∷ words) ≡ asked (program ∷ codes "canon" ∷ words) }
+    ensures check { (program : Text) (words : List Text) →
+        asked (program ∷ codes "-v" ∷ codes "check" ∷ words) ≡ asked (program ∷ codes "check" ∷ words) }
+    ensures group { (program : Text) (words : List Text) →
+        asked (program ∷ codes "-v" ∷ codes "group" ∷ words) ≡ asked (program ∷ codes "group" ∷ words) }
+    ensures same { (program : Text) (words : List Text) →
+        asked (program ∷ codes "-v" ∷ codes "same" ∷ words) ≡ asked (program ∷ codes "same" ∷ words) }
+    ensures explain { (program : Text) (words : List Text) →
+        asked (program ∷ codes "-v" ∷ codes "explain" ∷ words) ≡ asked (program ∷ codes "explain" ∷ words) }
+    ensures word { (program : Text) → asked (program ∷ codes "--verbose" ∷ codes "check" ∷ []) ≡ Some Check }
+    ensures behind_canon { (program : Text) →
+        asked (program ∷ codes "canon" ∷ codes "--verbose" ∷ []) ≡ Some (Canon (codes "full")) }
+    ensures behind_check { (program : Text) → asked (program ∷ codes "check" ∷ codes "-v" ∷ []) ≡ Some Check }
+    ensures behind_group { (program : Text) →
+        asked (program ∷ codes "group" ∷ codes "-v" ∷ []) ≡ Some (Group (codes "full")) }
+    ensures behind_same { (program first second : Text) → is_plain_word first ≡ true → is_plain_word second ≡ true →
+        asked (program ∷ codes "same" ∷ first ∷ codes "-v" ∷ second ∷ []) ≡ Some (Same first second (codes "full")) }
+    ensures behind_explain { (program first : Text) → is_plain_word first ≡ true →
+        asked (program ∷ codes "explain" ∷ first ∷ codes "--verbose" ∷ [])
+        ≡ Some (Other (codes "full") [] (work.Text manner.Lines first [])) }
+{}
+
 /// With `--repeated` `group` writes the groups of two lines or more, with `--names` names, with `--json` objects.
 pub fn group_has_flags()
     ensures repeated { (program : Text) → asked (program ∷ codes "group" ∷ codes "--repeated" ∷ [])
