@@ -54,7 +54,9 @@ fn tell_reason(rt: &HostRuntime, fault: &Fault, words: &[Vec<u8>]) {
     match fault {
         Fault::Word => tell_bad_words(rt, words),
         Fault::Job(JobFault::Part) => {
-            let _ = eprintln!(rt; "crsdesk: --first takes words of paths: {PATH_WORDS}");
+            if let Ok(words) = PATH_WORDS.join(rt.alloc(), ", ") {
+                let _ = eprintln!(rt; "crsdesk: --first takes words of paths: {words}");
+            }
         }
         Fault::Read(error) => {
             let _ = eprintln!(rt; "crsdesk: standard input: {error}");
