@@ -285,42 +285,71 @@ with_files [] last = record { rows = []; pending = Some (codes "file", last ∷ 
 with_files (name ∷ names) last =
     record { rows = files_row (name ∷ names) ∷ []; pending = Some (codes "file", last ∷ []); skip = 0 }
 
-abbrev at_files : List Text → Text → Walk
-at_files names last = before (with_files names last) positional 1
+-- a walk before files, behind `--` or not, and after some
+abbrev to_files : Bool → Walk
+to_files is_all = record (walk_from nothing_held) { is_trailing = is_all }
+
+abbrev at_files : Bool → List Text → Text → Walk
+at_files is_all names last = record (before (with_files names last) positional 1) { is_trailing = is_all }
+
+-- any word behind `--` is a file, and one that is no flag
+abbrev is_file : Bool → Text → Bool
+is_file is_all word = is_all || is_plain_word word
 
 -- a task over files
 abbrev over_files : Task → List Text → Request
 over_files wanted names = Other (codes "full") [] (Files wanted names [])
 
 -- a command goes to a first file and on to a next, and at the end its task is asked for over the files
-abbrev pub ReadsFiles : CommandName → Task → Type 0
-ReadsFiles n wanted = (names : List Text) (last word : Text)
-    → (is_plain_word word ≡ true → Goes (built_at n) (walk_from nothing_held) word (at_files [] word))
-    × (is_plain_word word ≡ true → Goes (built_at n) (at_files names last) word (at_files (names ++ last ∷ []) word))
+abbrev pub ReadsFiles : CommandName → Task → Bool → Type 0
+ReadsFiles n wanted is_all = (names : List Text) (last word : Text)
+    → (is_file is_all word ≡ true → Goes (built_at n) (to_files is_all) word (at_files is_all [] word))
+    × (is_file is_all word ≡ true → Goes (built_at n) (at_files is_all names last) word (at_files is_all (names ++ last ∷ []) word))
     × (request_of (name_of n, finished (built_at n).rules (with_files names last)) ≡ Some (over_files wanted (names ++ last ∷ [])))
-    × (ends (built_at n) (at_files names last) ≡ true)
+    × (ends (built_at n) (at_files is_all names last) ≡ true)
 
 -- names are taken to the last
-files_run : (n : CommandName) (wanted : Task) → ReadsFiles n wanted
-    → (names : List Text) (last : Text) (words : List Text) → list_all is_plain_word words ≡ true
-    → (past : List Text) × (end : Text) × (names ++ last ∷ words ≡ past ++ end ∷ []) × Runs (built_at n) (at_files names last) words (at_files past end)
-files_run n wanted reads names last [] usual = (names, last, refl, stays (built_at n) (at_files names last))
-files_run n wanted reads names last (word ∷ words) usual =
-    let each = both (is_plain_word word) _ usual in
-    let rest = files_run n wanted reads (names ++ last ∷ []) word words each.1 in (
+files_run : (n : CommandName) (wanted : Task) (is_all : Bool) → ReadsFiles n wanted is_all
+    → (names : List Text) (last : Text) (words : List Text) → list_all (is_file is_all) words ≡ true
+    → (past : List Text) × (end : Text) × (names ++ last ∷ words ≡ past ++ end ∷ [])
+    × Runs (built_at n) (at_files is_all names last) words (at_files is_all past end)
+files_run n wanted is_all reads names last [] usual = (names, last, refl, stays (built_at n) (at_files is_all names last))
+files_run n wanted is_all reads names last (word ∷ words) usual =
+    let each = both (is_file is_all word) _ usual in
+    let rest = files_run n wanted is_all reads (names ++ last ∷ []) word words each.1 in (
       rest.0,
       rest.1,
       sym (append_assoc names (last ∷ []) (word ∷ words)) ∙ rest.2,
-      goes_on (built_at n) (at_files names last) (at_files (names ++ last ∷ []) word) (at_files rest.0 rest.1) word words
-          ((reads names last word).1 each.0) rest.3,
+      goes_on (built_at n) (at_files is_all names last) (at_files is_all (names ++ last ∷ []) word) (at_files is_all rest.0 rest.1) word
+          words ((reads names last word).1 each.0) rest.3,
     )
 
-pub files_asked : (n : CommandName) (wanted : Task) → ReadsFiles n wanted → (program name : Text) (names : List Text)
-    → list_all is_plain_word (name ∷ names) ≡ true → asked (program ∷ name_of n ∷ name ∷ names) ≡ Some (Other (codes "full") [] (Files wanted (name ∷ names) []))
-files_asked n wanted reads program name names usual =
-    let each = both (is_plain_word name) _ usual in
-    let run = files_run n wanted reads [] name names each.1 in
-    let to = at_files run.0 run.1 in
+-- words before files, and the files
+files_behind : (n : CommandName) (wanted : Task) (is_all : Bool) → ReadsFiles n wanted is_all → (program name : Text) (front names : List Text)
+    → list_all (is_file is_all) (name ∷ names) ≡ true
+    → ((to : Walk) → Runs (built_at n) (to_files is_all) (name ∷ names) to → Runs (built_at n) (walk_from nothing_held) (front ++ name ∷ names) to)
+    → asked (program ∷ name_of n ∷ front ++ name ∷ names) ≡ Some (over_files wanted (name ∷ names))
+files_behind n wanted is_all reads program name front names usual leads =
+    let each = both (is_file is_all name) _ usual in
+    let run = files_run n wanted is_all reads [] name names each.1 in
+    let to = at_files is_all run.0 run.1 in
     let end = reads run.0 run.1 name in
-    line_asked n program (name ∷ names) to (goes_on (built_at n) (walk_from nothing_held) (at_files [] name) to name names (end.0 each.0) run.3) end.3
+    line_asked n program (front ++ name ∷ names) to
+    (leads to (goes_on (built_at n) (to_files is_all) (at_files is_all [] name) to name names (end.0 each.0) run.3)) end.3
     ∙ end.2 ∙ sym (ap (λ l. Some (over_files wanted l)) run.2)
+
+pub files_asked : (n : CommandName) (wanted : Task) → ReadsFiles n wanted false → (program name : Text) (names : List Text)
+    → list_all is_plain_word (name ∷ names) ≡ true → asked (program ∷ name_of n ∷ name ∷ names) ≡ Some (over_files wanted (name ∷ names))
+files_asked n wanted reads program name names usual = files_behind n wanted false reads program name [] names usual (λ to runs. runs)
+
+-- behind `--` each word is a file
+all_files : (words : List Text) → list_all (is_file true) words ≡ true
+all_files [] = refl
+all_files (word ∷ words) = all_files words
+
+pub all_asked : (n : CommandName) (wanted : Task) → ReadsFiles n wanted true → (program name : Text) (names : List Text)
+    → asked (program ∷ name_of n ∷ codes "--" ∷ name ∷ names) ≡ Some (over_files wanted (name ∷ names))
+unfolding walked
+all_asked n wanted reads program name names =
+    files_behind n wanted true reads program name (codes "--" ∷ []) names (all_files (name ∷ names))
+    (λ to runs. goes_on (built_at n) (walk_from nothing_held) (to_files true) to (codes "--") (name ∷ names) (refl, refl) runs)

@@ -103,6 +103,10 @@ is_verbose (word ∷ words) =
     not (bytes_eq word (codes "--"))
     && (bytes_eq word (codes "-v") || bytes_eq word (codes "--verbose") || is_verbose words)
 
+-- a flag before other words, where it is asked for
+abbrev pub if_asked : Bool → Text → List Text → List Text
+if_asked is flag words = if is then flag ∷ words else words
+
 -- a line is refused only where the command doesn't take it, by an error that it gives for the
 -- words; out of memory is another fault
 abbrev pub IsRefusal : List Text → RequestFault → Type 0
