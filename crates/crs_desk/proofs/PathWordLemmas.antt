@@ -10,7 +10,8 @@ use Rattle.crs_same.specs.declared.step.Step.{Step}
 use Rattle.crs_same.specs.declared.step.Step.TheVariants as step
 use Rattle.crs_desk.specs.declared.line.job.JobFault.{JobFault}
 use Rattle.crs_desk.specs.declared.line.job.JobFault.TheVariants as fault
-use Rattle.crs_desk.specs.Requests.{IsInPaths, IsPartFault, parted, word_meant, word_of, words_meant}
+use Rattle.crs_desk.specs.inner.PartFault.{IsPartFault}
+use Rattle.crs_desk.specs.Requests.{IsInPaths, parted, word_meant, word_of, words_meant}
 
 -- ---- words
 

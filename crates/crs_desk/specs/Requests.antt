@@ -191,12 +191,6 @@ IsJobOf (Same first second level) job =
 IsJobOf (Group level) job = DoesAt level [] (work.Standard (task.Group plain)) job
 IsJobOf (Other level order wanted) job = DoesAt level order wanted job
 
--- not each of these words is in paths, or memory ran out
-abbrev pub IsPartFault : List Text → JobFault → Type 0
-IsPartFault words fault.Level = ⊥
-IsPartFault words fault.Part = ¬ (Each IsInPaths words)
-IsPartFault words fault.Memory = Unit {0}
-
 -- a word names no level, or one does and not each word that is asked for is in paths; or memory ran out
 abbrev pub IsJobFaultAt : Text → List Text → JobFault → Type 0
 IsJobFaultAt level order fault.Level = level_named level ≡ None

@@ -3,7 +3,8 @@ ghost use Rattle.std.specs.Prelude.{◌≡◌, ◌↔◌, ◌++◌, ◌∷◌, [
 ghost use Rattle.std.specs.List.{list_any};
 ghost use Rattle.std.specs.Str.{bytes_eq};
 ghost use Rattle.crs_value.specs.Sound.{Each};
-ghost use Rattle.crs_desk.specs.Requests.{DoesAt, IsInPaths, IsJobFault, IsJobFaultAt, IsJobOf, IsPartFault};
+ghost use Rattle.crs_desk.specs.inner.PartFault.{IsPartFault};
+ghost use Rattle.crs_desk.specs.Requests.{DoesAt, IsInPaths, IsJobFault, IsJobFaultAt, IsJobOf};
 ghost use Rattle.crs_desk.specs.Requests.{level_named, order_of, word_meant, words_meant};
 
 use crate::{
@@ -116,7 +117,12 @@ impl Request {
                 let work = Work::Standard(Task::Group(PLAIN));
                 at_level(alloc, &level, &[], work)
             }
-            Request::Other { level, order, work } => at_level(alloc, &level, order.as_slice(), work),
+            Request::Other { level, order, work } => at_level(
+                alloc,
+                &level,
+                order.as_slice(),
+                work,
+            ),
         }
     }
 }

@@ -1,4 +1,4 @@
-use Rattle.std.proofs.Common.{[], codes, refl, ◌∷◌}
+use Rattle.std.proofs.Common.{[], codes, false, refl, ◌∷◌}
 use Rattle.clap.proofs.OnLiterals.{clap_on_literals}
 use Rattle.clap.specs.Walk.{idle, nothing_held, positional}
 use Rattle.crs_group.specs.GroupOutput.{plain}

@@ -12,9 +12,11 @@ pub loop-word-preserved : goal.loop-word-preserved
 loop-word-preserved c =
     let l = c.loop-word in
     let cut = rw c.in-Some.is at (split_parts 44 l.rest.now c.split_once.result c.split_once.ensures.cases (omega arith)) in
-    let words = words_at l.rest.now c.in-Some.word.now c.in-Some.left.now cut in
-    (search rules, more_added _ _ _ _ (word_meant c.in-Some.word.now ∷ []) _ _ l.invariant.1 words
-    (c.in_ok-add_word.ensures.ok.0, (c.in_ok-add_word.ensures.ok.1, tt)))
+    let words = words_at l.rest.now c.in-Some.word.now c.in-Some.left.now cut in (
+      search rules,
+      more_added _ _ _ _ (word_meant c.in-Some.word.now ∷ []) _ _ l.invariant.1 words
+          (c.in_ok-add_word.ensures.ok.0, (c.in_ok-add_word.ensures.ok.1, tt)),
+    )
 
 pub returns-in_err-add_word-clause-fault : goal.returns-in_err-add_word-clause-fault
 returns-in_err-add_word-clause-fault c =
