@@ -99,10 +99,12 @@ pub fn is_verbose(words: &[Vec<u8>]) -> bool
     ensures { result ≡ is_verbose (map (λ word. word.items) words.now) }
 {
     for word in words {
-        match word.as_slice() {
-            b"--" => return false,
-            b"-v" | b"--verbose" => return true,
-            _ => {}
+        let word = word.as_slice();
+        if word == b"--".as_slice() {
+            return false;
+        }
+        if word == b"-v".as_slice() || word == b"--verbose".as_slice() {
+            return true;
         }
     }
     false
