@@ -11,7 +11,6 @@ use Rattle.crs_group.specs.declared.listing.Listing.{Listing}
 use Rattle.crs_same.specs.Paths.{step_text}
 use Rattle.crs_same.specs.declared.step.Step.{Step}
 use Rattle.crs_same.specs.declared.step.Step.TheVariants as step
-use Rattle.crs_explain.specs.InOrder.{word_at}
 use Rattle.crs_desk.specs.declared.line.job.Job.{Job}
 use Rattle.crs_desk.specs.declared.line.job.JobFault.{JobFault}
 use Rattle.crs_desk.specs.declared.line.job.JobFault.TheVariants as fault
@@ -167,7 +166,7 @@ order_of given = flat_map words_meant given
 
 -- the word of a step of a path: its text, of an axis without the position
 abbrev pub word_of : Step → Text
-word_of (step.Axis position) = word_at (step_text (step.Axis 1))
+word_of (step.Axis position) = codes "axis"
 word_of other = step_text other
 
 -- a word is in paths: it is that of a step

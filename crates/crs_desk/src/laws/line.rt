@@ -1,8 +1,10 @@
 //! Laws of the definitions, as contracts of functions that do nothing.
-ghost use Rattle.std.specs.Prelude.{◌≡◌, ◌≢◌, ◌<◌, ℕ, Bool, [], ◌∷◌, ◌++◌, List, Some, IsSome, true, false, codes};
+ghost use Rattle.std.specs.Prelude.{◌≡◌, ◌≢◌, ◌<◌, ℕ, Bool, [], ◌∷◌, ◌++◌, List, Some, IsSome, true, false, codes, decimal};
 ghost use Rattle.std.specs.List.{list_all};
 ghost use Rattle.clap.specs.Words.{Text, takes};
-ghost use Rattle.crs_desk.specs.Requests.{request_for, standard};
+ghost use Rattle.crs_same.specs.Paths.{step_text};
+ghost use Rattle.crs_same.specs.declared.step.Step.TheVariants.{Axis};
+ghost use Rattle.crs_desk.specs.Requests.{request_for, standard, word_of};
 ghost use Rattle.crs_group.specs.GroupOutput.{plain};
 ghost use Rattle.crs_desk.specs.CommandLine.{asked, desk, if_asked, is_plain_word};
 ghost use Rattle.crs_desk.specs.declared.line.requests.Layout.TheVariants.{Lines, OneText};
@@ -95,6 +97,11 @@ pub fn group_has_flags()
     ensures after { (program level : Text) → is_plain_word level ≡ true →
         asked (program ∷ codes "group" ∷ codes "--level" ∷ level ∷ codes "--repeated" ∷ [])
         ≡ Some (Other level [] (work.Standard (task.Group (record { repeated = true; names = false; json = false })))) }
+{}
+
+/// The text of a step to an axis is its word, which `--first` takes, and the axis's position.
+pub fn axes_have_one_word()
+    ensures { (position : ℕ) → step_text (Axis position) ≡ word_of (Axis position) ++ decimal position }
 {}
 
 /// With `--lines`, before the level or after it, `canon` takes each line as a text. `check` takes each line as a text
