@@ -40,13 +40,20 @@ fn report(rt: &HostRuntime, fault: &Fault) -> u8 {
         return FAULT;
     }
     let _ = eprintln!(rt; "crsdesk: {fault}");
-    if let Fault::Word | Fault::Job(JobFault::Part) | Fault::Read(_) | Fault::Write(_) = fault
+    if has_reason(fault)
         && let Ok(words) = words_of(rt)
         && is_verbose(&words)
     {
         tell_reason(rt, fault, &words);
     }
     FAULT
+}
+
+fn has_reason(fault: &Fault) -> bool {
+    matches!(
+        fault,
+        Fault::Word | Fault::Job(JobFault::Part) | Fault::Read(_) | Fault::Write(_)
+    )
 }
 
 // Why a fault came, where that is known.

@@ -39,12 +39,16 @@ pub fn words_of(rt: &HostRuntime) -> Result<Vec<Vec<u8>>, AllocError> {
 
 /// A line for each of these words that isn't UTF-8, with its bytes: those outside ASCII as `\xHH`.
 pub fn tell_bad_words(rt: &HostRuntime, words: &[Vec<u8>]) {
-    for (place, word) in words.iter().enumerate() {
-        if str::from_utf8(word).is_err()
-            && let Ok(shown) = bytes_shown(rt.alloc(), word)
-        {
-            let _ = eprintln!(rt; "crsdesk: word {}: {shown}", place + 1);
-        }
+    for place in 0..words.len() {
+        tell_bad_word(rt, place + 1, words[place].as_slice());
+    }
+}
+
+fn tell_bad_word(rt: &HostRuntime, number: usize, word: &[u8]) {
+    if str::from_utf8(word).is_err()
+        && let Ok(shown) = bytes_shown(rt.alloc(), word)
+    {
+        let _ = eprintln!(rt; "crsdesk: word {number}: {shown}");
     }
 }
 
