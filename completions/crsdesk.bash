@@ -2,7 +2,7 @@
 # stand the shell offers files: those of check, canon and group, after --files of same and explain, and after --rules.
 
 _crsdesk() {
-    local word=${COMP_WORDS[COMP_CWORD]} before=${COMP_WORDS[COMP_CWORD - 1]} words= front=
+    local word=${COMP_WORDS[COMP_CWORD]} before=${COMP_WORDS[COMP_CWORD - 1]} words= front= at=1
 
     # bash cuts --level=WORD and --first=WORDS at their equals signs.
     if [[ $word == = && ($before == --level || $before == --first) ]]; then
@@ -10,9 +10,11 @@ _crsdesk() {
     elif [[ $before == = ]]; then
         before=${COMP_WORDS[COMP_CWORD - 2]}
     fi
-    if ((COMP_CWORD == 1)); then
-        words='canon check group same explain help -h --help -V --version'
-    elif [[ " ${COMP_WORDS[*]:2:COMP_CWORD-2} " == *' -- '* ]]; then
+    # The command stands behind -v where that is first.
+    [[ ${COMP_WORDS[1]} == @(-v|--verbose) ]] && ((COMP_CWORD > 1)) && at=2
+    if ((COMP_CWORD == at)); then
+        words='canon check group same explain help -h --help -v --verbose -V --version'
+    elif [[ " ${COMP_WORDS[*]:at + 1:COMP_CWORD-at-1} " == *' -- '* ]]; then
         : # After -- no word is an option.
     elif [[ $before == --level ]]; then
         words='full definition'
@@ -22,16 +24,17 @@ _crsdesk() {
         words+=' unit usage vertical'
         # Of several words, with commas between them, the last one is completed.
         [[ $word == *,* ]] && front=${word%,*},
-    elif [[ ${COMP_WORDS[1]} == help ]]; then
-        ((COMP_CWORD == 2)) && words='canon check group same explain help'
+    elif [[ ${COMP_WORDS[at]} == help ]]; then
+        ((COMP_CWORD == at + 1)) && words='canon check group same explain help'
     elif [[ $word == -* ]]; then
-        case ${COMP_WORDS[1]} in
+        case ${COMP_WORDS[at]} in
         canon) words='--level --lines --rules -h --help' ;;
         group) words='--level --rules --json --repeated --names -h --help' ;;
         same) words='--files --level --rules -h --help' ;;
         explain) words='--files --first --json --level --rules -h --help' ;;
         check) words='--lines -h --help' ;;
         esac
+        words+=' -v --verbose'
     fi
     # Where one of these words must stand no files are offered.
     [[ $words ]] && compopt +o bashdefault +o default

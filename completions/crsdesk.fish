@@ -17,6 +17,7 @@ complete -c crsdesk -n $none -s V -l version -d 'Print the version'
 # A word that begins with - is a file after -- alone.
 complete -c crsdesk -n "string match -q -- '-*' (commandline -ct); and not contains -- -- (commandline -opc)" -f
 complete -c crsdesk -s h -l help -d 'Print help'
+complete -c crsdesk -n 'not __fish_seen_subcommand_from help' -s v -l verbose -d 'Tell the reason of a fault too'
 complete -c crsdesk -n '__fish_seen_subcommand_from canon group same explain' -l level -x -a 'full definition' -d 'What counts'
 complete -c crsdesk -n '__fish_seen_subcommand_from canon group same explain' -l rules -r -d 'Count as the same what the rules in a file say'
 complete -c crsdesk -n '__fish_seen_subcommand_from canon check' -l lines -d 'Take each line as a text'

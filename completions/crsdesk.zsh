@@ -2,7 +2,7 @@
 # Completion of crsdesk's command line for zsh.
 
 _crsdesk() {
-    local -a commands level rules lines repeated names files json first help
+    local -a commands level rules lines repeated names files json first verbose help
     local file=_files
     commands=(
         'canon:write the canonical text'
@@ -20,11 +20,17 @@ _crsdesk() {
     files=('--files[take the operands as names of files]')
     json=('--json[write objects of JSON, one a line]')
     first=('*--first=[tell the parts first whose paths have these words]:words:_sequence compadd - accuracy anchor anchorepoch axis base conversion datum dimension direction dynamic ellipsoid epoch flattening geoid horizontal id kind longitude members meridian method model name parameters remark semimajor system type unit usage vertical')
+    verbose=('(-v --verbose)'{-v,--verbose}'[tell the reason of a fault too]')
     help=('(- *)'{-h,--help}'[print help]')
 
+    # -v may stand before the command.
+    if [[ CURRENT -gt 2 && $words[2] == (-v|--verbose) ]]; then
+        shift words
+        (( CURRENT-- ))
+    fi
     if (( CURRENT == 2 )); then
         _describe command commands
-        _arguments $help '(- *)'{-V,--version}'[print the version]'
+        _arguments $help $verbose '(- *)'{-V,--version}'[print the version]'
         return
     fi
     local command=$words[2]
@@ -33,11 +39,11 @@ _crsdesk() {
     # A word that begins with - is a file after -- alone.
     [[ $PREFIX == -* && ${words[(i)--]} -ge CURRENT ]] && file=false
     case $command in
-        canon) _arguments -S $level $rules $lines $help '*:file:'$file ;;
-        check) _arguments -S $lines $help '*:file:'$file ;;
-        group) _arguments -S $level $rules $json $repeated $names $help '*:file:'$file ;;
-        same) _arguments -S $files $level $rules $help '1:first:'$file '2:second:'$file ;;
-        explain) _arguments -S $files $first $json $level $rules $help '1:first:'$file '2:second:'$file ;;
+        canon) _arguments -S $level $rules $lines $verbose $help '*:file:'$file ;;
+        check) _arguments -S $lines $verbose $help '*:file:'$file ;;
+        group) _arguments -S $level $rules $json $repeated $names $verbose $help '*:file:'$file ;;
+        same) _arguments -S $files $level $rules $verbose $help '1:first:'$file '2:second:'$file ;;
+        explain) _arguments -S $files $first $json $level $rules $verbose $help '1:first:'$file '2:second:'$file ;;
         help) (( CURRENT == 2 )) && _describe command commands ;;
     esac
 }

@@ -96,7 +96,10 @@ README = {
 }
 # Other words, after crsdesk: what is typed, and what the line is then.
 TYPED = {
-    "--v\t": "--version ",
+    "--vers\t": "--version ",
+    "--verb\tch\t--li\t": "--verbose check --lines ",
+    "-v h\te\t": "-v help explain ",
+    "group --v\t": "group --verbose ",
     "h\te\t": "help explain ",
     "check --l\t": "check --lines ",
     "group --j\t--rep\t--n\t": "group --json --repeated --names ",
@@ -279,7 +282,7 @@ def test_shown(start: str, shells: Shells, program: pathlib.Path) -> None:
         shell.shows(f"crsdesk {command} -{tab}", options)
         shell.shows(f"crsdesk {command} {tab}", ["-dash.wkt", "examples", "rules"])
     shell.shows(f"crsdesk same --level {tab}", ["full", "definition"])
-    fault = run([program, "explain", "--first", "x", HEIGHT, HEIGHT]).stderr
+    fault = run([program, "explain", "-v", "--first", "x", HEIGHT, HEIGHT]).stderr
     words = fault.partition("takes words of paths: ")[2].strip().split(", ")
     assert len(words) > 30, fault
     shell.shows(f"crsdesk explain --first {tab}", words)

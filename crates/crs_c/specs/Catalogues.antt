@@ -5,7 +5,7 @@ use Rattle.crs_value.specs.declared.values.level.Level.{Level}
 use Rattle.crs_value.specs.declared.values.level.Level.TheVariants as level
 use Rattle.crs_group.specs.Catalogue.{CatalogueParts, Line, line_of, nth}
 use Rattle.crs_group.specs.GroupTexts.{IsCatalogue, IsCatalogueOf, then_line, PlacedLine}
-use Rattle.crs_group.specs.UnderRules.{IsCatalogueUnder}
+use Rattle.crs_group.specs.UnderRules.{IsCatalogueOfUnder, IsCatalogueUnder}
 use Rattle.crs_rules.specs.Rules.{RulesParts}
 use Rattle.crs_group.specs.declared.placed.Placed.{Placed}
 use Rattle.crs_group.specs.declared.placed.Placed.TheVariants as placed
@@ -25,6 +25,7 @@ empty_at level = record { level = level; groups = []; refused = [] }
 unfoldable pub IsMadeEmpty : ℕ → CatalogueParts → ℕ → Type 0
 IsMadeEmpty number made code =
     IsCatalogueOf [] made × ((rules : RulesParts) → IsCatalogueUnder rules [] made)
+    × ((rules : RulesParts) → IsCatalogueOfUnder rules [] made)
     × MatchOption (level_numbered number) ((made ≡ empty_at level.Full) × (code ≡ 4))
     (λ l. (made ≡ empty_at l) × (code ≡ 0))
 
@@ -56,6 +57,8 @@ IsAddedUnder rules number text old new told =
     ((place : Placed) × (told ≡ standing_of place)
     × ((places : List PlacedLine) → IsCatalogueUnder rules places old →
     IsCatalogueUnder rules (then_line places number text place) new)
+    × ((lines : List Line) → IsCatalogueOfUnder rules lines old →
+    IsCatalogueOfUnder rules (lines ++ line_of number text ∷ []) new)
     × (new.level ≡ old.level))
     ⊎ ((told ≡ without_memory) × (new ≡ old))
 

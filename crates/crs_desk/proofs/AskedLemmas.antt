@@ -8,13 +8,13 @@ use Rattle.std.specs.List.{fold, list_all}
 use Rattle.std.proofs.lemmas.Bool.{false_from_ne_true}
 use Rattle.std.proofs.lemmas.Slice.Eq.{bytes_eq-Decides}
 use Rattle.clap.specs.Simple.{entered, filled, filled_from, help_rule, names_of, new_shape, with_index}
-use Rattle.clap.specs.Walk.{Held, Names, Step, Waiting, Walk, idle, positional, trailing, reading_by, after_step, finished, long_or_other, nothing_held, plain_word, rows_after, short_or_plain, subcommand_met, subcommand_or_other, walk_from, walked, word_met}
+use Rattle.clap.specs.Walk.{Held, Names, Step, Waiting, Walk, idle, positional, reacted, trailing, reading_by, after_step, finished, long_or_other, nothing_held, plain_word, rows_after, short_or_plain, subcommand_met, subcommand_or_other, walk_from, walked, word_met}
 use Rattle.clap.specs.Takes.{bundle_passes, default_passes, entered_passes, flag_word_passes, is_valid, level_passes, other_passes, settle_passes, step_passes, turn_passes, walk_passes, word_passes}
 use Rattle.clap.specs.declared.parser.matches.ValueSource.TheVariants.{CommandLine}
 use Rattle.clap.proofs.OnLiterals.{clap_on_literals}
 use Rattle.clap.proofs.WalkLemmas.{both}
 use Rattle.crs_desk.specs.Requests.{request_of}
-use Rattle.crs_desk.specs.CommandLine.{asked, desk, file_operands, first_option, flag, is_plain_word, level_option, rules_option, spare_operand}
+use Rattle.crs_desk.specs.CommandLine.{asked, desk, file_operands, first_option, flag, is_plain_word, level_option, rules_option, spare_operand, verbose_flag}
 use Rattle.crs_desk.specs.declared.line.requests.Request.{Request}
 use Rattle.crs_desk.specs.declared.line.requests.Request.TheVariants.{Other}
 use Rattle.crs_desk.specs.declared.line.requests.Task.{Task}
@@ -163,12 +163,12 @@ built_with name own = record (new_shape name) {
 
 -- the commands, as `clap` builds them
 abbrev pub built_at : CommandName → Shape
-built_at canon = built_with (codes "canon") (level_option ∷ rules_option ∷ flag (codes "lines") ∷ file_operands ∷ help_rule ∷ [])
-built_at check = built_with (codes "check") (flag (codes "lines") ∷ file_operands ∷ help_rule ∷ [])
-built_at group = built_with (codes "group") (level_option ∷ rules_option ∷ flag (codes "json") ∷ flag (codes "repeated") ∷ flag (codes "names") ∷ file_operands ∷ help_rule ∷ [])
+built_at canon = built_with (codes "canon") (level_option ∷ rules_option ∷ flag (codes "lines") ∷ file_operands ∷ verbose_flag ∷ help_rule ∷ [])
+built_at check = built_with (codes "check") (flag (codes "lines") ∷ file_operands ∷ verbose_flag ∷ help_rule ∷ [])
+built_at group = built_with (codes "group") (level_option ∷ rules_option ∷ flag (codes "json") ∷ flag (codes "repeated") ∷ flag (codes "names") ∷ file_operands ∷ verbose_flag ∷ help_rule ∷ [])
 built_at same = built_same
 built_at explain = built_with (codes "explain")
-    (spare_operand (codes "first") ∷ spare_operand (codes "second") ∷ flag (codes "json") ∷ first_option ∷ level_option ∷ rules_option ∷ flag (codes "files") ∷ help_rule ∷ [])
+    (spare_operand (codes "first") ∷ spare_operand (codes "second") ∷ flag (codes "json") ∷ first_option ∷ level_option ∷ rules_option ∷ flag (codes "files") ∷ verbose_flag ∷ help_rule ∷ [])
 
 abbrev top : Shape
 top = (built desk).top
@@ -177,9 +177,9 @@ abbrev desk_names : Names
 desk_names = names_of (built desk)
 
 -- the desk's walk behind the name of a command, and the words since
-abbrev stopped_at : Text → List Text → Walk
-stopped_at name words = record {
-  held = nothing_held;
+abbrev stopped_at : Held → Text → List Text → Walk
+stopped_at held name words = record {
+  held = held;
   waiting = idle;
   position = 1;
   is_trailing = false;
@@ -187,14 +187,14 @@ stopped_at name words = record {
 }
 
 -- it takes all words that follow
-stopped_runs : (name : Text) (past words : List Text)
-    → (fold (walked top.rules desk_names) (stopped_at name past) words ≡ stopped_at name (past ++ words))
-    × (walk_passes top desk_names (stopped_at name past) words ≡ true)
+stopped_runs : (held : Held) (name : Text) (past words : List Text)
+    → (fold (walked top.rules desk_names) (stopped_at held name past) words ≡ stopped_at held name (past ++ words))
+    × (walk_passes top desk_names (stopped_at held name past) words ≡ true)
 unfolding walked walk_passes
-stopped_runs name past [] = (ap (stopped_at name) (sym (append-nil past)), refl)
-stopped_runs name past (word ∷ words) =
-    let rest = stopped_runs name (past ++ word ∷ []) words in
-    (rest.0 ∙ ap (stopped_at name) (append_assoc past (word ∷ []) words), rest.1)
+stopped_runs held name past [] = (ap (stopped_at held name) (sym (append-nil past)), refl)
+stopped_runs held name past (word ∷ words) =
+    let rest = stopped_runs held name (past ++ word ∷ []) words in
+    (rest.0 ∙ ap (stopped_at held name) (append_assoc past (word ∷ []) words), rest.1)
 
 -- what is left of a line that is taken, after the desk's own walk
 abbrev passes_at : Walk → Bool → Bool
@@ -206,19 +206,43 @@ passes_at w walks =
 abbrev asks_at : Walk → Option Request
 asks_at w = option_and_then request_of (entered (built desk) w.stopped)
 
-words_behind : (name : Text) (words : List Text) → let end = fold (walked top.rules desk_names) (stopped_at name []) words in
-    (passes_at end (walk_passes top desk_names (stopped_at name []) words) ≡ passes_at (stopped_at name words) true) × (asks_at end ≡ asks_at (stopped_at name words))
-words_behind name words = let run = stopped_runs name [] words in (ap₂ passes_at run.0 run.1, ap asks_at run.0)
+words_behind : (held : Held) (name : Text) (words : List Text) → let end = fold (walked top.rules desk_names) (stopped_at held name []) words in
+    (passes_at end (walk_passes top desk_names (stopped_at held name []) words) ≡ passes_at (stopped_at held name words) true)
+    × (asks_at end ≡ asks_at (stopped_at held name words))
+words_behind held name words = let run = stopped_runs held name [] words in (ap₂ passes_at run.0 run.1, ap asks_at run.0)
 
-command_line : (n : CommandName) (program : Text) (words : List Text)
-    → (takes desk (program ∷ name_of n ∷ words) ≡ (level_passes (built_at n) [] nothing_held words false && true))
-    × (option_and_then request_of (subcommand_of desk (program ∷ name_of n ∷ words)) ≡ request_of (name_of n, rows_after (built_at n).rules [] words))
+-- a line is what its command makes of the words behind it
+abbrev IsLineOf : CommandName → List Text → List Text → Type 0
+IsLineOf n words line = (takes desk line ≡ (level_passes (built_at n) [] nothing_held words false && true))
+    × (option_and_then request_of (subcommand_of desk line) ≡ request_of (name_of n, rows_after (built_at n).rules [] words))
+
+command_line : (n : CommandName) (program : Text) (words : List Text) → IsLineOf n words (program ∷ name_of n ∷ words)
 unfolding clap_on_literals
-command_line canon program words = words_behind (codes "canon") words
-command_line check program words = words_behind (codes "check") words
-command_line group program words = words_behind (codes "group") words
-command_line same program words = words_behind (codes "same") words
-command_line explain program words = words_behind (codes "explain") words
+command_line canon program words = words_behind nothing_held (codes "canon") words
+command_line check program words = words_behind nothing_held (codes "check") words
+command_line group program words = words_behind nothing_held (codes "group") words
+command_line same program words = words_behind nothing_held (codes "same") words
+command_line explain program words = words_behind nothing_held (codes "explain") words
+
+-- what is held behind `--verbose` of the desk's own
+abbrev verbose_held : Held
+verbose_held = reacted top.rules (with_index 1 (filled verbose_flag)) [] nothing_held
+
+verbose_line : (n : CommandName) (program : Text) (words : List Text) → IsLineOf n words (program ∷ codes "-v" ∷ name_of n ∷ words)
+unfolding clap_on_literals
+verbose_line canon program words = words_behind verbose_held (codes "canon") words
+verbose_line check program words = words_behind verbose_held (codes "check") words
+verbose_line group program words = words_behind verbose_held (codes "group") words
+verbose_line same program words = words_behind verbose_held (codes "same") words
+verbose_line explain program words = words_behind verbose_held (codes "explain") words
+
+-- it changes no request
+pub verbose_asked : (n : CommandName) (program : Text) (words : List Text)
+    → asked (program ∷ codes "-v" ∷ name_of n ∷ words) ≡ asked (program ∷ name_of n ∷ words)
+verbose_asked n program words =
+    let verbose = verbose_line n program words in
+    let plain = command_line n program words in
+    ap₂ (λ is request. cond is request None) (verbose.0 ∙ sym plain.0) (verbose.1 ∙ sym plain.1)
 
 -- the end of a walk over the words of a command passes
 abbrev pub ends : Shape → Walk → Bool
@@ -261,42 +285,71 @@ with_files [] last = record { rows = []; pending = Some (codes "file", last ∷ 
 with_files (name ∷ names) last =
     record { rows = files_row (name ∷ names) ∷ []; pending = Some (codes "file", last ∷ []); skip = 0 }
 
-abbrev at_files : List Text → Text → Walk
-at_files names last = before (with_files names last) positional 1
+-- a walk before files, behind `--` or not, and after some
+abbrev to_files : Bool → Walk
+to_files is_all = record (walk_from nothing_held) { is_trailing = is_all }
+
+abbrev at_files : Bool → List Text → Text → Walk
+at_files is_all names last = record (before (with_files names last) positional 1) { is_trailing = is_all }
+
+-- any word behind `--` is a file, and one that is no flag
+abbrev is_file : Bool → Text → Bool
+is_file is_all word = is_all || is_plain_word word
 
 -- a task over files
 abbrev over_files : Task → List Text → Request
 over_files wanted names = Other (codes "full") [] (Files wanted names [])
 
 -- a command goes to a first file and on to a next, and at the end its task is asked for over the files
-abbrev pub ReadsFiles : CommandName → Task → Type 0
-ReadsFiles n wanted = (names : List Text) (last word : Text)
-    → (is_plain_word word ≡ true → Goes (built_at n) (walk_from nothing_held) word (at_files [] word))
-    × (is_plain_word word ≡ true → Goes (built_at n) (at_files names last) word (at_files (names ++ last ∷ []) word))
+abbrev pub ReadsFiles : CommandName → Task → Bool → Type 0
+ReadsFiles n wanted is_all = (names : List Text) (last word : Text)
+    → (is_file is_all word ≡ true → Goes (built_at n) (to_files is_all) word (at_files is_all [] word))
+    × (is_file is_all word ≡ true → Goes (built_at n) (at_files is_all names last) word (at_files is_all (names ++ last ∷ []) word))
     × (request_of (name_of n, finished (built_at n).rules (with_files names last)) ≡ Some (over_files wanted (names ++ last ∷ [])))
-    × (ends (built_at n) (at_files names last) ≡ true)
+    × (ends (built_at n) (at_files is_all names last) ≡ true)
 
 -- names are taken to the last
-files_run : (n : CommandName) (wanted : Task) → ReadsFiles n wanted
-    → (names : List Text) (last : Text) (words : List Text) → list_all is_plain_word words ≡ true
-    → (past : List Text) × (end : Text) × (names ++ last ∷ words ≡ past ++ end ∷ []) × Runs (built_at n) (at_files names last) words (at_files past end)
-files_run n wanted reads names last [] usual = (names, last, refl, stays (built_at n) (at_files names last))
-files_run n wanted reads names last (word ∷ words) usual =
-    let each = both (is_plain_word word) _ usual in
-    let rest = files_run n wanted reads (names ++ last ∷ []) word words each.1 in (
+files_run : (n : CommandName) (wanted : Task) (is_all : Bool) → ReadsFiles n wanted is_all
+    → (names : List Text) (last : Text) (words : List Text) → list_all (is_file is_all) words ≡ true
+    → (past : List Text) × (end : Text) × (names ++ last ∷ words ≡ past ++ end ∷ [])
+    × Runs (built_at n) (at_files is_all names last) words (at_files is_all past end)
+files_run n wanted is_all reads names last [] usual = (names, last, refl, stays (built_at n) (at_files is_all names last))
+files_run n wanted is_all reads names last (word ∷ words) usual =
+    let each = both (is_file is_all word) _ usual in
+    let rest = files_run n wanted is_all reads (names ++ last ∷ []) word words each.1 in (
       rest.0,
       rest.1,
       sym (append_assoc names (last ∷ []) (word ∷ words)) ∙ rest.2,
-      goes_on (built_at n) (at_files names last) (at_files (names ++ last ∷ []) word) (at_files rest.0 rest.1) word words
-          ((reads names last word).1 each.0) rest.3,
+      goes_on (built_at n) (at_files is_all names last) (at_files is_all (names ++ last ∷ []) word) (at_files is_all rest.0 rest.1) word
+          words ((reads names last word).1 each.0) rest.3,
     )
 
-pub files_asked : (n : CommandName) (wanted : Task) → ReadsFiles n wanted → (program name : Text) (names : List Text)
-    → list_all is_plain_word (name ∷ names) ≡ true → asked (program ∷ name_of n ∷ name ∷ names) ≡ Some (Other (codes "full") [] (Files wanted (name ∷ names) []))
-files_asked n wanted reads program name names usual =
-    let each = both (is_plain_word name) _ usual in
-    let run = files_run n wanted reads [] name names each.1 in
-    let to = at_files run.0 run.1 in
+-- words before files, and the files
+files_behind : (n : CommandName) (wanted : Task) (is_all : Bool) → ReadsFiles n wanted is_all → (program name : Text) (front names : List Text)
+    → list_all (is_file is_all) (name ∷ names) ≡ true
+    → ((to : Walk) → Runs (built_at n) (to_files is_all) (name ∷ names) to → Runs (built_at n) (walk_from nothing_held) (front ++ name ∷ names) to)
+    → asked (program ∷ name_of n ∷ front ++ name ∷ names) ≡ Some (over_files wanted (name ∷ names))
+files_behind n wanted is_all reads program name front names usual leads =
+    let each = both (is_file is_all name) _ usual in
+    let run = files_run n wanted is_all reads [] name names each.1 in
+    let to = at_files is_all run.0 run.1 in
     let end = reads run.0 run.1 name in
-    line_asked n program (name ∷ names) to (goes_on (built_at n) (walk_from nothing_held) (at_files [] name) to name names (end.0 each.0) run.3) end.3
+    line_asked n program (front ++ name ∷ names) to
+    (leads to (goes_on (built_at n) (to_files is_all) (at_files is_all [] name) to name names (end.0 each.0) run.3)) end.3
     ∙ end.2 ∙ sym (ap (λ l. Some (over_files wanted l)) run.2)
+
+pub files_asked : (n : CommandName) (wanted : Task) → ReadsFiles n wanted false → (program name : Text) (names : List Text)
+    → list_all is_plain_word (name ∷ names) ≡ true → asked (program ∷ name_of n ∷ name ∷ names) ≡ Some (over_files wanted (name ∷ names))
+files_asked n wanted reads program name names usual = files_behind n wanted false reads program name [] names usual (λ to runs. runs)
+
+-- behind `--` each word is a file
+all_files : (words : List Text) → list_all (is_file true) words ≡ true
+all_files [] = refl
+all_files (word ∷ words) = all_files words
+
+pub all_asked : (n : CommandName) (wanted : Task) → ReadsFiles n wanted true → (program name : Text) (names : List Text)
+    → asked (program ∷ name_of n ∷ codes "--" ∷ name ∷ names) ≡ Some (over_files wanted (name ∷ names))
+unfolding walked
+all_asked n wanted reads program name names =
+    files_behind n wanted true reads program name (codes "--" ∷ []) names (all_files (name ∷ names))
+    (λ to runs. goes_on (built_at n) (walk_from nothing_held) (to_files true) to (codes "--") (name ∷ names) (refl, refl) runs)

@@ -13,6 +13,7 @@ mod MatchesLemmas
 mod LinesRunLemmas
 mod OperandLemmas
 mod OptionLemmas
+mod PathWordLemmas
 mod PieceLemmas
 mod PrefixedLemmas
 mod PrefixedLines

@@ -12,7 +12,7 @@ use Rattle.clap.specs.Simple.{filled, filled_from, help_rule, new_shape, rows_at
 use Rattle.clap.specs.Walk.{Held, Names, Outcome, Step, Waiting, Walk, done, plain, after_flag, after_step, arg_by_id, arg_by_long, arg_by_short, at_row, attached_value, bundle, bundle_met, bundle_step, default_rows, long_met, long_or_other, more_values, nothing_held, option_met, reacted, reading_by, rows_after, settled, settled_rows, short_met, short_or_plain, used, used_by_id, walk, walk_from, walked, with_default, with_values, without, word_met}
 use Rattle.clap.specs.Takes.{bundle_passes, bundle_step_passes, flag_word_passes, flags_pass, is_given, is_valid, default_passes, level_passes, long_passes, option_passes, react_passes, settle_passes, short_passes, step_passes, turn_passes, use_passes, walk_passes, word_passes}
 use Rattle.clap.proofs.WalkLemmas.{both}
-use Rattle.crs_desk.specs.CommandLine.{flag, level_option, operand, rules_option}
+use Rattle.crs_desk.specs.CommandLine.{flag, level_option, operand, rules_option, verbose_flag}
 use Rattle.crs_desk.specs.Requests.{same_of}
 
 -- ---- rows with values
@@ -77,6 +77,10 @@ rules_keep position again (v ∷ vs) rows passes have = with_values_keeps (codes
 files_keep : (position : ℕ) → Keeps (with_index position (filled (flag (codes "files"))))
 files_keep position again [] rows passes have = afresh_keeps (codes "files") _ (codes "true") [] rows have
 files_keep position again (v ∷ vs) rows passes have = afresh_keeps (codes "files") _ v vs rows have
+
+verbose_keeps : (position : ℕ) → Keeps (with_index position (filled verbose_flag))
+verbose_keeps position again [] rows passes have = afresh_keeps (codes "verbose") _ (codes "true") [] rows have
+verbose_keeps position again (v ∷ vs) rows passes have = afresh_keeps (codes "verbose") _ v vs rows have
 
 kept_found : (p : Rule → Bool) (rules : List Rule) → AreKept rules → IsKept (find p rules)
 kept_found p [] kept = tt
@@ -224,7 +228,7 @@ given_there id (r ∷ rows) have given =
 -- `same`, as `clap` builds it
 abbrev pub built_same : Shape
 built_same = record (new_shape (codes "same")) {
-  rules = filled_from 1 (operand (codes "first") ∷ operand (codes "second") ∷ level_option ∷ rules_option ∷ flag (codes "files") ∷ help_rule ∷ []);
+  rules = filled_from 1 (operand (codes "first") ∷ operand (codes "second") ∷ level_option ∷ rules_option ∷ flag (codes "files") ∷ verbose_flag ∷ help_rule ∷ []);
   disable_help_subcommand = true;
   is_built = true;
 }
@@ -236,7 +240,7 @@ given_texts : (words : List Text) → level_passes built_same [] nothing_held wo
 given_texts words passes =
     let rows = rows_after built_same.rules [] words in
     let level = level_rows built_same words
-    (operand_keeps (codes "first") 1, (operand_keeps (codes "second") 2, (level_keeps 3, (rules_keep 3, (files_keep 3, ((λ again values rows uses have. have), tt)))))) passes in
+    (operand_keeps (codes "first") 1, (operand_keeps (codes "second") 2, (level_keeps 3, (rules_keep 3, (files_keep 3, (verbose_keeps 3, ((λ again values rows uses have. have), tt))))))) passes in
     let given = both (is_given (codes "first") rows) _ level.1 in
     (level.0, (given.0, (both (is_given (codes "second") rows) _ given.1).0))
 

@@ -1,6 +1,6 @@
 -- A command with some arguments or subcommands more.
 use Rattle.std.proofs.Common.{◌≡◌, ◌∙◌, ◌++◌, ◌∷◌, [], List, Result, Ok, Err, IfOk, IsOkAnd, ap, ap₂, append-nil, append_assoc, false, sym, ◌||◌}
-use Rattle.clap.specs.Words.{App, Rule, Shape, app_of, rule_of, shape_of, with_subcommand}
+use Rattle.clap.specs.Words.{App, Rule, Shape, app_of, rule_of, shape_of, with_rule, with_subcommand}
 use Rattle.clap.specs.Built.{AddsArg, AddsSubcommand}
 use Rattle.clap.specs.declared.builder.arg.Arg.{Arg}
 use Rattle.clap.specs.declared.builder.command.Command.{Command}
@@ -56,6 +56,14 @@ grown {more = more} s grows is = changed _ _ (λ t. with_rules t more) s grows.s
 pub record HasCommands (made : Making) (a : App) : Type 0 where
   pub shape : IfOk made (λ c. app_of c ≡ a)
   pub globals : IsLocal made
+
+-- one argument more
+pub adds_argument : {made next : Making} {app : App} {rule : Rule} (a : Arg) → HasCommands made app
+    → IfOk next (λ whole. IsOkAnd made (λ old. AddsArg old a whole)) → a.global ≡ false → rule_of a ≡ rule → HasCommands next (with_rule app rule)
+adds_argument {next = Err e} a has adds local is = record { shape = tt; globals = tt }
+adds_argument {made = Err e} {next = Ok whole} a has adds local is = absurd adds
+adds_argument {made = Ok old} {next = Ok whole} a has adds local is =
+    record { shape = adds.shape local ∙ ap₂ with_rule has.shape is; globals = adds.globals ∙ ap₂ (λ x y. x || y) has.globals local }
 
 -- one command more
 pub adds_command : {made next : Making} {a : App} (part : Making) (s : Shape) → HasCommands made a → IfOk part (λ c. shape_of c ≡ s) → IsLocal part

@@ -7,18 +7,18 @@ use Rattle.clap.specs.Lexer.{long_of, long_of_rest, name_and_value, short_of}
 use Rattle.clap.specs.Words.{Row, Rule, Text, takes}
 use Rattle.std.proofs.lemmas.Slice.Eq.{bytes_eq-Decides}
 use Rattle.clap.specs.Simple.{filled, help_rule, with_index}
-use Rattle.clap.specs.Walk.{Held, Outcome, Step, Waiting, Walk, plain, idle, option, trailing, after_flag, after_step, bundle_met, finished, long_met, long_or_other, nothing_held, short_or_plain, subcommand_or_other, used, walked, word_met}
-use Rattle.clap.specs.Takes.{bundle_passes, bundle_step_passes, flag_word_passes, flags_pass, is_given, level_passes, long_passes, other_passes, short_passes, turn_passes, walk_passes, word_passes}
+use Rattle.clap.specs.Walk.{Held, Outcome, Step, Waiting, Walk, done, plain, idle, option, trailing, after_flag, after_step, bundle, bundle_met, bundle_step, finished, reacted, short_met, long_met, long_or_other, nothing_held, short_or_plain, subcommand_or_other, used, walked, word_met}
+use Rattle.clap.specs.Takes.{bundle_passes, bundle_step_passes, flag_word_passes, flags_pass, is_given, level_passes, long_passes, other_passes, react_passes, short_passes, turn_passes, walk_passes, word_passes}
 use Rattle.clap.proofs.OnLiterals.{clap_on_literals}
 use Rattle.clap.proofs.WalkLemmas.{both}
-use Rattle.crs_desk.specs.CommandLine.{desk, flag, level_option, rules_option}
+use Rattle.crs_desk.specs.CommandLine.{desk, flag, level_option, rules_option, verbose_flag}
 use Rattle.crs_desk.proofs.OperandLemmas.{built_same, second_given}
 use Rattle.crs_desk.proofs.AskedLemmas.{none_met}
 
 abbrev rules : List Rule
 rules = built_same.rules
 
--- `--level`, `--rules`, `--files` and the flag that asks for help, as `clap` builds them
+-- `--level`, `--rules`, `--files`, `--verbose` and the flag that asks for help, as `clap` builds them
 abbrev level : Rule
 level = with_index 3 (filled level_option)
 
@@ -28,11 +28,14 @@ ruling = with_index 3 (filled rules_option)
 abbrev files : Rule
 files = with_index 3 (filled (flag (codes "files")))
 
+abbrev verbose : Rule
+verbose = with_index 3 (filled verbose_flag)
+
 abbrev help : Rule
 help = with_index 3 (filled help_rule)
 
--- what a walk of `same` met before its first operand: nothing; `--level` or `--rules`, alone or with a word; or
--- `--files`
+-- what a walk of `same` met before its first operand: nothing; `--level` or `--rules`, alone or with a word; `--files`;
+-- or `--verbose`
 data Met : Type 0 where
   no_flag_met : Met
   level_wanted : Met
@@ -40,11 +43,13 @@ data Met : Type 0 where
   rules_wanted : Met
   rules_met : Text → Met
   files_met : Met
+  verbose_met : Met
 
 abbrev rows_met : Met → List Row
 rows_met (level_met v) = used level (v ∷ []) []
 rows_met (rules_met v) = used ruling (v ∷ []) []
 rows_met files_met = used files [] []
+rows_met verbose_met = used verbose [] []
 rows_met _ = []
 
 abbrev option_wanted : Met → Option Text
@@ -65,46 +70,96 @@ walk_at at = record { held = held_at at; waiting = waiting_at at; position = 1; 
 abbrev Lacks : Met → Text → Held × Step → Type 0
 Lacks at word met = is_given (codes "second") (finished rules (after_step rules word (walk_at at) met.0 met.1).held) ≡ false
 
+-- those of one letter, `-v` and `-h`
+abbrev short_named : Bool → Bool → Option Rule
+short_named is_verbose is_help = cond is_verbose (Some verbose) (cond is_help (Some help) None)
+
+-- with `-v` more
+abbrev verbose_at : Met → Held
+verbose_at at = reacted rules verbose [] (held_at at)
+
 flag_lacks : (at : Met) (word : Text) (outcome : Outcome) → Lacks at word (after_flag rules (waiting_at at) word (held_at at) outcome)
 flag_lacks at word outcome = grind arith
 
--- the flags of `same` are a level, rules, `--files` and the call for help
-abbrev flag_named : Bool → Bool → Bool → Bool → Option Rule
-flag_named is_level are_rules are_files is_help =
-    cond is_level (Some level) (cond are_rules (Some ruling) (cond are_files (Some files) (cond is_help (Some help) None)))
+verbose_lacks : (at : Met) (word : Text) → Lacks at word (after_flag rules (waiting_at at) word (verbose_at at) done)
+verbose_lacks at word = grind arith
 
-help_fails : (at : Met) (is_help : Bool) (v : Option Text) → long_passes rules false (flag_named false false false is_help) v (held_at at) ≡ true → ⊥
+-- the flags of `same` are a level, rules, `--files`, `--verbose` and the call for help
+abbrev flag_named : Bool → Bool → Bool → Bool → Bool → Option Rule
+flag_named is_level are_rules are_files is_verbose is_help =
+    cond is_level (Some level) (cond are_rules (Some ruling) (cond are_files (Some files) (short_named is_verbose is_help)))
+
+help_fails : (at : Met) (is_help : Bool) (v : Option Text) → long_passes rules false (flag_named false false false false is_help) v (held_at at) ≡ true → ⊥
 help_fails at is_help v passes = grind arith
 
-long_lacks : (at : Met) (word : Text) (is_level are_rules are_files is_help : Bool) (v : Option Text)
-    → long_passes rules false (flag_named is_level are_rules are_files is_help) v (held_at at) ≡ true
-    → let met = long_met rules (flag_named is_level are_rules are_files is_help) v (held_at at) in
+long_lacks : (at : Met) (word : Text) (is_level are_rules are_files is_verbose is_help : Bool) (v : Option Text)
+    → long_passes rules false (flag_named is_level are_rules are_files is_verbose is_help) v (held_at at) ≡ true
+    → let met = long_met rules (flag_named is_level are_rules are_files is_verbose is_help) v (held_at at) in
     Lacks at word (after_flag rules (waiting_at at) word met.0 met.1)
-long_lacks at word is_level are_rules are_files is_help v passes = grind arith
+long_lacks at word is_level are_rules are_files is_verbose is_help v passes = grind arith
 
+-- `-h` doesn't pass, and behind `-v` no letter does
 short_help_fails : (at : Met) (is_help : Bool) (rest : Text) (test : Held → Bool)
-    → short_passes rules false (cond is_help (Some help) None) rest (held_at at) test ≡ true → ⊥
+    → short_passes rules false (short_named false is_help) rest (held_at at) test ≡ true → ⊥
 short_help_fails at is_help rest test passes = grind arith
 
-bundle_stays : (at : Met) (k : ℕ) (flags : Text) → flags_pass rules false k flags 0 (held_at at) ≡ true
-    → (bundle_met rules k flags 0 plain (held_at at)).0 ≡ held_at at
+short_fails : (at : Met) (is_verbose is_help : Bool) (rest : Text) (test : Held → Bool)
+    → short_passes rules false (short_named is_verbose is_help) rest (verbose_at at) test ≡ true → ⊥
+short_fails at is_verbose is_help rest test passes = grind arith
+
+bundle_ends : (at : Met) (k : ℕ) (flags : Text) → flags_pass rules false k flags 0 (verbose_at at) ≡ true
+    → bundle_met rules k flags 0 done (verbose_at at) ≡ (verbose_at at, done)
 unfolding bundle_met flags_pass
-bundle_stays at zero flags passes = refl
-bundle_stays at (suc k) flags passes = grind arith
+bundle_ends at zero flags passes = refl
+bundle_ends at (suc k) flags passes = ends (slice_get (chars flags) 0) passes
+  where
+    ends : (x : Option ℕ) → bundle_step_passes rules false x flags 0 (verbose_at at) (flags_pass rules false k) ≡ true
+        → bundle_step rules x flags 0 done (verbose_at at) (bundle_met rules k) ≡ (verbose_at at, done)
+    ends None passes = refl
+    ends (Some x) passes =
+        let rest = drop (length (encode_utf8 x)) flags in
+        absurd (short_fails at (118 == x || false) (104 == x || false) rest (flags_pass rules false k rest 0) passes)
+
+-- a letter that passes is `v`, and the last
+short_is_verbose : (at : Met) (is_verbose is_help : Bool) (rest : Text) (after : Held → Held × Outcome) (test : Held → Bool)
+    → (test (verbose_at at) ≡ true → after (verbose_at at) ≡ (verbose_at at, done))
+    → short_passes rules false (short_named is_verbose is_help) rest (held_at at) test ≡ true
+    → short_met rules (short_named is_verbose is_help) rest (held_at at) after ≡ (verbose_at at, done)
+short_is_verbose at true is_help rest after test ends passes = ends (both (react_passes rules false verbose [] (held_at at)) _ passes).1
+short_is_verbose at false is_help rest after test ends passes = absurd (short_help_fails at is_help rest test passes)
+
+letter_is_verbose : (at : Met) (k x : ℕ) (flags : Text)
+    → bundle_step_passes rules false (Some x) flags 0 (held_at at) (flags_pass rules false k) ≡ true
+    → bundle_step rules (Some x) flags 0 plain (held_at at) (bundle_met rules k) ≡ (verbose_at at, done)
+letter_is_verbose at k x flags passes =
+    let rest = drop (length (encode_utf8 x)) flags in
+    short_is_verbose at (118 == x || false) (104 == x || false) rest (bundle_met rules k rest 0 done) (flags_pass rules false k rest 0)
+    (bundle_ends at k rest) passes
+
+bundle_lacks : (at : Met) (word : Text) (k : ℕ) (flags : Text) → flags_pass rules false k flags 0 (held_at at) ≡ true
+    → let met = bundle_met rules k flags 0 plain (held_at at) in Lacks at word (after_flag rules (waiting_at at) word met.0 met.1)
+unfolding bundle_met flags_pass
+bundle_lacks at word zero flags passes = flag_lacks at word plain
+bundle_lacks at word (suc k) flags passes = lacks (slice_get (chars flags) 0) passes
+  where
+    lacks : (x : Option ℕ) → bundle_step_passes rules false x flags 0 (held_at at) (flags_pass rules false k) ≡ true
+        → let met = bundle_step rules x flags 0 plain (held_at at) (bundle_met rules k) in
+        Lacks at word (after_flag rules (waiting_at at) word met.0 met.1)
+    lacks None passes = flag_lacks at word plain
+    lacks (Some x) passes =
+        subst (λ (met : Held × Outcome). Lacks at word (after_flag rules (waiting_at at) word met.0 met.1))
+        (sym (letter_is_verbose at k x flags passes)) (verbose_lacks at word)
 
 short_lacks : (at : Met) (word : Text) (flags : Option Text) → option_map_or (λ f. bundle_passes rules false f (held_at at)) flags true ≡ true
     → Lacks at word (short_or_plain rules (waiting_at at) word flags (held_at at))
 short_lacks at word None passes = flag_lacks at word plain
-short_lacks at word (Some flags) passes =
-    let met = bundle_met rules (length flags) flags 0 plain (held_at at) in
-    subst (λ (h : Held). Lacks at word (after_flag rules (waiting_at at) word h met.1)) (sym (bundle_stays at (length flags) flags passes))
-    (flag_lacks at word met.1)
+short_lacks at word (Some flags) passes = bundle_lacks at word (length flags) flags passes
 
 named_lacks : (at : Met) (word : Text) (name : Option (Text × Option Text)) → flag_word_passes rules false name word (held_at at) ≡ true
     → Lacks at word (long_or_other rules (waiting_at at) word name (held_at at))
 named_lacks at word (Some p) passes = long_lacks at word (bytes_eq (codes "level") p.0 || false)
-    (bytes_eq (codes "rules") p.0 || false) (bytes_eq (codes "files") p.0 || false) (bytes_eq (codes "help") p.0 || false) p.1
-    passes
+    (bytes_eq (codes "rules") p.0 || false) (bytes_eq (codes "files") p.0 || false) (bytes_eq (codes "verbose") p.0 || false)
+    (bytes_eq (codes "help") p.0 || false) p.1 passes
 named_lacks at word None passes = short_lacks at word (short_of word) passes
 
 either_lacks : (at : Met) (word : Text) (b : Bool) (x : Held × Step) (q : Bool) → (q ≡ true → Lacks at word x) → (b || q) ≡ true
@@ -152,31 +207,34 @@ first_char byte rest low =
     let whole : lead_bits byte ≡ byte = rw is_low refl in
     ap₂ (λ n c. slice_get (chars_after n c rest) 0) alone whole ∙ starts_with byte rest
 
-short_flag_fails : (byte : ℕ) (rest : Text) → byte < 128 → bundle_passes rules false (byte ∷ rest) nothing_held ≡ true → ⊥
-unfolding flags_pass
-short_flag_fails byte rest low passes =
+short_flag_met : (byte : ℕ) (rest : Text) → byte < 128 → bundle_passes rules false (byte ∷ rest) nothing_held ≡ true
+    → bundle rules (byte ∷ rest) nothing_held ≡ (verbose_at no_flag_met, done)
+unfolding bundle_met flags_pass
+short_flag_met byte rest low passes =
     let test = flags_pass rules false (length rest) in
-    let left = drop (length (encode_utf8 byte)) (byte ∷ rest) in
-    short_help_fails no_flag_met (104 == byte || false) left (test left 0)
+    ap (λ x. bundle_step rules x (byte ∷ rest) 0 plain nothing_held (bundle_met rules (length rest))) (first_char byte rest low)
+    ∙ letter_is_verbose no_flag_met (length rest) byte (byte ∷ rest)
     (subst (λ x. bundle_step_passes rules false x (byte ∷ rest) 0 nothing_held test ≡ true) (first_char byte rest low) passes)
 
 -- where a walk is after a first word: before its first text
 abbrev Stands : Text → Held × Step → Type 0
 Stands word met = (at : Met) × (after_step rules word (walk_at no_flag_met) met.0 met.1 ≡ walk_at at)
 
-long_stands : (word : Text) (is_level are_rules are_files is_help : Bool) (v : Option Text)
-    → long_passes rules false (flag_named is_level are_rules are_files is_help) v nothing_held ≡ true
-    → let met = long_met rules (flag_named is_level are_rules are_files is_help) v nothing_held in
+long_stands : (word : Text) (is_level are_rules are_files is_verbose is_help : Bool) (v : Option Text)
+    → long_passes rules false (flag_named is_level are_rules are_files is_verbose is_help) v nothing_held ≡ true
+    → let met = long_met rules (flag_named is_level are_rules are_files is_verbose is_help) v nothing_held in
     Stands word (after_flag rules idle word met.0 met.1)
-long_stands word true are_rules are_files is_help (Some v) passes = (level_met v, refl)
-long_stands word true are_rules are_files is_help None passes = (level_wanted, refl)
-long_stands word false true are_files is_help (Some v) passes = (rules_met v, refl)
-long_stands word false true are_files is_help None passes = (rules_wanted, refl)
-long_stands word false false true is_help (Some v) passes = cc
-long_stands word false false true is_help None passes = (files_met, refl)
-long_stands word false false false is_help v passes = absurd (help_fails no_flag_met is_help v passes)
+long_stands word true are_rules are_files is_verbose is_help (Some v) passes = (level_met v, refl)
+long_stands word true are_rules are_files is_verbose is_help None passes = (level_wanted, refl)
+long_stands word false true are_files is_verbose is_help (Some v) passes = (rules_met v, refl)
+long_stands word false true are_files is_verbose is_help None passes = (rules_wanted, refl)
+long_stands word false false true is_verbose is_help (Some v) passes = cc
+long_stands word false false true is_verbose is_help None passes = (files_met, refl)
+long_stands word false false false true is_help (Some v) passes = cc
+long_stands word false false false true is_help None passes = (verbose_met, refl)
+long_stands word false false false false is_help v passes = absurd (help_fails no_flag_met is_help v passes)
 
--- a word that begins as a flag, and passes, is `--level`, `--rules` or `--files`
+-- a word that begins as a flag, and passes, is `--level`, `--rules`, `--files` or `--verbose`
 flag_stands : (byte : ℕ) (rest : Text) (is : Bool) → (byte == 45) ≡ is → byte < 128 → bytes_eq (45 ∷ byte ∷ rest) (45 ∷ 45 ∷ []) ≡ false
     → let name = option_and_then long_of_rest (cond is (Some rest) None) in
     flag_word_passes rules false name (45 ∷ byte ∷ rest) nothing_held ≡ true
@@ -187,10 +245,13 @@ flag_stands byte [] true hyphen low dashes passes =
 flag_stands byte (b ∷ rest) true hyphen low dashes passes =
     let p = name_and_value (b ∷ rest) in
     long_stands (45 ∷ byte ∷ b ∷ rest) (bytes_eq (codes "level") p.0 || false) (bytes_eq (codes "rules") p.0 || false)
-    (bytes_eq (codes "files") p.0 || false) (bytes_eq (codes "help") p.0 || false) p.1 passes
+    (bytes_eq (codes "files") p.0 || false) (bytes_eq (codes "verbose") p.0 || false) (bytes_eq (codes "help") p.0 || false) p.1 passes
 flag_stands byte rest false hyphen low dashes passes =
-    absurd (short_flag_fails byte rest low
-    (subst (λ is. option_map_or (λ f. bundle_passes rules false f nothing_held) (cond is None (Some (byte ∷ rest))) true ≡ true) hyphen passes))
+    let word : Text = 45 ∷ byte ∷ rest in
+    let met = short_flag_met byte rest low
+    (subst (λ is. option_map_or (λ f. bundle_passes rules false f nothing_held) (cond is None (Some (byte ∷ rest))) true ≡ true) hyphen passes) in
+    subst (λ is. Stands word (short_or_plain rules idle word (cond is None (Some (byte ∷ rest))) nothing_held)) (sym hyphen)
+    (subst (λ (m : Held × Outcome). Stands word (after_flag rules idle word m.0 m.1)) (sym met) (verbose_met, refl))
 
 first_stands : (byte : ℕ) (rest : Text) → byte < 128 → bytes_eq (45 ∷ byte ∷ rest) (45 ∷ 45 ∷ []) ≡ false
     → word_passes built_same [] false idle (45 ∷ byte ∷ rest) nothing_held ≡ true

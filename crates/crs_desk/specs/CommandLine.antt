@@ -1,6 +1,7 @@
 -- The command line: what `clap`'s definition of the commands gives for the words.
-use Rattle.std.specs.Prelude.{◌≡◌, ◌≢◌, ◌==◌, ◌++◌, [], ◌∷◌, Bool, true, false, not, List, Option, Some, None, codes, option_and_then, if◌then◌else◌}
-use Rattle.clap.specs.Words.{App, IsAmong, Rule, Shape, Text, fault_of, kind_of, new_app, new_rule, subcommand_of, takes, with_subcommand}
+use Rattle.std.specs.Prelude.{◌≡◌, ◌≢◌, ◌==◌, ◌&&◌, ◌||◌, [], ◌∷◌, Bool, true, false, not, List, Option, Some, None, codes, option_and_then, if◌then◌else◌}
+use Rattle.std.specs.Str.{bytes_eq}
+use Rattle.clap.specs.Words.{App, IsAmong, Rule, Shape, Text, fault_of, kind_of, new_app, new_rule, subcommand_of, takes, with_rule, with_subcommand}
 use Rattle.clap.specs.Simple.{new_shape, on_top}
 use Rattle.crs_desk.specs.declared.line.requests.Request.{Request}
 use Rattle.crs_desk.specs.declared.line.requests.RequestFault.{RequestFault}
@@ -33,31 +34,36 @@ first_option = record (new_rule (codes "order")) { long = Some (codes "first"); 
 abbrev pub flag : Text → Rule
 flag name = record (new_rule name) { long = Some name; action = Some SetTrue }
 
+-- the flag `--verbose`, or `-v` (118)
+abbrev pub verbose_flag : Rule
+verbose_flag = record (flag (codes "verbose")) { short = Some 118 }
+
 -- names of files, as many words as there are
 abbrev pub file_operands : Rule
 file_operands = record (spare_operand (codes "file")) { action = Some Append }
 
--- `canon`, which takes a level, rules, the flag `--lines` and files
+-- `canon`, which takes a level, rules, the flag `--lines`, files and, as all commands, `--verbose`
 abbrev pub canon_shape : Shape
 canon_shape = record (new_shape (codes "canon")) {
-  rules = level_option ∷ rules_option ∷ flag (codes "lines") ∷ file_operands ∷ [];
+  rules = level_option ∷ rules_option ∷ flag (codes "lines") ∷ file_operands ∷ verbose_flag ∷ [];
 }
 
 -- `check`, which takes that flag and files
 abbrev pub check_shape : Shape
-check_shape = record (new_shape (codes "check")) { rules = flag (codes "lines") ∷ file_operands ∷ [] }
+check_shape = record (new_shape (codes "check")) { rules = flag (codes "lines") ∷ file_operands ∷ verbose_flag ∷ [] }
 
 -- `group`, which takes a level, rules, the flags `--json`, `--repeated` and `--names`, and files
 abbrev pub group_shape : Shape
 group_shape = record (new_shape (codes "group")) {
-  rules = level_option ∷ rules_option ∷ flag (codes "json") ∷ flag (codes "repeated") ∷ flag (codes "names") ∷ file_operands ∷ [];
+  rules = level_option ∷ rules_option ∷ flag (codes "json") ∷ flag (codes "repeated") ∷ flag (codes "names") ∷ file_operands
+      ∷ verbose_flag ∷ [];
 }
 
 -- `same`, which needs a first operand and a second, and takes a level, rules and the flag `--files`
 abbrev pub same_shape : Shape
 same_shape = record (new_shape (codes "same")) {
   rules = operand (codes "first") ∷ operand (codes "second") ∷ level_option ∷ rules_option
-      ∷ flag (codes "files") ∷ [];
+      ∷ flag (codes "files") ∷ verbose_flag ∷ [];
 }
 
 -- `explain`, which may have a first operand and a second, and takes the flag `--json`, the option
@@ -65,7 +71,7 @@ same_shape = record (new_shape (codes "same")) {
 abbrev pub explain_shape : Shape
 explain_shape = record (new_shape (codes "explain")) {
   rules = spare_operand (codes "first") ∷ spare_operand (codes "second") ∷ flag (codes "json")
-      ∷ first_option ∷ level_option ∷ rules_option ∷ flag (codes "files") ∷ [];
+      ∷ first_option ∷ level_option ∷ rules_option ∷ flag (codes "files") ∷ verbose_flag ∷ [];
 }
 
 -- `crsdesk` alone; it has a version, and needs one of its commands
@@ -74,11 +80,11 @@ lone_desk =
     on_top (λ s. record s { has_version = true; subcommand_required = true })
     (new_app (codes "crsdesk"))
 
--- `crsdesk` with all its commands
+-- `crsdesk` with all its commands, before which `--verbose` may stand too
 abbrev pub desk : App
 desk =
-    with_subcommand (with_subcommand (with_subcommand (with_subcommand (with_subcommand lone_desk
-    canon_shape) check_shape) group_shape) same_shape) explain_shape
+    with_subcommand (with_subcommand (with_subcommand (with_subcommand (with_subcommand
+    (with_rule lone_desk verbose_flag) canon_shape) check_shape) group_shape) same_shape) explain_shape
 
 -- what the words ask for, where the command takes them; the first of them is the program's name
 abbrev pub asked : List Text → Option Request
@@ -89,6 +95,17 @@ abbrev pub is_plain_word : Text → Bool
 is_plain_word [] = true
 is_plain_word (byte ∷ []) = true
 is_plain_word (byte ∷ next ∷ rest) = not (byte == 45)
+
+-- whether the words behind the program's name ask for the reasons of faults: one before the first `--` is `-v` or `--verbose`
+abbrev pub is_verbose : List Text → Bool
+is_verbose [] = false
+is_verbose (word ∷ words) =
+    not (bytes_eq word (codes "--"))
+    && (bytes_eq word (codes "-v") || bytes_eq word (codes "--verbose") || is_verbose words)
+
+-- a flag before other words, where it is asked for
+abbrev pub if_asked : Bool → Text → List Text → List Text
+if_asked is flag words = if is then flag ∷ words else words
 
 -- a line is refused only where the command doesn't take it, by an error that it gives for the
 -- words; out of memory is another fault

@@ -1,12 +1,19 @@
 -- What a command line asks for, by the name of its command and the matches that `clap` gives.
-use Rattle.std.specs.Prelude.{◌≡◌, ◌||◌, [], ◌∷◌, Bool, List, Option, Some, None, codes, unwrap_or, if◌then◌else◌}
+use Rattle.std.specs.Prelude.{◌≡◌, ◌==◌, ◌||◌, [], ◌∷◌, ℕ, Bool, List, Option, Some, None, IsSome, codes, map, unwrap_or, if◌then◌else◌}
+use Rattle.std.specs.List.{flat_map}
 use Rattle.std.specs.Str.{bytes_eq}
 use Rattle.clap.specs.Words.{Row, Text, all_of, first_of}
+use Rattle.crs_value.specs.Sound.{Each}
 use Rattle.crs_value.specs.declared.values.level.Level.{Level}
 use Rattle.crs_value.specs.declared.values.level.Level.TheVariants.{Full, Definition}
 use Rattle.crs_group.specs.GroupOutput.{plain}
 use Rattle.crs_group.specs.declared.listing.Listing.{Listing}
+use Rattle.crs_same.specs.Paths.{step_text}
+use Rattle.crs_same.specs.declared.step.Step.{Step}
+use Rattle.crs_same.specs.declared.step.Step.TheVariants as step
 use Rattle.crs_desk.specs.declared.line.job.Job.{Job}
+use Rattle.crs_desk.specs.declared.line.job.JobFault.{JobFault}
+use Rattle.crs_desk.specs.declared.line.job.JobFault.TheVariants as fault
 use Rattle.crs_desk.specs.declared.line.requests.Request.{Request}
 use Rattle.crs_desk.specs.declared.line.requests.Request.TheVariants.{Canon, Check, Same, Group, Other}
 use Rattle.crs_desk.specs.declared.line.requests.Comparison.TheVariants as comparison
@@ -135,16 +142,64 @@ level_named level =
     if bytes_eq level (codes "full") then Some Full
     else (if bytes_eq level (codes "definition") then Some Definition else None)
 
--- a job does some work at the level that a word names
-abbrev pub DoesAt : Text → Work → Job → Type 0
-DoesAt level wanted job = (Some job.level ≡ level_named level) × (job.work ≡ wanted)
+-- these words with a byte more, the first of the first
+abbrev pub begun_with : ℕ → List Text → List Text
+begun_with b [] = (b ∷ []) ∷ []
+begun_with b (word ∷ words) = (b ∷ word) ∷ words
+
+-- the words of a text, which commas (44) part
+abbrev pub parted : Text → List Text
+parted [] = [] ∷ []
+parted (b ∷ text) = if b == 44 then [] ∷ parted text else begun_with b (parted text)
+
+-- the word of a path that a word stands for: `axis` for `axes` too
+abbrev pub word_meant : Text → Text
+word_meant word = if bytes_eq word (codes "axes") then codes "axis" else word
+
+-- the words of paths that a text after `--first` asks for
+abbrev pub words_meant : Text → List Text
+words_meant text = map word_meant (parted text)
+
+-- those of all such texts
+abbrev pub order_of : List Text → List Text
+order_of given = flat_map words_meant given
+
+-- the word of a step of a path: its text, of an axis without the position
+abbrev pub word_of : Step → Text
+word_of (step.Axis position) = codes "axis"
+word_of other = step_text other
+
+-- a word is in paths: it is that of a step
+abbrev pub IsInPaths : Text → Type 0
+IsInPaths word = (step : Step) × (word_of step ≡ word)
+
+-- a job does some work at the level that a word names, and tells the words first for which texts ask, all of which are
+-- in paths
+abbrev pub DoesAt : Text → List Text → Work → Job → Type 0
+DoesAt level order wanted job =
+    (Some job.level ≡ level_named level) × (job.order.items ≡ order_of order) × Each IsInPaths (order_of order)
+    × (job.work ≡ wanted)
 
 -- a job does what a request asks for
 abbrev pub IsJobOf : Request → Job → Type 0
-IsJobOf (Canon level) job = DoesAt level (work.Standard (task.Canon OneText)) job
-IsJobOf Check job = DoesAt (codes "full") (work.Standard (task.Check OneText)) job
+IsJobOf (Canon level) job = DoesAt level [] (work.Standard (task.Canon OneText)) job
+IsJobOf Check job = DoesAt (codes "full") [] (work.Standard (task.Check OneText)) job
 IsJobOf (Same first second level) job =
-    DoesAt level (work.Pair comparison.Same
+    DoesAt level [] (work.Pair comparison.Same
     (record { kind = word.Text; first = first; second = second; rules = [] })) job
-IsJobOf (Group level) job = DoesAt level (work.Standard (task.Group plain)) job
-IsJobOf (Other level order wanted) job = DoesAt level wanted job
+IsJobOf (Group level) job = DoesAt level [] (work.Standard (task.Group plain)) job
+IsJobOf (Other level order wanted) job = DoesAt level order wanted job
+
+-- a word names no level, or one does and not each word that is asked for is in paths; or memory ran out
+abbrev pub IsJobFaultAt : Text → List Text → JobFault → Type 0
+IsJobFaultAt level order fault.Level = level_named level ≡ None
+IsJobFaultAt level order fault.Part = IsSome (level_named level) × (¬ (Each IsInPaths (order_of order)))
+IsJobFaultAt level order fault.Memory = Unit {0}
+
+-- why a request is no job
+abbrev pub IsJobFault : Request → JobFault → Type 0
+IsJobFault (Canon level) why = IsJobFaultAt level [] why
+IsJobFault Check why = ⊥
+IsJobFault (Same first second level) why = IsJobFaultAt level [] why
+IsJobFault (Group level) why = IsJobFaultAt level [] why
+IsJobFault (Other level order wanted) why = IsJobFaultAt level order why

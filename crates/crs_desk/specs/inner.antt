@@ -2,4 +2,5 @@ pub mod FileAnswers
 pub mod Found
 pub mod HandedOn
 pub mod LineCutting
+pub mod PartFault
 pub mod Pieces

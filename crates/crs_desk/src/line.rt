@@ -5,8 +5,8 @@ ghost use Rattle.clap.specs.Simple.{new_shape};
 ghost use Rattle.clap.specs.declared.builder.command.Command.TheViews.{out-Command as fields_of};
 ghost use Rattle.crs_desk.specs.CommandLine.{IsRefusal, asked, desk, lone_desk, operand, canon_shape};
 ghost use Rattle.crs_desk.specs.inner.HandedOn.{HandsOn};
-ghost use Rattle.crs_desk.specs.CommandLine.{check_shape, explain_shape, file_operands, first_option, flag};
-ghost use Rattle.crs_desk.specs.CommandLine.{group_shape, level_option, rules_option, same_shape, spare_operand};
+ghost use Rattle.crs_desk.specs.CommandLine.{check_shape, explain_shape, file_operands, first_option, flag, is_verbose};
+ghost use Rattle.crs_desk.specs.CommandLine.{group_shape, level_option, rules_option, same_shape, spare_operand, verbose_flag};
 ghost use Rattle.crs_desk.specs.Requests.{request_of};
 
 pub(crate) mod job;
@@ -46,7 +46,7 @@ const SECOND_HELP: &str = "The second text, or its file";
 // What help says of the files of the other commands.
 const FILE_HELP: &str = "A file to read; `-` is standard input [default: standard input]";
 
-// What help says of the flags `--json`, `--lines`, `--repeated`, `--names` and `--files`.
+// What help says of the flags `--json`, `--lines`, `--repeated`, `--names`, `--files` and `--verbose`.
 const JSON_HELP: &str = "Writes objects of JSON, one a line";
 
 const LINES_HELP: &str = "Takes each line as a text";
@@ -57,6 +57,8 @@ const NAMES_HELP: &str =
     "Takes the front of each line, up to a tab, as its name, and writes names for numbers";
 
 const FILES_HELP: &str = "Takes A and B as names of files; `-` is standard input";
+
+const VERBOSE_HELP: &str = "Tells the reason of a fault too, in lines of its own";
 
 // What help says of the options `--level`, `--first` and `--rules`.
 const LEVEL_HELP: &str =
@@ -91,6 +93,23 @@ pub fn request<'a>(alloc: Global, words: &'a [&'a str]) -> Result<Request, Reque
     request_of_matches(alloc, &matches).map_err(RequestFault::Memory)
 }
 
+/// Whether the words behind the program's name, which may be no UTF-8, ask for the reasons of faults: a word before the
+/// first `--` is `-v` or `--verbose`.
+pub fn is_verbose(words: &[Vec<u8>]) -> bool
+    ensures { result ≡ is_verbose (map (λ word. word.items) words.now) }
+{
+    for word in words {
+        let word = word.as_slice();
+        if word == b"--".as_slice() {
+            return false;
+        }
+        if word == b"-v".as_slice() || word == b"--verbose".as_slice() {
+            return true;
+        }
+    }
+    false
+}
+
 fn matches_by<'a>(
     command: Command<'a>,
     words: &'a [&'a str],
@@ -112,7 +131,8 @@ fn desk_command<'a>(alloc: Global) -> Result<Command<'a>, AllocError>
     ensures shape { IfOk result (λ command. app_of command ≡ desk) }
     ensures globals { IfOk result (λ command. (fields_of command).has_globals ≡ false) }
 {
-    let command = with_command(Ok(desk_alone(alloc)), canon_command(alloc));
+    let command = with_argument(Ok(desk_alone(alloc)), verbose_argument(alloc));
+    let command = with_command(command, canon_command(alloc));
     let command = with_command(command, check_command(alloc));
     let command = with_command(command, group_command(alloc));
     let command = with_command(command, same_command(alloc));
@@ -148,7 +168,8 @@ fn canon_command<'a>(alloc: Global) -> Result<Command<'a>, AllocError>
     let command = alone.arg(level_argument(alloc));
     let command = with_argument(command, rules_argument(alloc));
     let command = with_argument(command, flag_argument(alloc, "lines", LINES_HELP));
-    with_argument(command, file_argument(alloc))
+    let command = with_argument(command, file_argument(alloc));
+    with_argument(command, verbose_argument(alloc))
 }
 
 fn check_command<'a>(alloc: Global) -> Result<Command<'a>, AllocError>
@@ -157,7 +178,8 @@ fn check_command<'a>(alloc: Global) -> Result<Command<'a>, AllocError>
 {
     let alone = lone_command(alloc, "check", CHECK_ABOUT, CHECK_STATUS);
     let command = alone.arg(flag_argument(alloc, "lines", LINES_HELP));
-    with_argument(command, file_argument(alloc))
+    let command = with_argument(command, file_argument(alloc));
+    with_argument(command, verbose_argument(alloc))
 }
 
 fn group_command<'a>(alloc: Global) -> Result<Command<'a>, AllocError>
@@ -170,7 +192,8 @@ fn group_command<'a>(alloc: Global) -> Result<Command<'a>, AllocError>
     let command = with_argument(command, flag_argument(alloc, "json", JSON_HELP));
     let command = with_argument(command, flag_argument(alloc, "repeated", REPEATED_HELP));
     let command = with_argument(command, flag_argument(alloc, "names", NAMES_HELP));
-    with_argument(command, file_argument(alloc))
+    let command = with_argument(command, file_argument(alloc));
+    with_argument(command, verbose_argument(alloc))
 }
 
 // A command before its words are added, what help says of it, and what it says last.
@@ -200,7 +223,8 @@ fn same_command<'a>(alloc: Global) -> Result<Command<'a>, AllocError>
     let command = with_argument(command, needed_word(alloc, "second", "B", SECOND_HELP));
     let command = with_argument(command, level_argument(alloc));
     let command = with_argument(command, rules_argument(alloc));
-    with_argument(command, flag_argument(alloc, "files", FILES_HELP))
+    let command = with_argument(command, flag_argument(alloc, "files", FILES_HELP));
+    with_argument(command, verbose_argument(alloc))
 }
 
 fn explain_command<'a>(alloc: Global) -> Result<Command<'a>, AllocError>
@@ -214,7 +238,8 @@ fn explain_command<'a>(alloc: Global) -> Result<Command<'a>, AllocError>
     let command = with_argument(command, first_argument(alloc));
     let command = with_argument(command, level_argument(alloc));
     let command = with_argument(command, rules_argument(alloc));
-    with_argument(command, flag_argument(alloc, "files", FILES_HELP))
+    let command = with_argument(command, flag_argument(alloc, "files", FILES_HELP));
+    with_argument(command, verbose_argument(alloc))
 }
 
 // An operand that must be given, what help calls it, and what help says of it.
@@ -248,6 +273,13 @@ fn flag_argument<'a>(alloc: Global, name: &'a str, help: &'a str) -> Arg<'a>
         .long(name)
         .action(ArgAction::SetTrue)
         .help(help)
+}
+
+fn verbose_argument<'a>(alloc: Global) -> Arg<'a>
+    ensures rule { rule_of result ≡ verbose_flag }
+    ensures local { result.global ≡ false }
+{
+    flag_argument(alloc, "verbose", VERBOSE_HELP).short('v')
 }
 
 fn level_argument<'a>(alloc: Global) -> Arg<'a>

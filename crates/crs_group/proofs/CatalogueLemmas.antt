@@ -14,7 +14,7 @@ use Rattle.crs_canon.specs.MainTheorem.{IsAccepted, MainTheorem}
 use Rattle.crs_rules.specs.Rules.{RulesParts}
 use Rattle.crs_rules.specs.Rewritten.{IsForm}
 use Rattle.crs_group.specs.Catalogue.{CatalogueParts, GroupParts, Line, canons, line_of, nth}
-use Rattle.crs_group.specs.GroupTexts.{IsCatalogue, IsCatalogueBy, IsCatalogueOf, IsCatalogueOfBy, IsUnder, then_line, Counts, IsPlacedAs, PlacedLine, ShareWhereSame, if_refused, in_group, lines_in}
+use Rattle.crs_group.specs.GroupTexts.{IsCatalogueBy, IsCatalogueOfBy, IsUnder, then_line, Counts, IsPlacedAs, PlacedLine, ShareWhereSame, if_refused, in_group, lines_in}
 use Rattle.crs_group.specs.UnderRules.{ShareWhereSameUnder}
 use Rattle.crs_value.specs.Sound.{Each}
 use Rattle.crs_group.specs.inner.Putting.{IsJoined, IsNew, IsPut, IsRefused, group_of, with_line}
@@ -340,9 +340,11 @@ lines-added Form Share c after number text place step lines old = record {
   whole = step old.placed old.whole;
 }
 
-pub lines-result : (c after : CatalogueParts) (number : ℕ) (text : List ℕ) (r : Result Placed AllocError)
-    → IfOk r (λ place. (placed : List PlacedLine) → IsCatalogue placed c
-    → IsCatalogue (then_line placed number text place) after)
-    → OnOk r ((lines : List Line) → IsCatalogueOf lines c → IsCatalogueOf (lines ++ line_of number text ∷ []) after)
-lines-result c after number text (Ok place) step = lines-added IsCanonicalOf ShareWhereSame c after number text place step
-lines-result c after number text (Err error) step = tt
+pub lines-result : (Form : Level → List ℕ → List ℕ → Type 0) (Share : Level → PlacedLine → PlacedLine → Type 0)
+    (c after : CatalogueParts) (number : ℕ) (text : List ℕ) (r : Result Placed AllocError)
+    → IfOk r (λ place. (placed : List PlacedLine) → IsCatalogueBy Form Share placed c
+    → IsCatalogueBy Form Share (then_line placed number text place) after)
+    → OnOk r ((lines : List Line) → IsCatalogueOfBy Form Share lines c
+    → IsCatalogueOfBy Form Share (lines ++ line_of number text ∷ []) after)
+lines-result Form Share c after number text (Ok place) step = lines-added Form Share c after number text place step
+lines-result Form Share c after number text (Err error) step = tt

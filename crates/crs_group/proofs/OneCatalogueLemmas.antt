@@ -8,9 +8,12 @@ use Rattle.crs_value.specs.inner.Prelude.{Spells, Refuses}
 use Rattle.crs_value.specs.declared.values.crs.Crs.{Crs}
 use Rattle.crs_value.specs.declared.values.level.Level.{Level}
 use Rattle.crs_writer.specs.inner.Prelude.{IsCanonicalOf}
-use Rattle.crs_canon.specs.MainTheorem.{MainTheorem}
+use Rattle.crs_canon.specs.MainTheorem.{IsAccepted, MainTheorem}
+use Rattle.crs_rules.specs.Rules.{RulesParts}
+use Rattle.crs_rules.specs.Rewritten.{IsForm}
 use Rattle.crs_group.specs.Catalogue.{CatalogueParts, GroupParts, Line, canons}
-use Rattle.crs_group.specs.GroupTexts.{IsCatalogue, IsCatalogueOf, IsUnder, AreNumbered, Counts, IsPlacedAs, PlacedLine, ShareWhereSame}
+use Rattle.crs_group.specs.GroupTexts.{IsCatalogueBy, IsCatalogueOfBy, IsUnder, AreNumbered, Counts, IsPlacedAs, PlacedLine, ShareWhereSame}
+use Rattle.crs_group.specs.UnderRules.{ShareWhereSameUnder}
 use Rattle.crs_value.specs.Sound.{Each}
 use Rattle.crs_group.specs.declared.placed.Placed.{Placed}
 use Rattle.crs_group.specs.declared.placed.Placed.TheVariants.{Refused, Group}
@@ -20,6 +23,34 @@ use Rattle.crs_group.proofs.PlaceLemmas.{canon-at}
 pub record IsAnsweredOnce : Type 0 where
   pub refusal : (text : List ℕ) (a b : RefusedAt) → Refuses text a → Refuses text b → a ≡ b
   pub apart : (text : List ℕ) (value : Crs) (fault : RefusedAt) → Spells text value → ¬ (Refuses text fault)
+
+-- what is asked of forms of texts, and of the groups that lines share: a text has one form, and a line of the text of
+-- another is in the group that this one joins
+pub record AreOne (Form : Level → List ℕ → List ℕ → Type 0) (Share : Level → PlacedLine → PlacedLine → Type 0)
+    (level : Level) : Type 0 where
+  pub answered : IsAnsweredOnce
+  pub one : (text x y : List ℕ) → Form level text x → Form level text y → x ≡ y
+  pub joins : (r p q : PlacedLine) (m n : ℕ) → Share level r p → Share level r q → r.place ≡ Group m → p.place ≡ Group m
+      → q.place ≡ Group n → IsAccepted r.line.text → IsAccepted p.line.text → p.line.text ≡ q.line.text → m ≡ n
+
+-- canonical texts, and lines of the same CRS
+pub canonical-are-one : IsAnsweredOnce → (level : Level) → MainTheorem level → AreOne IsCanonicalOf ShareWhereSame level
+canonical-are-one law level main = record {
+  answered = law;
+  one = main.one;
+  joins = λ r p q m n shares too at pm qn here there e.
+      (too m n here.0 there.0 at qn here.1 (rw (← e) there.1)).1 ((shares m m here.0 there.0 at pm here.1 there.1).0 refl);
+}
+
+-- forms under rules, and lines that are the same under them
+pub forms-are-one : IsAnsweredOnce → (rules : RulesParts) (level : Level)
+    → ((text a b : List ℕ) → IsForm rules level text a → IsForm rules level text b → a ≡ b)
+    → AreOne (IsForm rules) (ShareWhereSameUnder rules) level
+forms-are-one law rules level one = record {
+  answered = law;
+  one = one;
+  joins = λ r p q m n shares too at pm qn here there e. (too m n at qn).1 (rw e at (shares m m at pm).0 refl);
+}
 
 -- ---- members
 
@@ -89,66 +120,64 @@ found-all Is before (p ∷ ps) behind numbered found n low high =
 -- ---- each line has one place
 
 -- a line that is in the group of one of these
-abbrev Shares : Level → (PlacedLine → Type 0) → PlacedLine → Type 0
-Shares level Is p = (q : PlacedLine) → Is q → ShareWhereSame level q p
+abbrev Shares : (PlacedLine → PlacedLine → Type 0) → (PlacedLine → Type 0) → PlacedLine → Type 0
+Shares Share Is p = (q : PlacedLine) → Is q → Share q p
 
 abbrev Placing : (PlacedLine → Type 0) → Type 0
 Placing Is = (q : PlacedLine) → Is q → IsPlacedAs q.line.text q.place
 
--- a line that spells what another spells is in the group that this one joins
-joins : (level : Level) (Is : PlacedLine → Type 0) (before : ℕ) → AllFound Is before → Placing Is
-    → (p q : PlacedLine) → Shares level Is p → Shares level Is q → (m n : ℕ) → p.place ≡ Group m → q.place ≡ Group n
-    → (crs : Crs) → Spells p.line.text crs → Spells q.line.text crs → 1 ≤ m → m ≤ before → m ≡ n
-joins level Is before found placing p q shares too m n pm qn crs sp sq low high = by (found m low high)
+-- a line of the text of another is in the group that this one joins
+joins-by : (Form : Level → List ℕ → List ℕ → Type 0) (Share : Level → PlacedLine → PlacedLine → Type 0) (level : Level)
+    → AreOne Form Share level → (Is : PlacedLine → Type 0) (before : ℕ) → AllFound Is before → Placing Is
+    → (p q : PlacedLine) → Shares (Share level) Is p → Shares (Share level) Is q → (m n : ℕ) → p.place ≡ Group m → q.place ≡ Group n
+    → IsAccepted p.line.text → p.line.text ≡ q.line.text → 1 ≤ m → m ≤ before → m ≡ n
+joins-by Form Share level law Is before found placing p q shares too m n pm qn accepted e low high = by (found m low high)
   where
     by : Found Is m → m ≡ n
     by (r, is, at) =
         let here : IsPlacedAs r.line.text (Group m) = rw at at (placing r is) in
-        let same = (shares r is m m here.1.0 crs at pm here.1.1 sp).0 refl in
-        (too r is m n here.1.0 crs at qn here.1.1 sq).1 same
+        law.joins r p q m n (shares r is) (too r is) at pm qn here.1 accepted e
 
-one-place : IsAnsweredOnce → (level : Level) (Is : PlacedLine → Type 0) (before : ℕ) → AllFound Is before → Placing Is
-    → (p q : PlacedLine) → p.line.text ≡ q.line.text → Shares level Is p → Shares level Is q
+one-place : (Form : Level → List ℕ → List ℕ → Type 0) (Share : Level → PlacedLine → PlacedLine → Type 0) (level : Level)
+    → AreOne Form Share level → (Is : PlacedLine → Type 0) (before : ℕ) → AllFound Is before → Placing Is
+    → (p q : PlacedLine) → p.line.text ≡ q.line.text → Shares (Share level) Is p → Shares (Share level) Is q
     → (s t : Placed) → p.place ≡ s → q.place ≡ t
     → IsPlacedAs p.line.text s → IsPlacedAs q.line.text t
     → (x y : ℕ) → Counts before s x → Counts before t y → s ≡ t
-one-place law level Is before found placing p q e shares too (Refused a) (Refused b) ps qt hp hq x y cx cy =
-    ap Refused (law.refusal q.line.text a b (rw e at hp.1) hq.1)
-one-place law level Is before found placing p q e shares too (Refused a) (Group n) ps qt hp hq x y cx cy =
-    absurd (law.apart q.line.text hq.1.0 a hq.1.1 (rw e at hp.1))
-one-place law level Is before found placing p q e shares too (Group m) (Refused b) ps qt hp hq x y cx cy =
-    absurd (law.apart p.line.text hp.1.0 b hp.1.1 (rw e hq.1))
-one-place law level Is before found placing p q e shares too (Group m) (Group n) ps qt hp hq x y cx cy =
+one-place Form Share level law Is before found placing p q e shares too (Refused a) (Refused b) ps qt hp hq x y cx cy =
+    ap Refused (law.answered.refusal q.line.text a b (rw e at hp.1) hq.1)
+one-place Form Share level law Is before found placing p q e shares too (Refused a) (Group n) ps qt hp hq x y cx cy =
+    absurd (law.answered.apart q.line.text hq.1.0 a hq.1.1 (rw e at hp.1))
+one-place Form Share level law Is before found placing p q e shares too (Group m) (Refused b) ps qt hp hq x y cx cy =
+    absurd (law.answered.apart p.line.text hp.1.0 b hp.1.1 (rw e hq.1))
+one-place Form Share level law Is before found placing p q e shares too (Group m) (Group n) ps qt hp hq x y cx cy =
     ap Group (by cx cy)
   where
-    spells : Spells q.line.text hp.1.0
-    spells = rw e at hp.1.1
-
     by : Counts before (Group m) x → Counts before (Group n) y → m ≡ n
-    by (inl (low, high, same)) cy =
-        joins level Is before found placing p q shares too m n ps qt hp.1.0 hp.1.1 spells low high
+    by (inl (low, high, same)) cy = joins-by Form Share level law Is before found placing p q shares too m n ps qt hp.1 e low high
     by (inr (next, last)) (inl (low, high, same)) =
-        sym (joins level Is before found placing q p too shares n m qt ps hp.1.0 spells hp.1.1 low high)
+        sym (joins-by Form Share level law Is before found placing q p too shares n m qt ps hq.1 (sym e) low high)
     by (inr (next, last)) (inr (other, end)) = next ∙ sym other
-one-place law level Is before found placing p q e shares too s t ps qt hp hq x y cx cy = grind arith
+one-place Form Share level law Is before found placing p q e shares too s t ps qt hp hq x y cx cy = grind arith
 
 -- lines that are placed with others before them
-record ArePlaced (level : Level) (Is : PlacedLine → Type 0) (before : ℕ) (ps : List PlacedLine) (behind : ℕ) : Type 0 where
+record ArePlaced (Share : PlacedLine → PlacedLine → Type 0) (Is : PlacedLine → Type 0) (before : ℕ) (ps : List PlacedLine) (behind : ℕ) : Type 0 where
   each : Each (λ p. IsPlacedAs p.line.text p.place) ps
-  same : (q p : PlacedLine) → (Is q ⊎ In q ps) → In p ps → ShareWhereSame level q p
+  same : (q p : PlacedLine) → (Is q ⊎ In q ps) → In p ps → Share q p
   numbered : AreNumbered before ps behind
 
 same-line : (p q : PlacedLine) → p.line ≡ q.line → p.place ≡ q.place → p ≡ q
 same-line p q e f = λ i. record { line = e i; place = f i }
 
-one-placing : IsAnsweredOnce → (level : Level) (Is : PlacedLine → Type 0) (before : ℕ) → AllFound Is before
+one-placing : (Form : Level → List ℕ → List ℕ → Type 0) (Share : Level → PlacedLine → PlacedLine → Type 0) (level : Level)
+    → AreOne Form Share level → (Is : PlacedLine → Type 0) (before : ℕ) → AllFound Is before
     → Placing Is → (ps qs : List PlacedLine) → map (λ p. p.line) ps ≡ map (λ p. p.line) qs
-    → (x y : ℕ) → ArePlaced level Is before ps x → ArePlaced level Is before qs y → ps ≡ qs
-one-placing law level Is before found placing [] [] e x y a b = refl
-one-placing law level Is before found placing [] (q ∷ qs) e x y a b = cc
-one-placing law level Is before found placing (p ∷ ps) [] e x y a b = cc
-one-placing law level Is before found placing (p ∷ ps) (q ∷ qs) e x y a b =
-    let rest = one-placing law level (And Is p) a.numbered.0
+    → (x y : ℕ) → ArePlaced (Share level) Is before ps x → ArePlaced (Share level) Is before qs y → ps ≡ qs
+one-placing Form Share level law Is before found placing [] [] e x y a b = refl
+one-placing Form Share level law Is before found placing [] (q ∷ qs) e x y a b = cc
+one-placing Form Share level law Is before found placing (p ∷ ps) [] e x y a b = cc
+one-placing Form Share level law Is before found placing (p ∷ ps) (q ∷ qs) e x y a b =
+    let rest = one-placing Form Share level law (And Is p) a.numbered.0
     (found-next Is before a.numbered.0 p p.place refl a.numbered.1 found) placed ps qs
     (cc) x y
     (record { each = a.each.1; same = first; numbered = a.numbered.2 })
@@ -159,7 +188,7 @@ one-placing law level Is before found placing (p ∷ ps) (q ∷ qs) e x y a b =
     line = cc
 
     place : p.place ≡ q.place
-    place = one-place law level Is before found placing p q (ap (λ l. l.text) line)
+    place = one-place Form Share level law Is before found placing p q (ap (λ l. l.text) line)
         (λ r is. a.same r p (inl is) (inl refl)) (λ r is. b.same r q (inl is) (inl refl)) p.place q.place refl refl
         a.each.0 b.each.0 a.numbered.0 b.numbered.0 a.numbered.1 b.numbered.1
 
@@ -169,10 +198,10 @@ one-placing law level Is before found placing (p ∷ ps) (q ∷ qs) e x y a b =
     next : b.numbered.0 ≡ a.numbered.0
     next = counts-one before p.place b.numbered.0 a.numbered.0 (rw place b.numbered.1) a.numbered.1
 
-    first : (r s : PlacedLine) → (And Is p r ⊎ In r ps) → In s ps → ShareWhereSame level r s
+    first : (r s : PlacedLine) → (And Is p r ⊎ In r ps) → In s ps → Share level r s
     first r s is h = a.same r s (grind arith) (inr h)
 
-    second : (r s : PlacedLine) → (And Is p r ⊎ In r qs) → In s qs → ShareWhereSame level r s
+    second : (r s : PlacedLine) → (And Is p r ⊎ In r qs) → In s qs → Share level r s
     second r s is h = b.same r s (grind (arith, here)) (inr h)
 
     placed : Placing (And Is p)
@@ -191,19 +220,20 @@ same-lists (x ∷ xs) (y ∷ ys) e f =
     let t = same-lists xs ys (omega arith) (λ at. f (suc at)) in
     λ i. h i ∷ t i
 
--- a line of a group has the group's text as its canonical text
-text-of : (level : Level) (groups : List GroupParts) (at : ℕ) (group : GroupParts) (p : PlacedLine)
-    → slice_get groups at ≡ Some group → p.place ≡ Group (suc at)
-    → IsUnder IsCanonicalOf level (canons groups) p.line.text p.place
-    → (group.canon.level ≡ level) × IsCanonicalOf level p.line.text group.canon.bytes
-text-of level groups at group p has place under =
-    let u : IsUnder IsCanonicalOf level (canons groups) p.line.text (Group (suc at)) = rw place at under in
+-- a line of a group has the group's text as its form
+text-of : (Form : Level → List ℕ → List ℕ → Type 0) (level : Level) (groups : List GroupParts) (at : ℕ) (group : GroupParts)
+    (p : PlacedLine) → slice_get groups at ≡ Some group → p.place ≡ Group (suc at)
+    → IsUnder Form level (canons groups) p.line.text p.place
+    → (group.canon.level ≡ level) × Form level p.line.text group.canon.bytes
+text-of Form level groups at group p has place under =
+    let u : IsUnder Form level (canons groups) p.line.text (Group (suc at)) = rw place at under in
     let is : u.0 ≡ group.canon = cc (canon-at groups at group has) in (rw (← is) u.2, rw (← is) u.3)
 
 -- two catalogues of lines at these places
-one-whole : (level : Level) → MainTheorem level → (placed : List PlacedLine) (a b : CatalogueParts) → a.level ≡ level
-    → b.level ≡ level → IsCatalogue placed a → IsCatalogue placed b → a ≡ b
-one-whole level main placed a b la lb wa wb =
+one-whole : (Form : Level → List ℕ → List ℕ → Type 0) (Share : Level → PlacedLine → PlacedLine → Type 0) (level : Level)
+    → AreOne Form Share level → (placed : List PlacedLine) (a b : CatalogueParts) → a.level ≡ level → b.level ≡ level
+    → IsCatalogueBy Form Share placed a → IsCatalogueBy Form Share placed b → a ≡ b
+one-whole Form Share level law placed a b la lb wa wb =
     let levels : a.level ≡ b.level = la ∙ sym lb in
     let refused : a.refused ≡ b.refused = wa.0.refused ∙ sym wb.0.refused in
     λ i. record { level = levels i; groups = groups i; refused = refused i }
@@ -211,19 +241,19 @@ one-whole level main placed a b la lb wa wb =
     count : length a.groups ≡ length b.groups
     count = numbered-one 0 placed (length a.groups) (length b.groups) wa.0.numbered wb.0.numbered
 
-    under-a : Each (λ p. IsUnder IsCanonicalOf level (canons a.groups) p.line.text p.place) placed
+    under-a : Each (λ p. IsUnder Form level (canons a.groups) p.line.text p.place) placed
     under-a = rw la at wa.1.texts
 
-    under-b : Each (λ p. IsUnder IsCanonicalOf level (canons b.groups) p.line.text p.place) placed
+    under-b : Each (λ p. IsUnder Form level (canons b.groups) p.line.text p.place) placed
     under-b = rw lb at wb.1.texts
 
     with-line : (at : ℕ) (x y : GroupParts) → slice_get a.groups at ≡ Some x → slice_get b.groups at ≡ Some y
         → Found (λ p. ⊥ ⊎ In p placed) (suc at) → x.canon ≡ y.canon
     with-line at x y hx hy (p, inl none, place) = absurd none
     with-line at x y hx hy (p, inr is, place) =
-        let tx = text-of level a.groups at x p hx place (each-in _ placed under-a p is) in
-        let ty = text-of level b.groups at y p hy place (each-in _ placed under-b p is) in
-        let bytes = main.one p.line.text x.canon.bytes y.canon.bytes tx.1 ty.1 in
+        let tx = text-of Form level a.groups at x p hx place (each-in _ placed under-a p is) in
+        let ty = text-of Form level b.groups at y p hy place (each-in _ placed under-b p is) in
+        let bytes = law.one p.line.text x.canon.bytes y.canon.bytes tx.1 ty.1 in
         let levels : x.canon.level ≡ y.canon.level = tx.0 ∙ sym ty.0 in
         λ i. record { bytes = bytes i; level = levels i }
 
@@ -241,23 +271,24 @@ one-whole level main placed a b la lb wa wb =
 
 -- ---- the catalogue of some lines
 
-are-placed : (level : Level) (placed : List PlacedLine) (c : CatalogueParts) → c.level ≡ level → IsCatalogue placed c
-    → ArePlaced level (λ p. ⊥) 0 placed (length c.groups)
-are-placed level placed c e whole = record { each = whole.0.each; same = same; numbered = whole.0.numbered }
+are-placed : (Form : Level → List ℕ → List ℕ → Type 0) (Share : Level → PlacedLine → PlacedLine → Type 0) (level : Level)
+    (placed : List PlacedLine) (c : CatalogueParts) → c.level ≡ level → IsCatalogueBy Form Share placed c
+    → ArePlaced (Share level) (λ p. ⊥) 0 placed (length c.groups)
+are-placed Form Share level placed c e whole = record { each = whole.0.each; same = same; numbered = whole.0.numbered }
   where
-    all : Each (λ p. Each (ShareWhereSame level p) placed) placed
+    all : Each (λ p. Each (Share level p) placed) placed
     all = rw e at whole.0.same
 
-    same : (q p : PlacedLine) → (⊥ ⊎ In q placed) → In p placed → ShareWhereSame level q p
+    same : (q p : PlacedLine) → (⊥ ⊎ In q placed) → In p placed → Share level q p
     same q p (inl none) h = absurd none
-    same q p (inr is) h =
-        each-in (ShareWhereSame level q) placed (each-in (λ r. Each (ShareWhereSame level r) placed) placed all q is) p h
+    same q p (inr is) h = each-in (Share level q) placed (each-in (λ r. Each (Share level r) placed) placed all q is) p h
 
-pub one-catalogue : IsAnsweredOnce → ((level : Level) → MainTheorem level) → (lines : List Line) (a b : CatalogueParts)
-    → IsCatalogueOf lines a → IsCatalogueOf lines b → a.level ≡ b.level → a ≡ b
-one-catalogue law main lines a b p q e =
+pub one-catalogue : (Form : Level → List ℕ → List ℕ → Type 0) (Share : Level → PlacedLine → PlacedLine → Type 0)
+    → ((level : Level) → AreOne Form Share level) → (lines : List Line) (a b : CatalogueParts)
+    → IsCatalogueOfBy Form Share lines a → IsCatalogueOfBy Form Share lines b → a.level ≡ b.level → a ≡ b
+one-catalogue Form Share law lines a b p q e =
     let same : p.placed ≡ q.placed =
-    one-placing law b.level (λ r. ⊥) 0 (λ n low high. absurd (omega arith)) (λ r none. absurd none) p.placed q.placed
-    (p.are_lines ∙ sym q.are_lines) (length a.groups) (length b.groups) (are-placed b.level p.placed a e p.whole)
-    (are-placed b.level q.placed b refl q.whole) in
-    one-whole b.level (main b.level) q.placed a b e refl (rw same at p.whole) q.whole
+    one-placing Form Share b.level (law b.level) (λ r. ⊥) 0 (λ n low high. absurd (omega arith)) (λ r none. absurd none) p.placed q.placed
+    (p.are_lines ∙ sym q.are_lines) (length a.groups) (length b.groups) (are-placed Form Share b.level p.placed a e p.whole)
+    (are-placed Form Share b.level q.placed b refl q.whole) in
+    one-whole Form Share b.level (law b.level) q.placed a b e refl (rw same at p.whole) q.whole

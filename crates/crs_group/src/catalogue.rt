@@ -12,7 +12,7 @@ ghost use Rattle.crs_group.specs.inner.Putting.{IsJoined, IsPut, IsRefused};
 ghost use Rattle.crs_group.specs.declared.placed.Placed.TheVariants.{Group};
 ghost use Rattle.crs_group.specs.GroupTexts.{IsCatalogue, IsCatalogueOf, IsUnder, then_line, PlacedLine};
 ghost use Rattle.crs_group.specs.inner.Known.{HasGroup};
-ghost use Rattle.crs_group.specs.UnderRules.{IsCatalogueUnder};
+ghost use Rattle.crs_group.specs.UnderRules.{IsCatalogueOfUnder, IsCatalogueUnder};
 
 use crate::Placed;
 use crate::digested::Digested;
@@ -63,6 +63,7 @@ impl Catalogue {
         ensures catalogue { IsCatalogue [] result }
         ensures lines { IsCatalogueOf [] result }
         ensures under { (rules : RulesParts) → IsCatalogueUnder rules [] result }
+        ensures lines_under { (rules : RulesParts) → IsCatalogueOfUnder rules [] result }
     {
         Catalogue {
             alloc,
@@ -141,6 +142,8 @@ impl Catalogue {
         ensures catalogue { IfOk result (λ place. (placed : List PlacedLine) →
             IsCatalogueUnder rules.now placed self.old →
             IsCatalogueUnder rules.now (then_line placed line text.now place) self.new) }
+        ensures lines { OnOk result ((lines : List Line) → IsCatalogueOfUnder rules.now lines self.old →
+            IsCatalogueOfUnder rules.now (lines ++ line_of line text.now ∷ []) self.new) }
         ensures level { self.new.level ≡ self.old.level }
         ensures unchanged { OnErr result (self.new ≡ self.old) }
     {

@@ -3,15 +3,20 @@ ghost use Rattle.std.specs.Prelude.{◌≡◌, List, map};
 ghost use Rattle.crs_value.specs.declared.values.level.Level.TheVariants as levels;
 ghost use Rattle.crs_group.specs.Catalogue.{CatalogueParts, Line};
 ghost use Rattle.crs_group.specs.GroupTexts.{IsCatalogueOf, IsPartition, PlacedLine};
+ghost use Rattle.crs_group.specs.UnderRules.{IsCatalogueOfUnder};
 ghost use Rattle.crs_group.specs.United.{AreUnited};
+ghost use Rattle.crs_rules.specs.Rules.{AreRules, RulesParts};
 
-/// The catalogue of some lines, at a level, is one.
+/// The catalogue of some lines, at a level, is one; so is that of lines under rules.
 pub fn catalogue_is_one()
-    ensures { (lines : List Line) (a b : CatalogueParts) → IsCatalogueOf lines a → IsCatalogueOf lines b →
+    ensures alone { (lines : List Line) (a b : CatalogueParts) → IsCatalogueOf lines a → IsCatalogueOf lines b →
         a.level ≡ b.level → a ≡ b }
+    ensures under { (rules : RulesParts) → AreRules rules → (lines : List Line) (a b : CatalogueParts) →
+        IsCatalogueOfUnder rules lines a → IsCatalogueOfUnder rules lines b → a.level ≡ b.level → a ≡ b }
 {
     crs_canon::laws::main_theorem();
     crs_value::laws::one_answer();
+    crs_rules::laws::accepted_text_has_one_form();
 }
 
 /// The groups of a catalogue by definition are unions of its groups at the full level.

@@ -7,9 +7,9 @@ mod messages;
 mod output;
 mod runs;
 
-use crs_desk::{JobFault, PATH_WORDS, RequestFault, RunFault, request};
+use crs_desk::{JobFault, PATH_WORDS, RequestFault, RunFault, is_verbose, request};
 use fault::Fault;
-use messages::tell_bad_words;
+use messages::{tell_bad_words, words_of};
 use runs::answer;
 use std::process::ExitCode;
 use std::{env, io};
@@ -34,16 +34,36 @@ fn run(rt: &HostRuntime) -> Result<u8, Fault> {
     }
 }
 
-// Each fault is a line, and some have a second one that says more. A failure of standard error itself can't be told.
+// Each fault is a line. A failure of standard error itself can't be told.
 fn report(rt: &HostRuntime, fault: &Fault) -> u8 {
     if let Fault::Told = fault {
         return FAULT;
     }
     let _ = eprintln!(rt; "crsdesk: {fault}");
+    if has_reason(fault)
+        && let Ok(words) = words_of(rt)
+        && is_verbose(&words)
+    {
+        tell_reason(rt, fault, &words);
+    }
+    FAULT
+}
+
+fn has_reason(fault: &Fault) -> bool {
+    matches!(
+        fault,
+        Fault::Word | Fault::Job(JobFault::Part) | Fault::Read(_) | Fault::Write(_)
+    )
+}
+
+// Why a fault came, where that is known.
+fn tell_reason(rt: &HostRuntime, fault: &Fault, words: &[Vec<u8>]) {
     match fault {
-        Fault::Word => tell_bad_words(rt),
+        Fault::Word => tell_bad_words(rt, words),
         Fault::Job(JobFault::Part) => {
-            let _ = eprintln!(rt; "crsdesk: --first takes words of paths: {PATH_WORDS}");
+            if let Ok(words) = PATH_WORDS.join(rt.alloc(), ", ") {
+                let _ = eprintln!(rt; "crsdesk: --first takes words of paths: {words}");
+            }
         }
         Fault::Read(error) => {
             let _ = eprintln!(rt; "crsdesk: standard input: {error}");
@@ -53,7 +73,6 @@ fn report(rt: &HostRuntime, fault: &Fault) -> u8 {
         }
         _ => {}
     }
-    FAULT
 }
 
 // `clap`'s own text. Help and the version that can't be written are a fault.

@@ -1,7 +1,7 @@
 //! Lines on standard error. A failure of standard error itself can't be told.
 use crs_desk::append_escaped;
 use std::alloc::{AllocError, Global};
-use std::env::{Env, FillError};
+use std::env::Env;
 use std::fmt::Display;
 use std::str;
 
@@ -24,17 +24,23 @@ pub fn tell<D: Display + Drop>(rt: &HostRuntime, name: &str, words: &str, what: 
     }
 }
 
-/// A line for each word of the command line that isn't UTF-8, with its bytes: those outside ASCII as `\xHH`.
-pub fn tell_bad_words(rt: &HostRuntime) {
-    let Ok(mut room) = vec![in rt.alloc(); 0u8; MAX_WORD] else {
-        return;
-    };
-    for number in 0..usize::MAX {
-        match rt.arg(number, &mut room) {
-            Ok(length) => tell_bad_word(rt, number, &room[..length]),
-            Err(FillError::TooLong) => {}
-            Err(FillError::NotPresent) => return,
-        }
+/// The words behind the program's name, also those that aren't UTF-8.
+pub fn words_of(rt: &HostRuntime) -> Result<Vec<Vec<u8>>, AllocError> {
+    let mut room = vec![in rt.alloc(); 0u8; MAX_WORD]?;
+    let mut words = Vec::new(rt.alloc());
+    for number in 1..usize::MAX {
+        let Ok(length) = rt.arg(number, &mut room) else {
+            break;
+        };
+        words.push(Vec::from_slice(rt.alloc(), &room[..length])?)?;
+    }
+    Ok(words)
+}
+
+/// A line for each of these words that isn't UTF-8, with its bytes: those outside ASCII as `\xHH`.
+pub fn tell_bad_words(rt: &HostRuntime, words: &[Vec<u8>]) {
+    for place in 0..words.len() {
+        tell_bad_word(rt, place + 1, words[place].as_slice());
     }
 }
 

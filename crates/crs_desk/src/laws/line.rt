@@ -1,10 +1,12 @@
 //! Laws of the definitions, as contracts of functions that do nothing.
-ghost use Rattle.std.specs.Prelude.{◌≡◌, ◌≢◌, ◌<◌, ℕ, [], ◌∷◌, ◌++◌, List, Some, IsSome, true, false, codes};
+ghost use Rattle.std.specs.Prelude.{◌≡◌, ◌≢◌, ◌<◌, ℕ, Bool, [], ◌∷◌, ◌++◌, List, Some, IsSome, true, false, codes, decimal};
 ghost use Rattle.std.specs.List.{list_all};
 ghost use Rattle.clap.specs.Words.{Text, takes};
-ghost use Rattle.crs_desk.specs.Requests.{standard};
+ghost use Rattle.crs_same.specs.Paths.{step_text};
+ghost use Rattle.crs_same.specs.declared.step.Step.TheVariants.{Axis};
+ghost use Rattle.crs_desk.specs.Requests.{request_for, standard, word_of};
 ghost use Rattle.crs_group.specs.GroupOutput.{plain};
-ghost use Rattle.crs_desk.specs.CommandLine.{asked, desk, is_plain_word};
+ghost use Rattle.crs_desk.specs.CommandLine.{asked, desk, if_asked, is_plain_word};
 ghost use Rattle.crs_desk.specs.declared.line.requests.Layout.TheVariants.{Lines, OneText};
 ghost use Rattle.crs_desk.specs.declared.line.requests.Request.TheVariants.{Canon, Check, Same, Group, Other};
 ghost use Rattle.crs_desk.specs.declared.line.requests.Task.TheVariants as task;
@@ -19,15 +21,12 @@ pub fn taken_line_asks()
     ensures { (words : List Text) → takes desk words ≡ true → IsSome (asked words) }
 {}
 
-/// The two words after `same` are the texts where neither is a flag, and any two after `same --`. The level is `full`
-/// there. The word after `--level` is the level of `same`, before the two texts and after them, where no word is a
+/// The two words after `same` are the texts where neither is a flag. The level is `full` there. The word after `--level` is the level of `same`, before the two texts and after them, where no word is a
 /// flag. `same` is taken neither alone nor with one word. A first word that begins as a flag, a hyphen (45) and an
 /// ASCII character, but for `--`, is no text of `same`.
 pub fn same_takes_two_texts()
     ensures plain { (program first second : Text) → is_plain_word first ≡ true → is_plain_word second ≡ true →
         asked (program ∷ codes "same" ∷ first ∷ second ∷ []) ≡ Some (Same first second (codes "full")) }
-    ensures dashes { (program first second : Text) →
-        asked (program ∷ codes "same" ∷ codes "--" ∷ first ∷ second ∷ []) ≡ Some (Same first second (codes "full")) }
     ensures before { (program level first second : Text) → is_plain_word level ≡ true →
         is_plain_word first ≡ true → is_plain_word second ≡ true →
         asked (program ∷ codes "same" ∷ codes "--level" ∷ level ∷ first ∷ second ∷ [])
@@ -58,14 +57,38 @@ pub fn the_level_is_a_word()
     ensures whole { (program : Text) → takes desk (program ∷ codes "canon" ∷ codes "--level" ∷ []) ≡ false }
 {}
 
-/// With `--repeated` `group` writes the groups of two lines or more, with `--names` names, with `--json` objects.
+/// `-v` or `--verbose` changes no request: before a command with any words, and behind one.
+pub fn verbose_changes_no_request()
+    ensures canon { (program : Text) (words : List Text) →
+        asked (program ∷ codes "-v" ∷ codes "canon" ∷ words) ≡ asked (program ∷ codes "canon" ∷ words) }
+    ensures check { (program : Text) (words : List Text) →
+        asked (program ∷ codes "-v" ∷ codes "check" ∷ words) ≡ asked (program ∷ codes "check" ∷ words) }
+    ensures group { (program : Text) (words : List Text) →
+        asked (program ∷ codes "-v" ∷ codes "group" ∷ words) ≡ asked (program ∷ codes "group" ∷ words) }
+    ensures same { (program : Text) (words : List Text) →
+        asked (program ∷ codes "-v" ∷ codes "same" ∷ words) ≡ asked (program ∷ codes "same" ∷ words) }
+    ensures explain { (program : Text) (words : List Text) →
+        asked (program ∷ codes "-v" ∷ codes "explain" ∷ words) ≡ asked (program ∷ codes "explain" ∷ words) }
+    ensures word { (program : Text) → asked (program ∷ codes "--verbose" ∷ codes "check" ∷ []) ≡ Some Check }
+    ensures behind_canon { (program : Text) →
+        asked (program ∷ codes "canon" ∷ codes "--verbose" ∷ []) ≡ Some (Canon (codes "full")) }
+    ensures behind_check { (program : Text) → asked (program ∷ codes "check" ∷ codes "-v" ∷ []) ≡ Some Check }
+    ensures behind_group { (program : Text) →
+        asked (program ∷ codes "group" ∷ codes "-v" ∷ []) ≡ Some (Group (codes "full")) }
+    ensures behind_same { (program first second : Text) → is_plain_word first ≡ true → is_plain_word second ≡ true →
+        asked (program ∷ codes "same" ∷ first ∷ codes "-v" ∷ second ∷ []) ≡ Some (Same first second (codes "full")) }
+    ensures behind_explain { (program first : Text) → is_plain_word first ≡ true →
+        asked (program ∷ codes "explain" ∷ first ∷ codes "--verbose" ∷ [])
+        ≡ Some (Other (codes "full") [] (work.Text manner.Lines first [])) }
+{}
+
+/// With `--repeated` `group` writes the groups of two lines or more, with `--names` names, with `--json` objects: each
+/// choice of these flags asks for its listing.
 pub fn group_has_flags()
-    ensures repeated { (program : Text) → asked (program ∷ codes "group" ∷ codes "--repeated" ∷ [])
-        ≡ Some (Other (codes "full") [] (work.Standard (task.Group (record { repeated = true; names = false; json = false })))) }
-    ensures names { (program : Text) → asked (program ∷ codes "group" ∷ codes "--names" ∷ [])
-        ≡ Some (Other (codes "full") [] (work.Standard (task.Group (record { repeated = false; names = true; json = false })))) }
-    ensures json { (program : Text) → asked (program ∷ codes "group" ∷ codes "--json" ∷ [])
-        ≡ Some (Other (codes "full") [] (work.Standard (task.Group (record { repeated = false; names = false; json = true })))) }
+    ensures each { (program : Text) (json repeated names : Bool) → asked (program ∷ codes "group"
+        ∷ if_asked json (codes "--json") (if_asked repeated (codes "--repeated") (if_asked names (codes "--names") [])))
+        ≡ Some (request_for (codes "full") []
+        (work.Standard (task.Group (record { repeated = repeated; names = names; json = json })))) }
     ensures both { (program : Text) → asked (program ∷ codes "group" ∷ codes "--names" ∷ codes "--repeated" ∷ [])
         ≡ Some (Other (codes "full") [] (work.Standard (task.Group (record { repeated = true; names = true; json = false })))) }
     ensures before { (program level : Text) → is_plain_word level ≡ true →
@@ -74,6 +97,11 @@ pub fn group_has_flags()
     ensures after { (program level : Text) → is_plain_word level ≡ true →
         asked (program ∷ codes "group" ∷ codes "--level" ∷ level ∷ codes "--repeated" ∷ [])
         ≡ Some (Other level [] (work.Standard (task.Group (record { repeated = true; names = false; json = false })))) }
+{}
+
+/// The text of a step to an axis is its word, which `--first` takes, and the axis's position.
+pub fn axes_have_one_word()
+    ensures { (position : ℕ) → step_text (Axis position) ≡ word_of (Axis position) ++ decimal position }
 {}
 
 /// With `--lines`, before the level or after it, `canon` takes each line as a text. `check` takes each line as a text
@@ -99,8 +127,7 @@ pub fn canon_and_check_have_lines()
     ensures group { (program : Text) → takes desk (program ∷ codes "group" ∷ codes "--lines" ∷ []) ≡ false }
 {}
 
-/// A line asks for `explain` of standard input, of one text or of two, where no word is a flag, and of any two after
-/// `--`. The level is `full` there. The word after `--level` is the level of `explain`, alone, before two texts and
+/// A line asks for `explain` of standard input, of one text or of two, where no word is a flag. The level is `full` there. The word after `--level` is the level of `explain`, alone, before two texts and
 /// after them, where no word is a flag. `--json` asks for JSON. The words after each `--first=` say what is told first.
 pub fn explain_takes_texts_and_options()
     ensures alone { (program : Text) →
@@ -109,9 +136,6 @@ pub fn explain_takes_texts_and_options()
         ≡ Some (Other (codes "full") [] (work.Text manner.Lines first [])) }
     ensures two { (program first second : Text) → is_plain_word first ≡ true → is_plain_word second ≡ true →
         asked (program ∷ codes "explain" ∷ first ∷ second ∷ [])
-        ≡ Some (Other (codes "full") [] (work.Pair (comparison.Explain manner.Lines) (record { kind = OfText; first = first; second = second; rules = [] }))) }
-    ensures dashes { (program first second : Text) →
-        asked (program ∷ codes "explain" ∷ codes "--" ∷ first ∷ second ∷ [])
         ≡ Some (Other (codes "full") [] (work.Pair (comparison.Explain manner.Lines) (record { kind = OfText; first = first; second = second; rules = [] }))) }
     ensures level { (program level : Text) → is_plain_word level ≡ true →
         asked (program ∷ codes "explain" ∷ codes "--level" ∷ level ∷ [])
@@ -155,8 +179,41 @@ pub fn words_are_files()
         (record { kind = FileName; first = first; second = second; rules = [] }))) }
 {}
 
+/// After `--` each word is a file of `canon`, `check` and `group`, a text of `same` and `explain`, and a file of these
+/// with `--files`, also where it begins with a hyphen. The level is `full` there.
+pub fn hyphens_end_options()
+    ensures canon { (program name : Text) (names : List Text) →
+        asked (program ∷ codes "canon" ∷ codes "--" ∷ name ∷ names)
+        ≡ Some (Other (codes "full") [] (work.Files (task.Canon OneText) (name ∷ names) [])) }
+    ensures check { (program name : Text) (names : List Text) →
+        asked (program ∷ codes "check" ∷ codes "--" ∷ name ∷ names)
+        ≡ Some (Other (codes "full") [] (work.Files (task.Check OneText) (name ∷ names) [])) }
+    ensures group { (program name : Text) (names : List Text) →
+        asked (program ∷ codes "group" ∷ codes "--" ∷ name ∷ names)
+        ≡ Some (Other (codes "full") [] (work.Files (task.Group plain) (name ∷ names) [])) }
+    ensures same { (program first second : Text) →
+        asked (program ∷ codes "same" ∷ codes "--" ∷ first ∷ second ∷ []) ≡ Some (Same first second (codes "full")) }
+    ensures same_files { (program first second : Text) →
+        asked (program ∷ codes "same" ∷ codes "--files" ∷ codes "--" ∷ first ∷ second ∷ [])
+        ≡ Some (Other (codes "full") [] (work.Pair comparison.Same
+        (record { kind = FileName; first = first; second = second; rules = [] }))) }
+    ensures one { (program first : Text) → asked (program ∷ codes "explain" ∷ codes "--" ∷ first ∷ [])
+        ≡ Some (Other (codes "full") [] (work.Text manner.Lines first [])) }
+    ensures one_file { (program first : Text) →
+        asked (program ∷ codes "explain" ∷ codes "--files" ∷ codes "--" ∷ first ∷ [])
+        ≡ Some (Other (codes "full") [] (work.Files (task.Explain manner.Lines) (first ∷ []) [])) }
+    ensures two { (program first second : Text) →
+        asked (program ∷ codes "explain" ∷ codes "--" ∷ first ∷ second ∷ [])
+        ≡ Some (Other (codes "full") [] (work.Pair (comparison.Explain manner.Lines)
+        (record { kind = OfText; first = first; second = second; rules = [] }))) }
+    ensures two_files { (program first second : Text) →
+        asked (program ∷ codes "explain" ∷ codes "--files" ∷ codes "--" ∷ first ∷ second ∷ [])
+        ≡ Some (Other (codes "full") [] (work.Pair (comparison.Explain manner.Lines)
+        (record { kind = FileName; first = first; second = second; rules = [] }))) }
+{}
+
 /// The words after each `--rules` are rules files, where no word is a flag: a task over standard input, where the line
-/// names no file, or over two texts is under their rules. `check` has none.
+/// names no file, over files, over a text or over two is under their rules. `check` has none.
 pub fn rules_are_named()
     ensures canon { (program file : Text) → is_plain_word file ≡ true →
         asked (program ∷ codes "canon" ∷ codes "--rules" ∷ file ∷ [])
@@ -169,5 +226,35 @@ pub fn rules_are_named()
         asked (program ∷ codes "same" ∷ codes "--rules" ∷ file ∷ first ∷ second ∷ [])
         ≡ Some (Other (codes "full") [] (work.Pair comparison.Same
         (record { kind = OfText; first = first; second = second; rules = file ∷ [] }))) }
+    ensures file { (program file name : Text) → is_plain_word file ≡ true → is_plain_word name ≡ true →
+        asked (program ∷ codes "canon" ∷ codes "--rules" ∷ file ∷ name ∷ [])
+        ≡ Some (Other (codes "full") [] (work.Files (task.Canon OneText) (name ∷ []) (file ∷ []))) }
+    ensures group { (program file : Text) → is_plain_word file ≡ true →
+        asked (program ∷ codes "group" ∷ codes "--rules" ∷ file ∷ [])
+        ≡ Some (Other (codes "full") [] (work.Files (task.Group plain) standard (file ∷ []))) }
+    ensures same_files { (program file first second : Text) → is_plain_word file ≡ true →
+        is_plain_word first ≡ true → is_plain_word second ≡ true →
+        asked (program ∷ codes "same" ∷ codes "--files" ∷ codes "--rules" ∷ file ∷ first ∷ second ∷ [])
+        ≡ Some (Other (codes "full") [] (work.Pair comparison.Same
+        (record { kind = FileName; first = first; second = second; rules = file ∷ [] }))) }
+    ensures explain { (program file : Text) → is_plain_word file ≡ true →
+        asked (program ∷ codes "explain" ∷ codes "--rules" ∷ file ∷ [])
+        ≡ Some (Other (codes "full") [] (work.Files (task.Explain manner.Lines) standard (file ∷ []))) }
+    ensures one { (program file first : Text) → is_plain_word file ≡ true → is_plain_word first ≡ true →
+        asked (program ∷ codes "explain" ∷ codes "--rules" ∷ file ∷ first ∷ [])
+        ≡ Some (Other (codes "full") [] (work.Text manner.Lines first (file ∷ []))) }
+    ensures one_file { (program file first : Text) → is_plain_word file ≡ true → is_plain_word first ≡ true →
+        asked (program ∷ codes "explain" ∷ codes "--files" ∷ codes "--rules" ∷ file ∷ first ∷ [])
+        ≡ Some (Other (codes "full") [] (work.Files (task.Explain manner.Lines) (first ∷ []) (file ∷ []))) }
+    ensures two { (program file first second : Text) → is_plain_word file ≡ true →
+        is_plain_word first ≡ true → is_plain_word second ≡ true →
+        asked (program ∷ codes "explain" ∷ codes "--rules" ∷ file ∷ first ∷ second ∷ [])
+        ≡ Some (Other (codes "full") [] (work.Pair (comparison.Explain manner.Lines)
+        (record { kind = OfText; first = first; second = second; rules = file ∷ [] }))) }
+    ensures two_files { (program file first second : Text) → is_plain_word file ≡ true →
+        is_plain_word first ≡ true → is_plain_word second ≡ true →
+        asked (program ∷ codes "explain" ∷ codes "--files" ∷ codes "--rules" ∷ file ∷ first ∷ second ∷ [])
+        ≡ Some (Other (codes "full") [] (work.Pair (comparison.Explain manner.Lines)
+        (record { kind = FileName; first = first; second = second; rules = file ∷ [] }))) }
     ensures check { (program file : Text) → takes desk (program ∷ codes "check" ∷ codes "--rules" ∷ file ∷ []) ≡ false }
 {}

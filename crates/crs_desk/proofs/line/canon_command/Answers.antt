@@ -9,5 +9,6 @@ returns c =
     let one = grows_one c.level_argument.result alone c.arg-command.ensures c.level_argument.ensures.local c.level_argument.ensures.rule in
     let two = grows_one c.rules_argument.result one c.with_argument-command.ensures c.rules_argument.ensures.local c.rules_argument.ensures.rule in
     let three = grows_one c.flag_argument.result two c.with_argument-command-2.ensures c.flag_argument.ensures.local c.flag_argument.ensures.rule in
-    let four = grows_one c.file_argument.result three c.with_argument.ensures c.file_argument.ensures.local c.file_argument.ensures.rule in
-    record { shape = grown (new_shape (codes "canon")) four c.lone_command-alone.ensures.shape; globals = four.globals }
+    let four = grows_one c.file_argument.result three c.with_argument-command-3.ensures c.file_argument.ensures.local c.file_argument.ensures.rule in
+    let five = grows_one c.verbose_argument.result four c.with_argument.ensures c.verbose_argument.ensures.local c.verbose_argument.ensures.rule in
+    record { shape = grown (new_shape (codes "canon")) five c.lone_command-alone.ensures.shape; globals = five.globals }

@@ -7,5 +7,6 @@ pub returns : goal.returns
 returns c =
     let alone = grows_none (Ok c.lone_command-alone.result) c.lone_command-alone.ensures.globals in
     let one = grows_one c.flag_argument.result alone c.arg-command.ensures c.flag_argument.ensures.local c.flag_argument.ensures.rule in
-    let two = grows_one c.file_argument.result one c.with_argument.ensures c.file_argument.ensures.local c.file_argument.ensures.rule in
-    record { shape = grown (new_shape (codes "check")) two c.lone_command-alone.ensures.shape; globals = two.globals }
+    let two = grows_one c.file_argument.result one c.with_argument-command.ensures c.file_argument.ensures.local c.file_argument.ensures.rule in
+    let three = grows_one c.verbose_argument.result two c.with_argument.ensures c.verbose_argument.ensures.local c.verbose_argument.ensures.rule in
+    record { shape = grown (new_shape (codes "check")) three c.lone_command-alone.ensures.shape; globals = three.globals }

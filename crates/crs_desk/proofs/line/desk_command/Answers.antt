@@ -1,12 +1,13 @@
 use Rattle.std.proofs.Common.{Ok}
-use Rattle.crs_desk.proofs.OptionLemmas.{HasCommands, adds_command}
+use Rattle.crs_desk.proofs.OptionLemmas.{HasCommands, adds_argument, adds_command}
 use Rattle.crs_desk.specs.CommandLine.{lone_desk}
 use Rattle.crs_desk.proofs.line.desk_command.Goals as goal
 
 pub returns : goal.returns
 returns c =
     let alone : HasCommands (Ok c.desk_alone.result) lone_desk = record { shape = c.desk_alone.ensures.shape; globals = c.desk_alone.ensures.globals } in
-    let one = adds_command c.canon_command.result _ alone c.canon_command.ensures.shape c.canon_command.ensures.globals c.with_command-command.ensures in
+    let verbose = adds_argument c.verbose_argument.result alone c.with_argument-command.ensures c.verbose_argument.ensures.local c.verbose_argument.ensures.rule in
+    let one = adds_command c.canon_command.result _ verbose c.canon_command.ensures.shape c.canon_command.ensures.globals c.with_command-command.ensures in
     let two = adds_command c.check_command.result _ one c.check_command.ensures.shape c.check_command.ensures.globals c.with_command-command-2.ensures in
     let three = adds_command c.group_command.result _ two c.group_command.ensures.shape c.group_command.ensures.globals c.with_command-command-3.ensures in
     let four = adds_command c.same_command.result _ three c.same_command.ensures.shape c.same_command.ensures.globals c.with_command-command-4.ensures in

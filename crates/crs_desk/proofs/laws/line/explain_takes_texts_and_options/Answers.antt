@@ -9,7 +9,6 @@ returns c = record {
   alone = λ program. refl;
   one = λ program first one. words_asked explain program (plainly_given first one ∷ []) refl;
   two = λ program first second one other. words_asked explain program (plainly_given first one ∷ plainly_given second other ∷ []) refl;
-  dashes = λ program first second. refl;
   level = λ program level usual. words_asked explain program (literal (codes "--level") ∷ plainly_given level usual ∷ []) refl;
   before = λ program level first second usual one other.
       words_asked explain program (literal (codes "--level") ∷ plainly_given level usual ∷ plainly_given first one ∷ plainly_given second other ∷ []) refl;

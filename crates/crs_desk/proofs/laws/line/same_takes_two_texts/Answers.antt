@@ -8,7 +8,6 @@ pub returns : goal.returns
 unfolding clap_on_literals
 returns c = record {
   plain = λ program first second one other. words_asked same program (plainly_given first one ∷ plainly_given second other ∷ []) refl;
-  dashes = λ program first second. refl;
   before = λ program level first second usual one other.
       words_asked same program (literal (codes "--level") ∷ plainly_given level usual ∷ plainly_given first one ∷ plainly_given second other ∷ []) refl;
   after = λ program level first second usual one other.

@@ -1,4 +1,4 @@
-use Rattle.std.proofs.Common.{[], codes, refl, ◌∷◌}
+use Rattle.std.proofs.Common.{[], codes, false, refl, ◌∷◌}
 use Rattle.clap.proofs.OnLiterals.{clap_on_literals}
 use Rattle.clap.specs.Walk.{idle, nothing_held, positional}
 use Rattle.crs_group.specs.GroupOutput.{plain}
@@ -7,17 +7,17 @@ use Rattle.crs_desk.proofs.laws.line.words_are_files.Goals as goal
 use Rattle.crs_desk.specs.declared.line.requests.Layout.TheVariants.{OneText}
 use Rattle.crs_desk.specs.declared.line.requests.Task.TheVariants as task
 
-canon_reads : ReadsFiles canon (task.Canon OneText)
+canon_reads : ReadsFiles canon (task.Canon OneText) false
 canon_reads [] last word = (plain_turn (built_at canon) nothing_held idle 1 word, plain_turn (built_at canon) (with_files [] last) positional 1 word, refl, refl)
 canon_reads (name ∷ names) last word =
     (plain_turn (built_at canon) nothing_held idle 1 word, plain_turn (built_at canon) (with_files (name ∷ names) last) positional 1 word, refl, refl)
 
-check_reads : ReadsFiles check (task.Check OneText)
+check_reads : ReadsFiles check (task.Check OneText) false
 check_reads [] last word = (plain_turn (built_at check) nothing_held idle 1 word, plain_turn (built_at check) (with_files [] last) positional 1 word, refl, refl)
 check_reads (name ∷ names) last word =
     (plain_turn (built_at check) nothing_held idle 1 word, plain_turn (built_at check) (with_files (name ∷ names) last) positional 1 word, refl, refl)
 
-group_reads : ReadsFiles group (task.Group plain)
+group_reads : ReadsFiles group (task.Group plain) false
 group_reads [] last word = (plain_turn (built_at group) nothing_held idle 1 word, plain_turn (built_at group) (with_files [] last) positional 1 word, refl, refl)
 group_reads (name ∷ names) last word =
     (plain_turn (built_at group) nothing_held idle 1 word, plain_turn (built_at group) (with_files (name ∷ names) last) positional 1 word, refl, refl)

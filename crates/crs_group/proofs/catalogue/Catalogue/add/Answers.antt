@@ -46,15 +46,15 @@ returns-then-is_blank-clause-lines c =
 
 pub returns-in-Some-clause-lines : goal.returns-in-Some-clause-lines
 returns-in-Some-clause-lines c =
-    lines-result c.args.self.now c.join.new.self c.args.line c.args.text.now c.join.result
+    lines-result IsCanonicalOf ShareWhereSame c.args.self.now c.join.new.self c.args.line c.args.text.now c.join.result
     (returns-in-Some-clause-catalogue c)
 
 pub returns-in-Ok-clause-lines : goal.returns-in-Ok-clause-lines
 returns-in-Ok-clause-lines c =
-    lines-result c.args.self.now c.put_and_remember.new.self c.args.line c.args.text.now c.put_and_remember.result
+    lines-result IsCanonicalOf ShareWhereSame c.args.self.now c.put_and_remember.new.self c.args.line c.args.text.now c.put_and_remember.result
     (returns-in-Ok-clause-catalogue c)
 
 pub returns-in-Err-clause-lines : goal.returns-in-Err-clause-lines
 returns-in-Err-clause-lines c =
-    lines-result c.args.self.now c.refuse.new.self c.args.line c.args.text.now c.refuse.result
+    lines-result IsCanonicalOf ShareWhereSame c.args.self.now c.refuse.new.self c.args.line c.args.text.now c.refuse.result
     (returns-in-Err-clause-catalogue c)

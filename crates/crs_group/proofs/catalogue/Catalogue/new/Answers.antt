@@ -23,5 +23,8 @@ returns-clause-under c rules =
     by-parts (IsForm rules) (ShareWhereSameUnder rules) [] c.args.level [] [] made refl c.new.ensures c.new-2.ensures.items
     (none-added (IsForm rules) (ShareWhereSameUnder rules) c.args.level)
 
+pub returns-clause-lines_under : goal.returns-clause-lines_under
+returns-clause-lines_under c rules = record { placed = []; are_lines = refl; whole = returns-clause-under c rules }
+
 pub invariant_of-result : goal.invariant_of-result
 invariant_of-result c = none-known c.args.level (canons c.new.result) c.new-3.result c.new-3.ensures
