@@ -1,7 +1,6 @@
 -- What commands write under rules, and their status.
-use Rattle.std.specs.Prelude.{◌≡◌, ◌++◌, ◌∷◌, ◌⊎◌, ◌==◌, [], ℕ, List, Bool, Option, Some, None, codes, not, take, if◌then◌else◌}
-use Rattle.std.specs.List.{flat_map, list_any, prefix_len}
-use Rattle.std.specs.Str.{bytes_eq}
+use Rattle.std.specs.Prelude.{◌≡◌, ◌++◌, ◌∷◌, ◌⊎◌, [], ℕ, List, Option, Some, None, codes, if◌then◌else◌}
+use Rattle.std.specs.List.{flat_map}
 use Rattle.crs_value.specs.declared.values.crs.Crs.{Crs}
 use Rattle.crs_value.specs.declared.values.level.Level.{Level}
 use Rattle.crs_same.specs.SameCrs.{SameCrs}
@@ -9,7 +8,7 @@ use Rattle.crs_writer.specs.Canonical.{IsCanonicalOf}
 use Rattle.crs_rules.specs.FormOrder.{IsInFormOrder}
 use Rattle.crs_rules.specs.Rewritten.{IsForm, renamed}
 use Rattle.crs_rules.specs.Rules.{RulesParts, meaning}
-use Rattle.crs_explain.specs.Differing.{PartTexts, difference_line}
+use Rattle.crs_explain.specs.Differing.{PartTexts, difference_line, has_part, part_of}
 use Rattle.crs_explain.specs.InOrder.{AreOrderedTexts}
 use Rattle.crs_explain.specs.Json.{difference_members, difference_object}
 use Rattle.crs_desk.specs.ExplainOutput.{TellsRefusalOf, same_told}
@@ -71,18 +70,6 @@ told_parts manner.Objects (Some texts) = flat_map difference_object texts
 abbrev pub status_of : Option (List PartTexts) → ℕ
 status_of None = 0
 status_of (Some texts) = 1
-
--- a byte of the path to a part: in that to a member of a set a bracket follows
-abbrev pub is_of_part : ℕ → Bool
-is_of_part b = not (b == 91)
-
--- the path to a part, without the name of a member and what follows
-abbrev pub part_of : List ℕ → List ℕ
-part_of path = take (prefix_len is_of_part path) path
-
--- whether one of some texts tells of this part
-abbrev pub has_part : List PartTexts → List ℕ → Bool
-has_part texts part = list_any (λ one. bytes_eq (part_of one.path) part) texts
 
 -- what is told of a part with the mark; of an object it is a first member
 abbrev pub with_mark : Manner → PartTexts → List ℕ

@@ -104,6 +104,11 @@ pub fn no_rules_give_canonical_texts()
     axes_are_canonical();
 }
 
+/// No rules rewrite no part of a CRS.
+pub fn no_rules_rewrite_nothing()
+    ensures { (x : Crs) → renamed (meaning no_rules) x ≡ x }
+{}
+
 /// The order of aliases says nothing, where rules are steady.
 pub fn order_of_rules_is_nothing()
     ensures { (r s : RulesParts) → DifferInOrder r s → AreSteady r → (level : Level) (text bytes : List ℕ) →
