@@ -1,6 +1,6 @@
 -- Of each part that differs something is told, and all that is told of it tells of that part.
-use Rattle.std.proofs.Common.{◌≡◌, ◌∙◌, ◌==◌, ◌||◌, ◌↔◌, ℕ, zero, suc, Bool, true, inl, inr, Option, Some, None, List, [], ◌∷◌, ◌++◌, length, list_any, max, map, refl, ap, subst, sym, append_assoc}
-use Rattle.std.specs.List.{AllByRecursion, flat_map}
+use Rattle.std.proofs.Common.{◌≡◌, ◌∙◌, ◌+◌, codes, ◌↔◌, arith, ℕ, zero, suc, Bool, true, if◌then◌else◌, inl, inr, Option, Some, None, List, [], ◌∷◌, ◌++◌, length, max, map, refl, ap, subst, sym, take, append_assoc}
+use Rattle.std.specs.List.{AllByRecursion, flat_map, prefix_len}
 use Rattle.std.specs.List.Sorted.{IsPermutation}
 use Rattle.std.specs.Option.{option_map, option_and_then}
 use Rattle.std.specs.Str.{bytes_eq}
@@ -34,12 +34,12 @@ use Rattle.crs_streams.specs.Escaped.{escaped}
 use Rattle.crs_explain.proofs.DifferingLemmas.{NotSet}
 use Rattle.crs_explain.proofs.ToldLemmas.{both-empty}
 use Rattle.crs_explain.specs.InOrder.{AreOrderedTexts}
-use Rattle.crs_explain.specs.Differing.{AreDifferenceTexts, AreTexts, AreTextsBehind, AreTextsOf, AreTextsOfName, AreTextsOfNames, AreTextsOfSet, PartTexts, are_empty, difference_line, has_part, is_of_part, parameter_path, part_of, unless_empty}
+use Rattle.crs_explain.specs.Differing.{AreDifferenceTexts, AreTexts, AreTextsBehind, AreTextsOf, AreTextsOfName, AreTextsOfNames, AreTextsOfOne, AreTextsOfSet, PartTexts, are_empty, difference_line, has_part, shown, is_of_part, parameter_path, part_of, unless_empty}
 use Rattle.crs_canon.specs.Named.{named_once}
 
-each-both : {V : Type 0} {P : V → Type 0} (xs ys : List V) → Each P xs → Each P ys → Each P (xs ++ ys)
-each-both [] ys f g = g
-each-both (x ∷ xs) ys f g = (f.0, each-both xs ys f.1 g)
+each-both : {V : Type 0} (P : V → Type 0) (xs ys : List V) → Each P xs → Each P ys → Each P (xs ++ ys)
+each-both P [] ys f g = g
+each-both P (x ∷ xs) ys f g = (f.0, each-both P xs ys f.1 g)
 
 -- ---- of each part something is told
 
@@ -63,7 +63,7 @@ module _ (level : Level) (told : (path : List ℕ) (xs ys : List ParameterParts)
   f ⨟ g = record {
     tells = λ found h.
         let (front, back, is, here, there) = h in
-        subst (Each IsTold) (sym is) (each-both front back (f.tells front here) (g.tells back there));
+        subst (Each IsTold) (sym is) (each-both IsTold front back (f.tells front here) (g.tells back there));
   }
 
   differing : {path : List Step} {Same : Type 0} {first second : Content} →
@@ -163,10 +163,18 @@ module _ (level : Level) (told : (path : List ℕ) (xs ys : List ParameterParts)
   unfolding parts_of_geodetic
   geodetic at a b = search (◌⨟◌, one, dynamic, frame-of, meridian, system, tail) depth 9
 
+  base : (at : List Step) (a b : BaseParts) → Tells (parts_of_base at level a b)
+  unfolding parts_of_base
+  base at a b =
+      one tt ⨟ dynamic (at ▸ step.Dynamic) a.dynamic b.dynamic ⨟ frame-of (at ▸ step.Datum) a.frame b.frame
+      ⨟ meridian (at ▸ step.Meridian) a.meridian b.meridian ⨟ units-if-any _ a.unit ⨟ one tt
+
   projected : (at : List Step) (a b : ProjectedParts) → IsConversion a.conversion → IsConversion b.conversion →
       Tells (parts_of_projected at level a b)
-  unfolding parts_of_projected parts_of_base
-  projected at a b is-a is-b = search (◌⨟◌, one, dynamic, frame-of, meridian, units-if-any, conversion, system, tail) depth 9
+  unfolding parts_of_projected
+  projected at a b is-a is-b =
+      one tt ⨟ base (at ▸ step.Base) a.base b.base ⨟ conversion (at ▸ step.Conversion) a.conversion b.conversion is-a is-b
+      ⨟ system (at ▸ step.System) a.system b.system ⨟ tail at a.tail b.tail
 
   vertical : (at : List Step) (a b : VerticalParts) → Tells (parts_of_vertical at level a b)
   unfolding parts_of_vertical
@@ -199,11 +207,17 @@ module _ (level : Level) (told : (path : List ℕ) (xs ys : List ParameterParts)
 
   -- ---- the part of each text
 
+  take-more : (n b : ℕ) (bytes : List ℕ) → take (1 + n) (b ∷ bytes) ≡ b ∷ take n bytes
+  take-more n b bytes = let e : 1 + n ≡ suc n = omega arith in ap (λ k. take k (b ∷ bytes)) e
+
   cut : (path rest : List ℕ) → part_of (path ++ 91 ∷ rest) ≡ part_of path
   cut [] rest = refl
   cut (b ∷ path) rest = elim (cases_Bool (is_of_part b)) [
-    | inl is ↦ rw (is, is) (ap (λ bytes. b ∷ bytes) (cut path rest))
-    | inr other ↦ rw (other, other) refl
+    | inl is ↦
+        rw is
+        (take-more (prefix_len is_of_part (path ++ 91 ∷ rest)) b (path ++ 91 ∷ rest) ∙ ap (λ bytes. b ∷ bytes) (cut path rest)
+        ∙ sym (take-more (prefix_len is_of_part path) b path))
+    | inr other ↦ rw other refl
   ]
 
   -- a text tells of the part at this path
@@ -219,7 +233,8 @@ module _ (level : Level) (told : (path : List ℕ) (xs ys : List ParameterParts)
 
   of-name : (path name : List ℕ) (x y : Option ParameterParts) (texts : List PartTexts) → AreTextsOfName level path name x y texts →
       Each (IsOf path) texts
-  of-name path name (Some x) (Some y) texts (found, differ, are) = behind path _ found texts are
+  of-name path name (Some x) (Some y) texts (found, differ, are) =
+      behind path (34 ∷ (name ++ codes "\"]")) found texts are
   of-name path name None y texts e = subst (Each (IsOf path)) (sym e) tt
   of-name path name (Some x) None texts e = subst (Each (IsOf path)) (sym e) tt
 
@@ -228,19 +243,25 @@ module _ (level : Level) (told : (path : List ℕ) (xs ys : List ParameterParts)
   of-names path xs ys [] texts e = subst (Each (IsOf path)) (sym e) tt
   of-names path xs ys (name ∷ names) texts (these, others, e, is, are) =
       subst (Each (IsOf path)) (sym e)
-      (each-both these others (of-name path name (named_once name xs) (named_once name ys) these is) (of-names path xs ys names others are))
+      (each-both (IsOf path) these others (of-name path name (named_once name xs) (named_once name ys) these is) (of-names path xs ys names others are))
 
   unless : (path first second : List ℕ) (one : PartTexts) → IsOf path one → Each (IsOf path) (if are_empty first second then [] else one ∷ [])
   unless path [] [] one is = tt
   unless path [] (b ∷ second) one is = (is, tt)
   unless path (a ∷ first) second one is = (is, tt)
 
-  of-part : (path : List ℕ) (first second : Content) (texts : List PartTexts) → AreTextsOf level path first second texts → Each (IsOf path) texts
-  of-part path (content.Parameters xs lacking) (content.Parameters ys others) texts (names, these, rest, paired, are, (one, e, is), whole) =
-      subst (Each (IsOf path)) (sym whole) (each-both these rest (of-names path xs ys names these are)
+  of-set : (path : List ℕ) (xs ys : List ParameterParts) (texts : List PartTexts) → AreTextsOfSet level path xs ys texts → Each (IsOf path) texts
+  of-set path xs ys texts (names, these, rest, paired, are, (one, e, is), whole) =
+      subst (Each (IsOf path)) (sym whole) (each-both (IsOf path) these rest (of-names path xs ys names these are)
       (subst (Each (IsOf path)) (sym e) (unless path one.first one.second one (ap part_of is.0))))
-  of-part path (content.Parameters xs lacking) second texts (one, e, is) = subst (Each (IsOf path)) (sym e) (ap part_of is.0, tt)
-  of-part path first second texts (one, e, is) = subst (Each (IsOf path)) (sym e) (ap part_of is.0, tt)
+
+  of-one : (path : List ℕ) (first second : Content) (texts : List PartTexts) → AreTextsOfOne level path first second texts → Each (IsOf path) texts
+  of-one path first second texts (one, e, is) = subst (Each (IsOf path)) (sym e) (ap part_of is.0, tt)
+
+  of-part : (path : List ℕ) (first second : Content) (texts : List PartTexts) → AreTextsOf level path first second texts → Each (IsOf path) texts
+  of-part path (content.Parameters xs lacking) (content.Parameters ys others) texts are = of-set path xs ys texts are
+  of-part path (content.Parameters xs lacking) second texts are = of-one path (content.Parameters xs lacking) second texts are
+  of-part path first second texts are = of-one path first second texts are
 
   -- ---- texts of the same parts
 
@@ -289,7 +310,7 @@ module _ (level : Level) (told : (path : List ℕ) (xs ys : List ParameterParts)
   all-told [] these others each e are = subst (Each (λ one. has_part others (part_of one.path) ≡ true)) (sym e) tt
   all-told (d ∷ found) these others (here, each) (front, back, e, is, are) (ahead, rest, f, was, were) =
       let path = path_text d.path in
-      rw (e, f) (each-both front back
+      rw (e, f) (each-both (λ one. has_part (ahead ++ rest) (part_of one.path) ≡ true) front back
       (more (λ one. has_part ahead (part_of one.path) ≡ true) (λ one. has_part (ahead ++ rest) (part_of one.path) ≡ true) front
       (λ one has. has-in-front ahead rest (part_of one.path) has)
       (has-each path front ahead (of-part path d.first d.second front is) (of-part path d.first d.second ahead was)
@@ -334,7 +355,7 @@ module _ (level : Level) (told : (path : List ℕ) (xs ys : List ParameterParts)
           λ s. nil_from_length ordered (long ∙ ap length (i.1 s)),
         )
 
-    pub told-where-same : {B : Type 0} (tell : PartTexts → List B) → ((part : PartTexts) (others : List B) → tell part ++ others ≡ [] → ⊥) →
+    pub told-where-same : {B : Type 0} (tell : PartTexts → List B) → ((text : PartTexts) (others : List B) → tell text ++ others ≡ [] → ⊥) →
         (texts : List PartTexts) (told-of : List B) → AreDifferenceTexts level a b texts → told-of ≡ flat_map tell texts → (told-of ≡ []) ↔ Same
     told-where-same {B} tell some texts told-of are is =
         let i = where-same texts are in
@@ -342,10 +363,12 @@ module _ (level : Level) (told : (path : List ℕ) (xs ys : List ParameterParts)
       where
         none-told : (texts : List PartTexts) → flat_map tell texts ≡ [] → texts ≡ []
         none-told [] e = refl
-        none-told (part ∷ texts) e = absurd (some part (flat_map tell texts) e)
+        none-told (text ∷ texts) e = absurd (some text (flat_map tell texts) e)
 
-pub line-has-bytes : (part : PartTexts) (others : List ℕ) → difference_line part ++ others ≡ [] → ⊥
-line-has-bytes part others e =
-    let line = (both-empty (difference_line part) others (sym e)).0 in
-    let rest = (both-empty (escaped part.path) _ (sym line)).1 in absurd (cc)
+pub line-has-bytes : (text : PartTexts) (others : List ℕ) → difference_line text ++ others ≡ [] → ⊥
+line-has-bytes text others e =
+    let line = (both-empty (difference_line text) others (sym e)).0 in
+    let rest =
+    (both-empty (escaped text.path) (codes ": " ++ shown text.first ++ codes " | " ++ shown text.second ++ 10 ∷ []) (sym line)).1 in
+    absurd (cc)
 

@@ -141,12 +141,12 @@ module _ (level : Level) (value : (a b : Value) → SameValue a b → SameValue 
 
 -- ---- in the order of some words
 
-filter-turned : (test : PartTexts → Bool) → ((part : PartTexts) → test (texts_exchanged part) ≡ test part) → (parts : List PartTexts) →
+filter-turned : (test : PartTexts → Bool) → ((told : PartTexts) → test (texts_exchanged told) ≡ test told) → (parts : List PartTexts) →
     filter test (Turned parts) ≡ Turned (filter test parts)
 filter-turned test same [] = refl
-filter-turned test same (part ∷ parts) = elim (cases_Bool (test part)) [
-  | inl is ↦ rw (same part, is, filter-turned test same parts) refl
-  | inr other ↦ rw (same part, other, filter-turned test same parts) refl
+filter-turned test same (told ∷ parts) = elim (cases_Bool (test told)) [
+  | inl is ↦ rw (same told, is, filter-turned test same parts) refl
+  | inr other ↦ rw (same told, other, filter-turned test same parts) refl
 ]
 
 module _ (words : List (List ℕ)) where
@@ -156,8 +156,8 @@ module _ (words : List (List ℕ)) where
   rank-at : (parts : List PartTexts) (i : ℕ) (other : PartTexts) →
       rank words (slice_index_or (Turned parts) i other) ≡ rank words (slice_index_or parts i (texts_exchanged other))
   rank-at [] i other = refl
-  rank-at (part ∷ parts) zero other = refl
-  rank-at (part ∷ parts) (suc i) other = rank-at parts i other
+  rank-at (told ∷ parts) zero other = refl
+  rank-at (told ∷ parts) (suc i) other = rank-at parts i other
 
   pub in-order : (parts ordered : List PartTexts) → AreInOrder words parts ordered → AreInOrder words (Turned parts) (Turned ordered)
   in-order parts ordered is = record {
@@ -166,5 +166,5 @@ module _ (words : List (List ℕ)) where
         rw (rank-at ordered i other, rank-at ordered j other)
         (is.by_word i j (texts_exchanged other) below (subst (λ n. j < n) (length-map ordered texts_exchanged) within));
     as_before = λ x.
-        filter-turned (tie x) (λ part. refl) ordered ∙ ap Turned (is.as_before x) ∙ sym (filter-turned (tie x) (λ part. refl) parts);
+        filter-turned (tie x) (λ told. refl) ordered ∙ ap Turned (is.as_before x) ∙ sym (filter-turned (tie x) (λ told. refl) parts);
   }

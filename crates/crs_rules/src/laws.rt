@@ -33,6 +33,11 @@ pub fn rewritten_crs_is_sound()
         IsCrs (rewritten text (meaning r) crs) }
 {}
 
+/// The same of a CRS whose axes stay in their order.
+pub fn renamed_crs_is_sound()
+    ensures { (r : RulesParts) (crs : Crs) → AreRules r → IsCrs crs → IsCrs (renamed (meaning r) crs) }
+{}
+
 /// What rules write is accepted.
 pub fn rules_are_sound(rules: &Rules)
     ensures { AreRules rules.now }

@@ -1,5 +1,4 @@
-use Rattle.std.proofs.Common.{◌++◌, List, ⊥}
-use Rattle.crs_explain.specs.Differing.{PartTexts, difference_line, part_pieces}
+use Rattle.crs_explain.specs.Differing.{difference_line, part_pieces}
 use Rattle.crs_explain.proofs.TellingLemmas.{line-has-bytes, ordered-where-same, told-where-same, where-same}
 use Rattle.crs_explain.proofs.laws.nothing_is_told_where_same.Goals as goal
 
@@ -29,4 +28,4 @@ returns-clause-pieces c level a b is-a is-b pieces (texts, are, is) =
     told-where-same level (c.parameters_that_differ_are_told.ensures level) a b is-a is-b _
     (λ none. (c.no_part_differs_where_same.ensures.none level a b).0 (c.first_difference_is_first_part.ensures.none level a b none))
     (λ one further differ. c.no_part_differs_where_same.ensures.some level a b is-a is-b one.path
-    (c.first_difference_is_first_part.ensures.some level a b one further differ)) part_pieces (λ part others e. absurd (cc)) texts pieces are is
+    (c.first_difference_is_first_part.ensures.some level a b one further differ)) part_pieces (λ text others e. absurd (cc)) texts pieces are is
