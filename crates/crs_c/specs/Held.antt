@@ -1,16 +1,12 @@
 -- Rules as a caller of C holds them.
 use Rattle.std.specs.Prelude.{ℕ, List, []}
-use Rattle.crs_rules.specs.RulesFile.{ReadsFile, start}
-use Rattle.crs_rules.specs.Statements.{Over, Reading}
+use Rattle.crs_rules.specs.RulesFile.{start}
+use Rattle.crs_rules.specs.Statements.{Reading}
 
 -- what was read of rules files, and the form of the last text under the rules
 pub record HeldParts : Type 0 where
   pub reading : Reading
   pub form : List ℕ
-
--- these are the rules of some files, read one after the other
-abbrev pub AreOfFiles : Reading → Type 0
-AreOfFiles reading = (files : List (List ℕ)) × Over ReadsFile start files reading
 
 -- no rules, and no form
 abbrev pub nothing_held : HeldParts

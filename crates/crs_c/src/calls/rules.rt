@@ -28,7 +28,8 @@ pub struct HeldRules {
 }
 
 impl Model for HeldRules {
-    ghost use Rattle.crs_c.specs.Held.{AreOfFiles, HeldParts};
+    ghost use Rattle.crs_c.specs.Held.{HeldParts};
+    ghost use Rattle.crs_c.specs.inner.Files.{AreOfFiles};
 
     ghost Value = { HeldParts };
 
