@@ -231,10 +231,14 @@ module _ (level : Level) (told : (path : List ℕ) (xs ys : List ParameterParts)
       subst (Each (IsOf path)) (sym e)
       (ap part_of (here ∙ append_assoc path (91 ∷ rest) (further_text d.path)) ∙ cut path (rest ++ further_text d.path), behind path rest found others are)
 
+  front-is : (path name : List ℕ) → parameter_path path name ≡ path ++ 91 ∷ 34 ∷ (name ++ codes "\"]")
+  front-is path name =
+      ap (λ bytes. bytes ++ codes "\"]") (append_assoc path (codes "[\"") name) ∙ append_assoc path (codes "[\"" ++ name) (codes "\"]")
+
   of-name : (path name : List ℕ) (x y : Option ParameterParts) (texts : List PartTexts) → AreTextsOfName level path name x y texts →
       Each (IsOf path) texts
   of-name path name (Some x) (Some y) texts (found, differ, are) =
-      behind path (34 ∷ (name ++ codes "\"]")) found texts are
+      behind path (34 ∷ (name ++ codes "\"]")) found texts (subst (λ front. AreTextsBehind level front found texts) (front-is path name) are)
   of-name path name None y texts e = subst (Each (IsOf path)) (sym e) tt
   of-name path name (Some x) None texts e = subst (Each (IsOf path)) (sym e) tt
 
@@ -368,7 +372,7 @@ module _ (level : Level) (told : (path : List ℕ) (xs ys : List ParameterParts)
 pub line-has-bytes : (text : PartTexts) (others : List ℕ) → difference_line text ++ others ≡ [] → ⊥
 line-has-bytes text others e =
     let line = (both-empty (difference_line text) others (sym e)).0 in
-    let rest =
-    (both-empty (escaped text.path) (codes ": " ++ shown text.first ++ codes " | " ++ shown text.second ++ 10 ∷ []) (sym line)).1 in
+    let end =
+    (both-empty (escaped text.path ++ codes ": " ++ shown text.first ++ codes " | " ++ shown text.second) (10 ∷ []) (sym line)).1 in
     absurd (cc)
 

@@ -117,6 +117,7 @@ fn without_form(code: u32) -> Form
 }
 
 /// No rules.
+#[tactic(auto, using(crate::proofs::FilesLemmas::no_files))]
 pub fn no_rules(alloc: Global) -> HeldRules
     ensures { result ≡ nothing_held }
 {
@@ -128,7 +129,7 @@ pub fn no_rules(alloc: Global) -> HeldRules
 }
 
 /// Adds the rules of one more file.
-#[tactic(auto, unfolding(crate::specs::RulesCalls::IsFileRead))]
+#[tactic(auto, unfolding(crate::specs::RulesCalls::IsFileRead), using(crate::proofs::FilesLemmas::one_more))]
 pub fn add_file(held: HeldRules, text: &[u8]) -> (HeldRules, RulesStanding)
     ensures { IsFileRead text.now held result.0 result.1 }
 {
