@@ -40,7 +40,7 @@ pub fn explained_under_rules()
         (written : List ℕ) (status : ℕ) → TellsUnder how words r level a b written status →
         (front : List ℕ) × (rest : List ℕ) × (written ≡ front ++ rest)
         × TellsWhetherSame how words level (renamed (meaning r) a) (renamed (meaning r) b) front status }
-    ensures no_rules { (how : Manner) (words : List (List ℕ)) (level : Level) (a b : Crs) → IsCrs a → IsCrs b →
+    ensures marks { (how : Manner) (words : List (List ℕ)) (level : Level) (a b : Crs) → IsCrs a → IsCrs b →
         (written : List ℕ) (status : ℕ) → TellsUnder how words no_rules level a b written status →
         TellsWhetherSame how words level a b written status }
 {

@@ -1,9 +1,9 @@
 use Rattle.std.proofs.Common.{◌≡◌, ◌∙◌, ◌++◌, List, ap, rules, subst, sym}
 use Rattle.std.proofs.lemmas.Fn.{always_returns_same}
 use Rattle.std.proofs.lemmas.List.Sorted.{IsNonDecreasingBy-from_sort_by_key}
-use Rattle.crs_same.specs.inner.Prelude.{DifferencesInCrs, SameCrs}
+use Rattle.crs_same.specs.inner.Prelude.{DifferencesInCrs}
 use Rattle.crs_explain.specs.Differing.{AreTexts, PartTexts}
-use Rattle.crs_explain.specs.InOrder.{AreOrderedTexts, rank}
+use Rattle.crs_explain.specs.InOrder.{rank}
 use Rattle.crs_explain.proofs.OrderLemmas.{where-none, where-some}
 use Rattle.crs_explain.proofs.differences.ordered_parts.Goals as goal
 
@@ -14,9 +14,8 @@ returns-then-is_empty-clause-parts c =
     (λ none. (c.no_part_differs_where_same.ensures.none level a b).0 (c.first_difference_is_first_part.ensures.none level a b none))
     (rw c.as_slice.ensures c.in_ok-differences.ensures)
 
-told : (c : goal.After-in_ok-sort_by_key) →
-    (¬ SameCrs c.args.level c.args.a.now c.args.b.now) × AreOrderedTexts c.args.words.now c.args.level c.args.a.now c.args.b.now c.texts.items
-told c =
+pub returns-clause-parts : goal.returns-clause-parts
+returns-clause-parts c =
     let words = c.args.words.now in
     let level = c.args.level in let a = c.args.a.now in let b = c.args.b.now in
     let (texts, are, all) = c.in_ok-append_texts.ensures in (
@@ -36,11 +35,8 @@ told c =
       ),
     )
 
-pub returns-clause-parts : goal.returns-clause-parts
-returns-clause-parts c = told c
-
 pub returns-clause-some : goal.returns-clause-some
 returns-clause-some c none =
-    let is = told c in
+    let is = returns-clause-parts c in
     is.0 ((c.nothing_is_told_where_same.ensures.ordered c.args.words.now c.args.level c.args.a.now c.args.b.now
     c.crs_is_sound.ensures c.crs_is_sound-2.ensures _ is.1).0 none)
