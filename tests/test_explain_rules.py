@@ -378,7 +378,7 @@ def add(chance: random.Random, node: Node, other: str) -> None:
     elif node.keyword == "VERTCRS":
         node.args.append(Node("GEOIDMODEL", [chance.choice(['"a"', '"b"'])]))
     elif node.keyword in ("GEOGCRS", "BASEGEOGCRS"):
-        parts = [Node("DYNAMIC", [Node("FRAMEEPOCH", ["2010"]), Node("MODEL", [chance.choice(['"a"', '"b"'])])])]
+        made = Node("DYNAMIC", [Node("FRAMEEPOCH", ["2010"]), Node("MODEL", [chance.choice(['"a"', '"b"'])])])
         for i, it in enumerate(node.args):
             if isinstance(it, Node) and it.keyword == "DATUM" and it.one("ELLIPSOID"):
                 members = [
@@ -389,7 +389,7 @@ def add(chance: random.Random, node: Node, other: str) -> None:
                 if chance.random() < 0.5:
                     node.args[i] = Node("ENSEMBLE", [it.args[0], *members])  # type: ignore[list-item]
                     return
-        node.args[1:1] = parts
+        node.args.insert(1, made)
 
 
 ALTER: List[Callable[[random.Random, Node, str], None]] = [rename, renumber, drop, take, move_axes, add]
@@ -402,7 +402,10 @@ def random_rules(chance: random.Random, a: str, b: str) -> str:
     used: Set[str] = set()
     for keyword in [*NAMED, *UNITS]:
         count = 2 if keyword in UNITS else 1
-        found = sorted({str(Node(keyword, it.args[:count])) for it in nodes if it.keyword == keyword} - used)
+        found = sorted(
+            {str(Node(keyword, it.args[:count])) for it in nodes if it.keyword == keyword and "\n" not in str(it)}
+            - used
+        )
         chance.shuffle(found)
         if len(found) > 1 and chance.random() < 0.6:
             members = found[: chance.randint(2, 3)]

@@ -1,5 +1,5 @@
 -- Of each part that differs something is told, and all that is told of it tells of that part.
-use Rattle.std.proofs.Common.{◌≡◌, ◌∙◌, ◌+◌, codes, ◌↔◌, arith, ℕ, zero, suc, Bool, true, if◌then◌else◌, inl, inr, Option, Some, None, List, [], ◌∷◌, ◌++◌, length, max, map, refl, ap, subst, sym, take, append_assoc}
+use Rattle.std.proofs.Common.{◌≡◌, ◌∙◌, ◌+◌, codes, ◌↔◌, arith, ℕ, zero, suc, true, if◌then◌else◌, inl, inr, Option, Some, None, List, [], ◌∷◌, ◌++◌, length, max, refl, ap, subst, sym, take, append_assoc}
 use Rattle.std.specs.List.{AllByRecursion, flat_map, prefix_len}
 use Rattle.std.specs.List.Sorted.{IsPermutation}
 use Rattle.std.specs.Option.{option_map, option_and_then}
@@ -18,7 +18,7 @@ use Rattle.crs_value.specs.declared.values.crs.Crs.TheVariants as crs
 use Rattle.crs_value.specs.declared.values.frame.Frame.{Frame}
 use Rattle.crs_value.specs.declared.values.frame.Frame.TheVariants as frame
 use Rattle.crs_value.specs.declared.values.level.Level.{Level}
-use Rattle.crs_value.specs.inner.Prelude.{CompoundParts, MethodParts, ConversionParts, GeodeticParts, BaseParts, ProjectedParts, VerticalParts, DynamicParts, AxisParts, EllipsoidParts, MeridianParts, DatumParts, EnsembleParts, SystemParts, TailParts, UnitParts, ParameterParts, IsParameter, IsConversion, IsProjected, IsCompound}
+use Rattle.crs_value.specs.inner.Prelude.{CompoundParts, ConversionParts, GeodeticParts, BaseParts, ProjectedParts, VerticalParts, DynamicParts, AxisParts, EllipsoidParts, MeridianParts, SystemParts, TailParts, UnitParts, ParameterParts, IsParameter, IsConversion}
 use Rattle.crs_value.specs.SoundCompound.{IsHorizontal}
 use Rattle.crs_value.specs.SoundCrs.{IsCrs}
 use Rattle.crs_value.specs.Sound.{Each}
@@ -28,13 +28,13 @@ use Rattle.crs_same.specs.declared.step.Step.{Step}
 use Rattle.crs_same.specs.declared.step.Step.TheVariants as step
 use Rattle.crs_same.specs.Parts.{◌▸◌, Parts, none, part, ◌⨾◌, DifferenceParts, Differences, given, length_unit, nodes, sets}
 use Rattle.crs_same.specs.Parts.{parts_of_method, parts_of_conversion, parts_of_dynamic, parts_of_tail, parts_of_geodetic, parts_of_base, parts_of_projected, parts_of_vertical, parts_of_horizontal, parts_of_compound, parts_of_crs}
-use Rattle.crs_same.specs.Parts.{parts_of_ellipsoid, parts_of_ellipsoids, parts_of_given, or_greenwich, parts_of_meridian, parts_of_datum, parts_of_ensemble, parts_of_frame, parts_of_axis, parts_at, parts_of_axes, parts_of_system}
+use Rattle.crs_same.specs.Parts.{parts_of_ellipsoid, parts_of_ellipsoids, parts_of_meridian, parts_of_frame, parts_of_axis, parts_at, parts_of_axes, parts_of_system}
 use Rattle.crs_same.specs.inner.Prelude.{DifferencesInCrs, SameParameter, SameSet, further_text, path_text}
 use Rattle.crs_streams.specs.Escaped.{escaped}
 use Rattle.crs_explain.proofs.DifferingLemmas.{NotSet}
 use Rattle.crs_explain.proofs.ToldLemmas.{both-empty}
 use Rattle.crs_explain.specs.InOrder.{AreOrderedTexts}
-use Rattle.crs_explain.specs.Differing.{AreDifferenceTexts, AreTexts, AreTextsBehind, AreTextsOf, AreTextsOfName, AreTextsOfNames, AreTextsOfOne, AreTextsOfSet, PartTexts, are_empty, difference_line, has_part, shown, is_of_part, parameter_path, part_of, unless_empty}
+use Rattle.crs_explain.specs.Differing.{AreDifferenceTexts, AreTexts, AreTextsBehind, AreTextsOf, AreTextsOfName, AreTextsOfNames, AreTextsOfOne, AreTextsOfSet, PartTexts, are_empty, difference_line, has_part, shown, is_of_part, parameter_path, part_of}
 use Rattle.crs_canon.specs.Named.{named_once}
 
 each-both : {V : Type 0} (P : V → Type 0) (xs ys : List V) → Each P xs → Each P ys → Each P (xs ++ ys)
@@ -375,4 +375,3 @@ line-has-bytes text others e =
     let end =
     (both-empty (escaped text.path ++ codes ": " ++ shown text.first ++ codes " | " ++ shown text.second) (10 ∷ []) (sym line)).1 in
     absurd (cc)
-

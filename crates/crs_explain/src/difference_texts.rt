@@ -284,7 +284,11 @@ fn unit_text(at: ToldAt<'_>, unit: Option<&Unit<'_>>) -> Made<Vec<u8>>
 }
 
 // Of the identifiers that the level keeps.
-fn identifiers_text(at: ToldAt<'_>, these: &List<Ident<'_>>, others: &List<Ident<'_>>) -> Made<Vec<u8>>
+fn identifiers_text(
+    at: ToldAt<'_>,
+    these: &List<Ident<'_>>,
+    others: &List<Ident<'_>>,
+) -> Made<Vec<u8>>
     ensures { IfOk result (λ text. IsContentText at.entry.level
         (content.Identifiers (kept at.entry.level these.now) (kept at.entry.level others.now)) text.items) }
 {

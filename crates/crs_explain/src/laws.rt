@@ -14,13 +14,13 @@ ghost use Rattle.crs_explain.specs.InOrder.{AreInOrder, AreOrderedTexts};
 
 use crs_canon::laws::names_tell_parameters;
 use crs_normal::laws::parts::conversions_are_canonical;
-use crs_same::laws::{
-    differences_are_exchanged, differences_are_one, first_difference_is_first_part,
-    no_part_differs_where_same,
-};
 use crs_same::laws::parts::{
     same_idents_is_equivalence, same_parameter_is_equivalence, same_unit_is_equivalence,
     same_value_is_equivalence,
+};
+use crs_same::laws::{
+    differences_are_exchanged, differences_are_one, first_difference_is_first_part,
+    no_part_differs_where_same,
 };
 
 /// Two sets of parameters of which nothing is told are the same.

@@ -88,9 +88,10 @@ fn by_geometry(front: &[u8]) -> Option<Hint<'_>> {
 // `SRID=` with its digits, where a semicolon follows them.
 fn srid_of(front: &[u8]) -> Option<&[u8]> {
     let digits = digit_count(rest(front, 5));
+    // A longer number is no SRID, and no word that is shown whole.
+    let is_begun = begins(front, b"SRID=") && matches!(digits, 1..=35);
     match front.split_at_checked(5usize.saturating_add(digits)) {
-        // A longer number is no SRID, and no word that is shown whole.
-        Some((srid, [b';', ..])) if begins(front, b"SRID=") && matches!(digits, 1..=35) => Some(srid),
+        Some((srid, [b';', ..])) if is_begun => Some(srid),
         _ => None,
     }
 }

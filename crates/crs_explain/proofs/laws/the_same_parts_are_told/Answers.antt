@@ -1,5 +1,3 @@
-use Rattle.std.proofs.Common.{◌≡◌, ◌∙◌, List, true}
-use Rattle.crs_explain.specs.Differing.{PartTexts, has_part, part_of}
 use Rattle.crs_explain.proofs.TellingLemmas.{same-told}
 use Rattle.crs_explain.proofs.laws.the_same_parts_are_told.Goals as goal
 

@@ -8,7 +8,9 @@ unfolding IsPiece
 returns c =
     let is : c.front_of-piece.result.now ≡ piece_of c.args.text.now c.args.from =
     c.front_of-piece.ensures.value ∙ ap (λ (xs : List ℕ). take 240 xs) c.rest_of.ensures in
-    let zeros : c.split_at_mut-front.result.1.now ≡ replicate (240 - length c.front_of-piece.result.now) 0 = ? in
-    (refl, ap (λ (xs : List ℕ). length xs) is,
-    ap (λ (xs : List ℕ). xs ++ c.split_at_mut-front.result.1.now) (c.copy_from_slice.ensures.after ∙ is)
-    ∙ ap (λ (rest : List ℕ). piece_of c.args.text.now c.args.from ++ rest) (zeros ∙ ap (λ (xs : List ℕ). replicate (240 - length xs) 0) is))
+    let zeros : c.split_at_mut-front.result.1.now ≡ replicate (240 - length c.front_of-piece.result.now) 0 = ? in (
+      refl,
+      ap (λ (xs : List ℕ). length xs) is,
+      ap (λ (xs : List ℕ). xs ++ c.split_at_mut-front.result.1.now) (c.copy_from_slice.ensures.after ∙ is)
+          ∙ ap (λ (rest : List ℕ). piece_of c.args.text.now c.args.from ++ rest) (zeros ∙ ap (λ (xs : List ℕ). replicate (240 - length xs) 0) is),
+    )
