@@ -49,7 +49,7 @@ pub(crate) type Texts = Vec<DifferenceTexts>;
 
 // A path to what is told, and the level at which it is written.
 #[derive(Clone, Copy)]
-struct ToldAt<'p> {
+struct Site<'p> {
     alloc: Global,
     level: Level,
     path: &'p [u8],
@@ -90,11 +90,11 @@ fn append_part(alloc: Global, level: Level, part: &Difference<'_, '_>, out: &mut
     let mut path = Vec::new(alloc);
     part.path().write(&mut path)?;
     let path = path.as_slice();
-    let at = ToldAt { alloc, level, path };
+    let at = Site { alloc, level, path };
     at.append(part.first(), part.second(), out)
 }
 
-impl ToldAt<'_> {
+impl Site<'_> {
     fn append(self, first: &Content<'_, '_>, second: &Content<'_, '_>, out: &mut Texts) -> Made<()>
         ensures { OnOk result (AppendsTexts (AreTextsOf self.entry.level self.entry.path.now first.now second.now)
             out.old.items out.new.items) }
@@ -183,8 +183,8 @@ impl ToldAt<'_> {
         if same_idents(a, b, self.level) {
             return Ok(());
         }
-        let first = identifiers_text(self, a, b)?;
-        let second = identifiers_text(self, b, a)?;
+        let first = idents_text(self, a, b)?;
+        let second = idents_text(self, b, a)?;
         self.push(b"/id", first, second, out)
     }
 }
@@ -192,7 +192,7 @@ impl ToldAt<'_> {
 // Two sets of parameters that differ, of which the first is that of the first CRS.
 #[derive(Clone, Copy)]
 struct Sets<'s, 'a> {
-    at: ToldAt<'s>,
+    at: Site<'s>,
     these: &'s [Parameter<'a>],
     others: &'s [Parameter<'a>],
 }
@@ -224,10 +224,10 @@ impl Sets<'_, '_> {
     {
         match (named_once(self.these, name), named_once(self.others, name)) {
             (Some(a), Some(b)) => {
-                let ToldAt { alloc, level, path } = self.at;
+                let Site { alloc, level, path } = self.at;
                 let path = parameter_path(alloc, path, name)?;
                 let path = path.as_slice();
-                let at = ToldAt { alloc, level, path };
+                let at = Site { alloc, level, path };
                 at.append_parameter(a, b, out)
             }
             (None, None) | (None, Some(_)) | (Some(_), None) => Ok(()),
@@ -247,7 +247,7 @@ impl Sets<'_, '_> {
     }
 }
 
-fn unpaired_text(at: ToldAt<'_>, these: &[Parameter<'_>], others: &[Parameter<'_>]) -> Made<Vec<u8>>
+fn unpaired_text(at: Site<'_>, these: &[Parameter<'_>], others: &[Parameter<'_>]) -> Made<Vec<u8>>
     ensures { IfOk result (λ text. IsContentText at.entry.level
         (content.Parameters (unpaired these.now others.now) (unpaired others.now these.now)) text.items) }
 {
@@ -273,7 +273,7 @@ fn parameter_path(alloc: Global, path: &[u8], name: &[u8]) -> Made<Vec<u8>>
     Ok(text)
 }
 
-fn unit_text(at: ToldAt<'_>, unit: Option<&Unit<'_>>) -> Made<Vec<u8>>
+fn unit_text(at: Site<'_>, unit: Option<&Unit<'_>>) -> Made<Vec<u8>>
     ensures { IfOk result (λ text.
         IsContentText at.entry.level (given (content.Unit kinds.Plain) (option_copied unit.entry)) text.items) }
 {
@@ -284,11 +284,7 @@ fn unit_text(at: ToldAt<'_>, unit: Option<&Unit<'_>>) -> Made<Vec<u8>>
 }
 
 // Of the identifiers that the level keeps.
-fn identifiers_text(
-    at: ToldAt<'_>,
-    these: &List<Ident<'_>>,
-    others: &List<Ident<'_>>,
-) -> Made<Vec<u8>>
+fn idents_text(at: Site<'_>, these: &List<Ident<'_>>, others: &List<Ident<'_>>) -> Made<Vec<u8>>
     ensures { IfOk result (λ text. IsContentText at.entry.level
         (content.Identifiers (kept at.entry.level these.now) (kept at.entry.level others.now)) text.items) }
 {

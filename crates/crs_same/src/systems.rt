@@ -30,7 +30,8 @@ impl<'b, 'a> AxisOf<'b, 'a> {
     {
         let AxisOf { system, axis } = self;
         let kind = system.system_type.asked_kind(axis.direction);
-        Asked { kind, unit: system.unit_of(axis) }
+        let unit = system.unit_of(axis);
+        Asked { kind, unit }
     }
 }
 
@@ -99,7 +100,8 @@ impl<'b, 'a> Found<'b, 'a> {
         match (x, y) {
             (None, None) => self,
             (Some(x), Some(y)) => {
-                self.axis(at, AxisOf { system: a, axis: x }, AxisOf { system: b, axis: y })
+                let (a, b) = (AxisOf { system: a, axis: x }, AxisOf { system: b, axis: y });
+                self.axis(at, a, b)
             }
             (None, Some(y)) => self.alone(&at, Step::Name, Content::Nothing, Content::text(y.name)),
             (Some(x), None) => self.alone(&at, Step::Name, Content::text(x.name), Content::Nothing),

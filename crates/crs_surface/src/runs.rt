@@ -103,12 +103,8 @@ pub fn put_outcome(out: &mut Answer, outcome: &Result<Outcome, RunFault>) {
     match outcome {
         Ok(Status(status)) => write!(out, "status {status}"),
         Ok(Groups(counts)) => {
-            write!(out, "lines {}, blank {}", counts.lines, counts.blank);
-            write!(
-                out,
-                ", refused {}, groups {}",
-                counts.refused, counts.groups
-            );
+            write!(out, "lines {}, blank {}, ", counts.lines, counts.blank);
+            write!(out, "refused {}, groups {}", counts.refused, counts.groups);
         }
         Err(RunFault::Memory) => out.note(Err(AllocError)),
         Err(fault) => write!(out, "fault {fault}"),

@@ -16,7 +16,7 @@ macro_rules! put_node {
         $(put_field!($out, $field $(, $how $(($word))?)?);)+
         $out.close();
         let is_same: bool = parts::$same($value, $value, Level::Full);
-        $out.look($value, is_same, stringify!($kind));
+        look($value, $out, is_same, stringify!($kind));
     };
 }
 
@@ -81,19 +81,19 @@ pub struct Text {
     odd: Option<&'static str>,
 }
 
-impl Text {
-    // Looks whether a node is the same as itself, and appends what was just put of it.
-    fn look<T: Canonical>(&mut self, node: &T, is_same: bool, name: &'static str) {
-        let alloc = self.out.alloc();
-        let mut own = Vec::new(alloc);
-        let written: Result<(), AllocError> = node.write(alloc, Level::Full, &mut own);
-        self.out.note(written);
-        let stands = matches!(self.out.bytes(), Ok(bytes) if bytes.ends_with(&own));
-        if !(is_same && stands && node.same(node, Level::Full)) {
-            self.odd = Some(name);
-        }
+// Looks whether a node is the same as itself, and appends what was just put of it.
+fn look<T: Canonical>(node: &T, out: &mut Text, is_same: bool, name: &'static str) {
+    let alloc = out.out.alloc();
+    let mut own = Vec::new(alloc);
+    let written: Result<(), AllocError> = node.write(alloc, Level::Full, &mut own);
+    out.out.note(written);
+    let stands = matches!(out.out.bytes(), Ok(bytes) if bytes.ends_with(&own));
+    if !(is_same && stands && node.same(node, Level::Full)) {
+        out.odd = Some(name);
     }
+}
 
+impl Text {
     // Characters as they are.
     fn word(&mut self, word: &[u8]) {
         self.out
@@ -188,7 +188,7 @@ impl Written for Crs<'_> {
             Crs::Vertical(crs) => crs.put(out),
             Crs::Compound(crs) => crs.put(out),
         }
-        out.look(self, same(self, self, Level::Full), "Crs");
+        look(self, out, same(self, self, Level::Full), "Crs");
     }
 }
 
@@ -231,7 +231,7 @@ impl Written for Horizontal<'_> {
             Horizontal::Projected(crs) => crs.put(out),
         }
         let is_same = parts::same_horizontal(self, self, Level::Full);
-        out.look(self, is_same, "Horizontal");
+        look(self, out, is_same, "Horizontal");
     }
 }
 
@@ -241,7 +241,8 @@ impl Written for Frame<'_> {
             Frame::Datum(datum) => datum.put(out),
             Frame::Ensemble(ensemble) => ensemble.put(out),
         }
-        out.look(self, parts::same_frame(self, self, Level::Full), "Frame");
+        let is_same = parts::same_frame(self, self, Level::Full);
+        look(self, out, is_same, "Frame");
     }
 }
 
@@ -359,7 +360,8 @@ impl Written for Usage<'_> {
         out.open("USAGE");
         out.parts(self);
         out.close();
-        out.look(self, parts::same_usage(self, self, Level::Full), "Usage");
+        let is_same = parts::same_usage(self, self, Level::Full);
+        look(self, out, is_same, "Usage");
     }
 }
 

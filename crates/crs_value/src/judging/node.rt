@@ -15,7 +15,7 @@ use crate::checks::lesser;
 use crate::checks::own::own_of_part;
 use crate::judging::quick_checks::{Layout, passes_at_once};
 use crate::judging::slots::{
-    Any, Either, End, FirstFault, One, OneOrMore, Optional, Parent, Part, Slot, Slots, Then, chain,
+    Any, Breach, Either, End, One, OneOrMore, Optional, Parent, Part, Slot, Slots, Then, chain,
     ends, judge_crs, taken,
 };
 use crate::reading::{Cursor, first_from};
@@ -24,7 +24,7 @@ use crs_text::{ItemId, Items, Refusal};
 
 // What was found is joined by what a node breaks by itself, which mostly is nothing: then nothing is written.
 #[inline(always)]
-fn join(found: &mut FirstFault, own: Option<Refusal>)
+fn join(found: &mut Breach, own: Option<Refusal>)
     ensures { found.new ≡ lesser found.old own }
 {
     match own {
@@ -40,7 +40,7 @@ fn node_judged<S: Slots>(
     id: ItemId,
     class: Class,
     close: usize,
-    found: &mut FirstFault,
+    found: &mut Breach,
 ) -> bool
     requires has { HasId items.now id }
     requires of { IsTrue (is_of class (item_at items.now id)) }
@@ -72,7 +72,7 @@ fn node_judged<S: Slots>(
 fn laid<H: Slots, T: Part>(
     parent: Parent<'_, '_>,
     at: Option<ItemId>,
-    found: &mut FirstFault,
+    found: &mut Breach,
 ) -> Option<Layout>
     requires holds { Holds parent.items.now at }
     requires fits { H.fits × T.fits }
@@ -104,7 +104,7 @@ fn crs_judged<H: Slots, T: Part>(
     class: Class,
     items: &Items<'_>,
     id: ItemId,
-    found: &mut FirstFault,
+    found: &mut Breach,
 ) -> bool
     requires has { HasId items.now id }
     requires of { IsTrue (is_of class (item_at items.now id)) }
@@ -150,7 +150,7 @@ fn part<S: Slots>(
     items: &Items<'_>,
     id: ItemId,
     parent: Class,
-    found: &mut FirstFault,
+    found: &mut Breach,
 ) -> Option<bool>
     requires has { HasId items.now id }
     requires slots { slots_of class ≡ S.slots }
@@ -187,7 +187,7 @@ impl<const PLACE: u8, S: Slots> Part for OfClass<PLACE, S> {
         × ((¬ (HasSystem (class_at PLACE))) × ((slots_of (class_at PLACE) ≡ S.slots) × S.fits)) };
 
     #[inline(always)]
-    fn judge(items: &Items<'_>, id: ItemId, parent: Class, found: &mut FirstFault) -> Option<bool> {
+    fn judge(items: &Items<'_>, id: ItemId, parent: Class, found: &mut Breach) -> Option<bool> {
         part::<S>(class_at(PLACE), items, id, parent, found)
     }
 }
@@ -198,7 +198,7 @@ pub(crate) struct Identifier;
 impl Part for Identifier {
     ghost classes = { kinds.Identifier ∷ [] };
 
-    fn judge(items: &Items<'_>, id: ItemId, parent: Class, found: &mut FirstFault) -> Option<bool> {
+    fn judge(items: &Items<'_>, id: ItemId, parent: Class, found: &mut Breach) -> Option<bool> {
         part::<row!(Identifier, chain, ())>(Class::Identifier, items, id, parent, found)
     }
 }
@@ -209,7 +209,7 @@ pub(crate) struct Parameter;
 impl Part for Parameter {
     ghost classes = { kinds.Parameter ∷ [] };
 
-    fn judge(items: &Items<'_>, id: ItemId, parent: Class, found: &mut FirstFault) -> Option<bool> {
+    fn judge(items: &Items<'_>, id: ItemId, parent: Class, found: &mut Breach) -> Option<bool> {
         part::<row!(Parameter, chain, ())>(Class::Parameter, items, id, parent, found)
     }
 }
@@ -220,7 +220,7 @@ pub(crate) struct VerticalExtent;
 impl Part for VerticalExtent {
     ghost classes = { kinds.VerticalExtent ∷ [] };
 
-    fn judge(items: &Items<'_>, id: ItemId, parent: Class, found: &mut FirstFault) -> Option<bool> {
+    fn judge(items: &Items<'_>, id: ItemId, parent: Class, found: &mut Breach) -> Option<bool> {
         part::<row!(VerticalExtent, chain, ())>(Class::VerticalExtent, items, id, parent, found)
     }
 }
@@ -231,7 +231,7 @@ pub(crate) struct GeodeticFrame;
 impl Part for GeodeticFrame {
     ghost classes = { kinds.GeodeticFrame ∷ [] };
 
-    fn judge(items: &Items<'_>, id: ItemId, parent: Class, found: &mut FirstFault) -> Option<bool> {
+    fn judge(items: &Items<'_>, id: ItemId, parent: Class, found: &mut Breach) -> Option<bool> {
         part::<row!(GeodeticFrame, chain, ())>(Class::GeodeticFrame, items, id, parent, found)
     }
 }
@@ -242,7 +242,7 @@ pub(crate) struct GeodeticEnsemble;
 impl Part for GeodeticEnsemble {
     ghost classes = { kinds.GeodeticEnsemble ∷ [] };
 
-    fn judge(items: &Items<'_>, id: ItemId, parent: Class, found: &mut FirstFault) -> Option<bool> {
+    fn judge(items: &Items<'_>, id: ItemId, parent: Class, found: &mut Breach) -> Option<bool> {
         part::<row!(GeodeticEnsemble, chain, ())>(Class::GeodeticEnsemble, items, id, parent, found)
     }
 }
@@ -255,7 +255,7 @@ impl<const PLACE: u8> Part for Single<PLACE> {
 
     ghost fits = { (PLACE < length every_class) × HasSystem (class_at PLACE) };
 
-    fn judge(items: &Items<'_>, id: ItemId, parent: Class, found: &mut FirstFault) -> Option<bool> {
+    fn judge(items: &Items<'_>, id: ItemId, parent: Class, found: &mut Breach) -> Option<bool> {
         laws::walk_finds_the_fault();
         let class = class_at(PLACE);
         if !stands_as(items, id, parent, class) {
@@ -266,7 +266,7 @@ impl<const PLACE: u8> Part for Single<PLACE> {
 }
 
 // Whether an item that may be a CRS of this class, with a coordinate system, fits it; what it breaks joins what was found.
-fn single_judged(items: &Items<'_>, id: ItemId, class: Class, found: &mut FirstFault) -> bool
+fn single_judged(items: &Items<'_>, id: ItemId, class: Class, found: &mut Breach) -> bool
     requires has { HasId items.now id }
     requires of { IsTrue (is_of class (item_at items.now id)) }
     requires system { HasSystem class }
@@ -282,7 +282,7 @@ fn single_judged(items: &Items<'_>, id: ItemId, class: Class, found: &mut FirstF
 }
 
 // Whether a whole text has no fault of shape as a CRS of this class; what it breaks joins what was found.
-pub(crate) fn root_judged(items: &Items<'_>, id: ItemId, class: Class, found: &mut FirstFault) -> bool
+pub(crate) fn root_judged(items: &Items<'_>, id: ItemId, class: Class, found: &mut Breach) -> bool
     requires has { HasId items.now id }
     requires of { IsTrue (is_of class (item_at items.now id)) }
     requires root { IsAmong root_classes class }

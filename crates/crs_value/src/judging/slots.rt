@@ -86,7 +86,7 @@ pub(crate) use judge_crs;
 pub(crate) use taken;
 
 // The first fault that was found, if any was.
-pub(crate) type FirstFault = Option<Refusal>;
+pub(crate) type Breach = Option<Refusal>;
 
 // The first argument behind those of a slot, if there is one; None where a fault of shape was found.
 pub(crate) type Rest = Option<Option<ItemId>>;
@@ -107,7 +107,7 @@ pub(crate) trait Part {
     ghost fits: { Type 0 } = { Unit {0} };
 
     // Whether an argument fits one of these classes, or None where it is of none; what it breaks joins what was found.
-    fn judge(items: &Items<'_>, id: ItemId, parent: Class, found: &mut FirstFault) -> Option<bool>
+    fn judge(items: &Items<'_>, id: ItemId, parent: Class, found: &mut Breach) -> Option<bool>
         requires has { HasId items.now id }
         requires fits { fits }
         ensures { Answers parent classes (item_at items.now id) found.old result found.new };
@@ -120,7 +120,7 @@ pub(crate) trait Slot {
     ghost fits: { Type 0 };
 
     // The arguments behind those of the slot; what these break joins what was found.
-    fn pass(parent: Parent<'_, '_>, at: Option<ItemId>, found: &mut FirstFault) -> Rest
+    fn pass(parent: Parent<'_, '_>, at: Option<ItemId>, found: &mut Breach) -> Rest
         requires holds { Holds parent.items.now at }
         requires fits { fits }
         ensures holds { IfSome result (λ next. Holds parent.entry.items.now next) }
@@ -136,7 +136,7 @@ pub(crate) trait Slots {
     ghost fits: { Type 0 } = { Unit {0} };
 
     // The arguments behind those of these slots, as `pass` of one slot.
-    fn pass(parent: Parent<'_, '_>, at: Option<ItemId>, found: &mut FirstFault) -> Rest
+    fn pass(parent: Parent<'_, '_>, at: Option<ItemId>, found: &mut Breach) -> Rest
         requires holds { Holds parent.items.now at }
         requires fits { fits }
         ensures holds { IfSome result (λ next. Holds parent.entry.items.now next) }
@@ -147,7 +147,7 @@ pub(crate) trait Slots {
 
 // The walk stops where an argument is missing.
 #[cold]
-fn stop_short(close: usize, found: &mut FirstFault)
+fn stop_short(close: usize, found: &mut Breach)
     ensures { found.new ≡ Some (missing close) }
 {
     *found = Some(Refusal::new(13, close).unwrap());
@@ -155,7 +155,7 @@ fn stop_short(close: usize, found: &mut FirstFault)
 
 // The walk stops at an argument that isn't allowed where it is.
 #[cold]
-fn stop_at(items: &Items<'_>, id: ItemId, found: &mut FirstFault)
+fn stop_at(items: &Items<'_>, id: ItemId, found: &mut Breach)
     requires { HasId items.now id }
     ensures { found.new ≡ Some (misplaced (item_at items.now id)) }
 {
@@ -164,7 +164,7 @@ fn stop_at(items: &Items<'_>, id: ItemId, found: &mut FirstFault)
 
 // Whether no argument is left; the walk stops at one.
 #[inline(always)]
-pub(crate) fn ends(parent: Parent<'_, '_>, at: Option<ItemId>, found: &mut FirstFault) -> bool
+pub(crate) fn ends(parent: Parent<'_, '_>, at: Option<ItemId>, found: &mut Breach) -> bool
     requires { Holds parent.items.now at }
     ensures { Walked parent.entry.items.now parent.entry.class parent.entry.close [] at found.old result found.new }
 {
@@ -182,7 +182,7 @@ impl<P: Part> Slot for One<P> {
     ghost fits = { P.fits };
 
     #[inline(always)]
-    fn pass(parent: Parent<'_, '_>, at: Option<ItemId>, found: &mut FirstFault) -> Rest {
+    fn pass(parent: Parent<'_, '_>, at: Option<ItemId>, found: &mut Breach) -> Rest {
         let Some(id) = at else {
             stop_short(parent.close, found);
             return None;
@@ -207,7 +207,7 @@ impl<P: Part> Slot for Optional<P> {
     ghost fits = { P.fits };
 
     #[inline(always)]
-    fn pass(parent: Parent<'_, '_>, at: Option<ItemId>, found: &mut FirstFault) -> Rest {
+    fn pass(parent: Parent<'_, '_>, at: Option<ItemId>, found: &mut Breach) -> Rest {
         let Some(id) = at else { return Some(None) };
         match P::judge(parent.items, id, parent.class, found) {
             None => Some(Some(id)),
@@ -226,7 +226,7 @@ impl<P: Part> Slot for Any<P> {
     ghost fits = { P.fits };
 
     #[inline(always)]
-    fn pass(parent: Parent<'_, '_>, at: Option<ItemId>, found: &mut FirstFault) -> Rest {
+    fn pass(parent: Parent<'_, '_>, at: Option<ItemId>, found: &mut Breach) -> Rest {
         let mut next = at;
         while let Some(id) = next {
             match P::judge(parent.items, id, parent.class, found) {
@@ -248,7 +248,7 @@ impl<P: Part> Slot for OneOrMore<P> {
     ghost fits = { P.fits };
 
     #[inline(always)]
-    fn pass(parent: Parent<'_, '_>, at: Option<ItemId>, found: &mut FirstFault) -> Rest {
+    fn pass(parent: Parent<'_, '_>, at: Option<ItemId>, found: &mut Breach) -> Rest {
         match One::<P>::pass(parent, at, found) {
             None => None,
             Some(next) => Any::<P>::pass(parent, next, found),
@@ -265,7 +265,7 @@ impl<A: Slot, S: Slots> Slots for Then<A, S> {
     ghost fits = { A.fits × S.fits };
 
     #[inline(always)]
-    fn pass(parent: Parent<'_, '_>, at: Option<ItemId>, found: &mut FirstFault) -> Rest {
+    fn pass(parent: Parent<'_, '_>, at: Option<ItemId>, found: &mut Breach) -> Rest {
         match A::pass(parent, at, found) {
             None => None,
             Some(next) => S::pass(parent, next, found),
@@ -280,7 +280,7 @@ impl Slots for End {
     ghost slots = { [] };
 
     #[inline(always)]
-    fn pass(_parent: Parent<'_, '_>, at: Option<ItemId>, _found: &mut FirstFault) -> Rest {
+    fn pass(_parent: Parent<'_, '_>, at: Option<ItemId>, _found: &mut Breach) -> Rest {
         Some(at)
     }
 }
@@ -294,7 +294,7 @@ impl<A: Part, B: Part> Part for Either<A, B> {
     ghost fits = { A.fits × B.fits };
 
     #[inline(always)]
-    fn judge(items: &Items<'_>, id: ItemId, parent: Class, found: &mut FirstFault) -> Option<bool> {
+    fn judge(items: &Items<'_>, id: ItemId, parent: Class, found: &mut Breach) -> Option<bool> {
         match A::judge(items, id, parent, found) {
             None => B::judge(items, id, parent, found),
             Some(ok) => Some(ok),

@@ -1,7 +1,7 @@
 use Rattle.std.proofs.Common.{inl, inr}
 use Rattle.std.proofs.lemmas.Result.{on_ok_weaker}
 use Rattle.crs_explain.proofs.DifferingLemmas.{appends-one, no-set}
-use Rattle.crs_explain.proofs.difference_texts.ToldAt.append.Goals as goal
+use Rattle.crs_explain.proofs.difference_texts.Site.append.Goals as goal
 
 pub returns : goal.returns
 returns c =

@@ -1,6 +1,6 @@
 use Rattle.std.proofs.Common.{◌∷◌, [], append-nil, refl}
 use Rattle.std.proofs.lemmas.Result.{on_ok_weaker}
-use Rattle.crs_explain.proofs.difference_texts.ToldAt.append_one.Goals as goal
+use Rattle.crs_explain.proofs.difference_texts.Site.append_one.Goals as goal
 
 pub returns : goal.returns
 returns c =

@@ -1,7 +1,7 @@
 use Rattle.std.proofs.lemmas.Bool.Decides.{not_from_Decides}
 use Rattle.std.proofs.lemmas.Result.{on_ok_weaker}
 use Rattle.crs_explain.proofs.DifferingLemmas.{told-here}
-use Rattle.crs_explain.proofs.difference_texts.ToldAt.append_value.Goals as goal
+use Rattle.crs_explain.proofs.difference_texts.Site.append_value.Goals as goal
 
 pub returns : goal.returns
 returns c =

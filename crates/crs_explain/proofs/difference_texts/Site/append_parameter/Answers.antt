@@ -8,7 +8,7 @@ use Rattle.crs_same.specs.declared.step.Step.TheVariants as step
 use Rattle.crs_explain.specs.inner.Appended.{AppendsTexts}
 use Rattle.crs_explain.specs.Differing.{AreTextsOfParts, parts_of_parameter}
 use Rattle.crs_explain.proofs.DifferingLemmas.{both}
-use Rattle.crs_explain.proofs.difference_texts.ToldAt.append_parameter.Goals as goal
+use Rattle.crs_explain.proofs.difference_texts.Site.append_parameter.Goals as goal
 
 pub returns : goal.returns
 returns c =
