@@ -61,8 +61,10 @@ SECONDS = 600
 SECONDS_IN_TURN = 60
 ESCAPE = re.compile(rb"\\(?:x([0-9a-f]{2})|\{([^}]*)\}|(.))")
 PLAIN = {b"n": b"\n", b"r": b"\r", b"t": b"\t", b"\\": b"\\"}
-# A line that tells a difference: its path, in which the name of a member may have any characters, and both values.
-TOLD = re.compile(rb'^([^:\[\n]*(?:\["(?:[^"\n]|"")*"\][^:\n]*)?): (.*) \| (.*)$', re.MULTILINE)
+# A line that tells a difference: a mark, or none, its path, in which the name of a member may have any characters, and both
+# values.
+MARK = rb"(?:the same by the rules: )?"
+TOLD = re.compile(rb"^(" + MARK + rb'[^:\[\n]*(?:\["(?:[^"\n]|"")*"\][^:\n]*)?): (.*) \| (.*)$', re.MULTILINE)
 FLAGS = set(b"exchanged input-by-lines input-in-turn input-unreadable output-any output-full output-closed".split())
 FLAGS |= {b"error-none", b"no-growth"}
 OTHER_SIDE = {b"first": b"second", b"second": b"first"}

@@ -175,9 +175,10 @@ uint32_t crsdesk_differences(const char *first, size_t first_length, const char 
 /* Why a text spells no CRS, explained to a person in some lines, each with a line feed: `refused N NAME at P, line L,
    column C`; the piece of that line, and a caret under the place; for 11 to 13, 21 and 25 `in NODE at P: found .., expected
    ..`, with all that could stand there; which delimiter is open, which name was meant, or which units are asked for (27);
-   what the number means; and a hint where the text shows what it is. At most 40 bytes of a keyword or a word are shown
-   (proved). 5,000 bytes are room enough by the lengths of these lines, which are counted, not proved: a caller asks for
-   the length with no room, or tries again.
+   what the number means; and a hint where the text shows what it is. Behind that piece at most 40 bytes of a keyword or a
+   word are shown (proved of the node, of what is found and of an open delimiter; tested of hints). 5,000 bytes are room
+   enough by the lengths of these lines, which are counted, not proved: a caller asks for the length with no room, or
+   tries again.
 
    CRSDESK_OK: the buffer begins with the lines, *length is their number of bytes; 0 where the text spells a CRS.
    CRSDESK_NO_ROOM: they have more bytes than the buffer; *length is their number.
@@ -311,7 +312,7 @@ static inline uint32_t crsdesk_catalogue_lines(struct crsdesk_catalogue *catalog
 
 /* A piece of a text. */
 struct crsdesk_piece {
-    char bytes[240]; /* those of the piece at the front */
+    char bytes[240]; /* those of the piece at the front, and zeros behind them */
     size_t length;   /* how many; 0 where the text has no more */
     uint32_t code;
 };

@@ -1,8 +1,10 @@
 -- What crsdesk_explain and crsdesk_differences answer.
-use Rattle.std.specs.Prelude.{◌≡◌, ◌⊎◌, ℕ, List, []}
+use Rattle.std.specs.Prelude.{◌≡◌, ◌⊎◌, ◌↔◌, ℕ, List, []}
 use Rattle.crs_text.specs.Refusal.{RefusedAt}
 use Rattle.crs_value.specs.declared.values.crs.Crs.{Crs}
+use Rattle.crs_value.specs.declared.values.level.Level.{Level}
 use Rattle.crs_value.specs.Spells.{Spells, Refuses}
+use Rattle.crs_same.specs.SameCrs.{SameCrs}
 use Rattle.crs_explain.specs.Explained.{IsExplained}
 use Rattle.crs_explain.specs.Differing.{IsDifferencesText}
 use Rattle.crs_c.specs.Answers.{Answer, IsAtLevel}
@@ -20,7 +22,11 @@ unfoldable pub IsExplainAnswer : List ℕ → Buffer ℕ → Buffer ℕ → ℕ 
 IsExplainAnswer text old new code =
     ((told : List ℕ) × IsExplanation text told × IsGiven told old new code) ⊎ ((code ≡ 3) × (new ≡ old))
 
--- the lines of all parts in which the CRSs of two texts differ at the level of this number, where there is such a level
+-- the lines of all parts in which two CRSs differ at a level; no lines exactly where they are the same
+abbrev pub AreLines : Level → Crs → Crs → List ℕ → Type 0
+AreLines level a b lines = IsDifferencesText level a b lines × ((lines ≡ []) ↔ SameCrs level a b)
+
+-- these lines of the CRSs of two texts at the level of this number, where there is such a level
 abbrev pub IsDifferencesAnswer : ℕ → List ℕ → List ℕ → Answer (Buffer ℕ)
 IsDifferencesAnswer level first second =
-    IsAtLevel level (λ l. IsPairAnswer (λ a b. Gives (IsDifferencesText l a b)) first second)
+    IsAtLevel level (λ l. IsPairAnswer (λ a b. Gives (AreLines l a b)) first second)

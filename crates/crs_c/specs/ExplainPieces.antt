@@ -1,8 +1,10 @@
 -- What crsdesk_difference_pieces and crsdesk_refusal_pieces answer.
-use Rattle.std.specs.Prelude.{◌≡◌, ◌==◌, ◌⊎◌, ℕ, List, if◌then◌else◌}
+use Rattle.std.specs.Prelude.{◌≡◌, ◌==◌, ◌⊎◌, ◌↔◌, ℕ, List, [], if◌then◌else◌}
 use Rattle.crs_text.specs.Refusal.{RefusedAt}
 use Rattle.crs_value.specs.declared.values.crs.Crs.{Crs}
+use Rattle.crs_value.specs.declared.values.level.Level.{Level}
 use Rattle.crs_value.specs.Spells.{Spells, Refuses}
+use Rattle.crs_same.specs.SameCrs.{SameCrs}
 use Rattle.crs_explain.specs.Differing.{AreDifferencePieces}
 use Rattle.crs_explain.specs.Explained.{AreExplainedPieces, ExplainedPieces}
 use Rattle.crs_c.specs.declared.calls.explain.Explained.{Explained}
@@ -11,11 +13,14 @@ use Rattle.crs_c.specs.Pairs.{IsPairAnswer}
 use Rattle.crs_c.specs.PieceBuffers.{AreGiven, GivesPieces, PieceBuffers}
 use Rattle.crs_c.specs.Refusals.{place_and_number}
 
--- three pieces for each part in which the CRSs of two texts differ at the level of this number, where
--- there is such a level
+-- three pieces for each part in which two CRSs differ at a level; no pieces exactly where they are the same
+abbrev pub ArePieces : Level → Crs → Crs → List (List ℕ) → Type 0
+ArePieces level a b pieces = AreDifferencePieces level a b pieces × ((pieces ≡ []) ↔ SameCrs level a b)
+
+-- these pieces of the CRSs of two texts at the level of this number, where there is such a level
 abbrev pub IsDifferencePiecesAnswer : ℕ → List ℕ → List ℕ → Answer PieceBuffers
 IsDifferencePiecesAnswer level first second =
-    IsAtLevel level (λ l. IsPairAnswer (λ a b. GivesPieces (AreDifferencePieces l a b)) first second)
+    IsAtLevel level (λ l. IsPairAnswer (λ a b. GivesPieces (ArePieces l a b)) first second)
 
 -- the caller's places for an explanation in pieces
 pub record ExplainedPlaces : Type 0 where

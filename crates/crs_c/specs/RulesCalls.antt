@@ -4,6 +4,7 @@ use Rattle.crs_text.specs.Refusal.{RefusedAt}
 use Rattle.crs_value.specs.Spells.{Refuses}
 use Rattle.crs_value.specs.declared.values.level.Level.{Level}
 use Rattle.crs_rules.specs.Rewritten.{IsForm}
+use Rattle.crs_rules.specs.Rules.{RulesParts}
 use Rattle.crs_rules.specs.RulesFile.{ReadsFile, RefusesFile}
 use Rattle.crs_rules.specs.declared.file.fault.RulesFault.{RulesFault}
 use Rattle.crs_rules.specs.declared.file.fault.RulesFault.TheVariants as faults
@@ -41,11 +42,15 @@ form_fault None = record { length = 0; refused = no_refusal; code = 3 }
 abbrev pub form_without_level : Form
 form_without_level = record { length = 0; refused = no_refusal; code = 4 }
 
+-- the form of a text, which is its own form
+abbrev pub IsOwnForm : RulesParts → Level → List ℕ → List ℕ → Type 0
+IsOwnForm rules level text form = IsForm rules level text form × IsForm rules level form form
+
 -- the form of a text under the rules is kept, with its length and code 0; or the text is refused,
 -- with code 1, or out of memory, with code 3, and all is as before
 unfoldable pub IsFormAt : Level → List ℕ → HeldParts → HeldParts → Form → Type 0
 IsFormAt level text old new told =
-    (IsForm old.reading.rules level text new.form × (new.reading ≡ old.reading)
+    (IsOwnForm old.reading.rules level text new.form × (new.reading ≡ old.reading)
     × (told ≡ record { length = length new.form; refused = no_refusal; code = 0 }))
     ⊎ ((refusal : RefusedAt) × Refuses text refusal × (new ≡ old)
     × (told ≡ form_fault (Some refusal)))

@@ -1,3 +1,4 @@
 pub mod Comparison
+pub mod Files
 pub mod Told
 pub mod Turns

@@ -1,7 +1,7 @@
 -- What commands write under rules, and their status.
-use Rattle.std.specs.Prelude.{◌≡◌, ◌++◌, ◌∷◌, ◌⊎◌, ◌==◌, [], ℕ, List, Bool, Option, Some, None, codes, not, take, if◌then◌else◌}
-use Rattle.std.specs.List.{flat_map, list_any, prefix_len}
-use Rattle.std.specs.Str.{bytes_eq}
+use Rattle.std.specs.Prelude.{◌≡◌, ◌++◌, ◌∷◌, ◌⊎◌, [], ℕ, List, Option, Some, None, codes, if◌then◌else◌, map}
+use Rattle.std.specs.List.{flat_map}
+use Rattle.std.specs.Option.{option_map}
 use Rattle.crs_value.specs.declared.values.crs.Crs.{Crs}
 use Rattle.crs_value.specs.declared.values.level.Level.{Level}
 use Rattle.crs_same.specs.SameCrs.{SameCrs}
@@ -9,7 +9,7 @@ use Rattle.crs_writer.specs.Canonical.{IsCanonicalOf}
 use Rattle.crs_rules.specs.FormOrder.{IsInFormOrder}
 use Rattle.crs_rules.specs.Rewritten.{IsForm, renamed}
 use Rattle.crs_rules.specs.Rules.{RulesParts, meaning}
-use Rattle.crs_explain.specs.Differing.{PartTexts, difference_line}
+use Rattle.crs_explain.specs.Differing.{PartTexts, difference_line, has_part, part_of, texts_exchanged}
 use Rattle.crs_explain.specs.InOrder.{AreOrderedTexts}
 use Rattle.crs_explain.specs.Json.{difference_members, difference_object}
 use Rattle.crs_desk.specs.ExplainOutput.{TellsRefusalOf, same_told}
@@ -72,18 +72,6 @@ abbrev pub status_of : Option (List PartTexts) → ℕ
 status_of None = 0
 status_of (Some texts) = 1
 
--- a byte of the path to a part: in that to a member of a set a bracket follows
-abbrev pub is_of_part : ℕ → Bool
-is_of_part b = not (b == 91)
-
--- the path to a part, without the name of a member and what follows
-abbrev pub part_of : List ℕ → List ℕ
-part_of path = take (prefix_len is_of_part path) path
-
--- whether one of some texts tells of this part
-abbrev pub has_part : List PartTexts → List ℕ → Bool
-has_part texts part = list_any (λ one. bytes_eq (part_of one.path) part) texts
-
 -- what is told of a part with the mark; of an object it is a first member
 abbrev pub with_mark : Manner → PartTexts → List ℕ
 with_mark manner.Lines part = codes "the same by the rules: " ++ difference_line part
@@ -97,6 +85,14 @@ marked_one how after part = if has_part after (part_of part.path) then [] else w
 abbrev pub marked : Manner → List PartTexts → List PartTexts → List ℕ
 marked how after before = flat_map (marked_one how after) before
 
+-- what is told of parts that differ before and of those that differ after: these, and then the others with the mark
+abbrev pub told_under : Manner → (before after : Option (List PartTexts)) → List ℕ
+told_under how before after = told_parts how after ++ marked how (texts_in after) (texts_in before)
+
+-- the same parts, each with its values exchanged
+abbrev pub turned : Option (List PartTexts) → Option (List PartTexts)
+turned = option_map (map texts_exchanged)
+
 -- what is told of two CRSs under rules: the parts in which they differ as they are rewritten, and then
 -- those in which they differ before and not after
 abbrev pub TellsUnder : Manner → List (List ℕ) → RulesParts → Level → Crs → Crs → List ℕ → ℕ → Type 0
@@ -104,7 +100,7 @@ TellsUnder how words rules level a b written status =
     (before : Option (List PartTexts)) × (after : Option (List PartTexts))
     × ArePartsThatDiffer words level a b before
     × ArePartsThatDiffer words level (renamed (meaning rules) a) (renamed (meaning rules) b) after
-    × (written ≡ told_parts how after ++ marked how (texts_in after) (texts_in before))
+    × (written ≡ told_under how before after)
     × (status ≡ status_of after)
 
 -- of a CRS and the one that a canonical text spells, its axes in the order of the form

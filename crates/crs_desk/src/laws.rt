@@ -1,12 +1,16 @@
 //! Laws of the definitions, as contracts of functions that do nothing.
-ghost use Rattle.std.specs.Prelude.{◌≡◌, ◌⊎◌, ◌↔◌, ◌++◌, [], ℕ, List, max};
+ghost use Rattle.std.specs.Prelude.{◌≡◌, ◌⊎◌, ◌↔◌, ◌++◌, [], ℕ, List, Option, max};
 ghost use Rattle.crs_streams.specs.Lines.{EndsInFeed};
 ghost use Rattle.crs_desk.specs.LinesRun.{IsLineOutput, IsLinesOutput};
 ghost use Rattle.crs_desk.specs.Output.{IsCanonOutput, IsCheckOutput};
-ghost use Rattle.crs_desk.specs.RulesOutput.{IsFormOutput};
-ghost use Rattle.crs_rules.specs.Rules.{RulesParts, AreRules};
-ghost use Rattle.crs_rules.specs.Rewritten.{IsForm, SameUnder};
+ghost use Rattle.crs_desk.specs.ExplainOutput.{TellsWhetherSame};
+ghost use Rattle.crs_desk.specs.RulesOutput.{IsFormOutput, TellsUnder, told_under, turned};
+ghost use Rattle.crs_desk.specs.declared.runs.manner.Manner.{Manner};
+ghost use Rattle.crs_explain.specs.Differing.{PartTexts};
+ghost use Rattle.crs_rules.specs.Rules.{RulesParts, AreRules, meaning, no_rules};
+ghost use Rattle.crs_rules.specs.Rewritten.{IsForm, SameUnder, renamed};
 ghost use Rattle.crs_same.specs.SameCrs.{SameCrs};
+ghost use Rattle.crs_value.specs.SoundCrs.{IsCrs};
 ghost use Rattle.crs_value.specs.Spells.{Spells};
 ghost use Rattle.crs_value.specs.declared.values.crs.Crs.{Crs};
 ghost use Rattle.crs_value.specs.declared.values.level.Level.{Level};
@@ -27,6 +31,34 @@ pub fn lines_joined()
         IsLinesOutput (IsLineOutput (IsFormOutput rules level)) (a ++ b) (v ++ w) (max m n) }
 {
     crs_streams::laws::lines_are_cut();
+}
+
+/// What `explain` tells of two CRSs under rules begins with what it tells without rules of the two as the rules rewrite
+/// them: each part that differs under the rules is told without the mark. Under no rules nothing is told with the mark.
+pub fn explained_under_rules()
+    ensures unmarked { (how : Manner) (words : List (List ℕ)) (r : RulesParts) (level : Level) (a b : Crs)
+        (written : List ℕ) (status : ℕ) → TellsUnder how words r level a b written status →
+        (front : List ℕ) × (rest : List ℕ) × (written ≡ front ++ rest)
+        × TellsWhetherSame how words level (renamed (meaning r) a) (renamed (meaning r) b) front status }
+    ensures marks { (how : Manner) (words : List (List ℕ)) (level : Level) (a b : Crs) → IsCrs a → IsCrs b →
+        (written : List ℕ) (status : ℕ) → TellsUnder how words no_rules level a b written status →
+        TellsWhetherSame how words level a b written status }
+{
+    crs_rules::laws::no_rules_rewrite_nothing();
+    crs_explain::laws::the_same_parts_are_told();
+}
+
+/// Of two CRSs in the other order the same parts are told under rules, each with its values exchanged.
+pub fn exchanged_under_rules()
+    ensures { (how : Manner) (words : List (List ℕ)) (r : RulesParts) (level : Level) (a b : Crs) → AreRules r →
+        IsCrs a → IsCrs b → (written : List ℕ) (status : ℕ) → TellsUnder how words r level a b written status →
+        (before : Option (List PartTexts)) × (after : Option (List PartTexts))
+        × (written ≡ told_under how before after)
+        × TellsUnder how words r level b a (told_under how (turned before) (turned after)) status }
+{
+    crs_same::laws::same_crs_is_equivalence();
+    crs_rules::laws::renamed_crs_is_sound();
+    crs_explain::laws::exchanged_crss_are_told_alike();
 }
 
 /// The CRSs that two forms spell are the same at the level exactly where the texts are the same under the rules.

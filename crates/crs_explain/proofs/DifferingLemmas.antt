@@ -1,5 +1,5 @@
 -- The texts of parts that differ, one after the other.
-use Rattle.std.proofs.Common.{◌≡◌, ◌++◌, ◌∷◌, [], ℕ, List, refl, sym, subst, ap, ◌∙◌, append_assoc, append-nil}
+use Rattle.std.proofs.Common.{◌≡◌, ◌⊎◌, inl, inr, ◌++◌, ◌∷◌, [], ℕ, List, refl, sym, subst, ap, ◌∙◌, append_assoc, append-nil}
 use Rattle.crs_value.specs.inner.Prelude.{ParameterParts}
 use Rattle.crs_value.specs.declared.values.level.Level.{Level}
 use Rattle.crs_same.specs.inner.Prelude.{DifferenceParts, Parts, part, ◌⨾◌, further_text}
@@ -19,12 +19,26 @@ more Are these rest old begun new e (texts, are, same) =
 
 -- ---- the texts of a part
 
--- of what is no set of parameters
-pub appends-one : (level : Level) (path : List ℕ) (first second : Content) (old new : List PartTexts) →
-    ((xs ys : List ParameterParts) → first ≡ content.Parameters xs ys → ⊥) →
+-- no set of parameters
+abbrev pub NotSet : Content → Type 0
+NotSet (content.Parameters xs ys) = ⊥
+NotSet value = Unit {0}
+
+-- of what isn't two sets of parameters
+pub one-of : (level : Level) (path : List ℕ) (first second : Content) (texts : List PartTexts) → NotSet first ⊎ NotSet second →
+    AreTextsOfOne level path first second texts → AreTextsOf level path first second texts
+one-of level path (content.Parameters xs ys) (content.Parameters zs ws) texts (inl other) is = absurd other
+one-of level path (content.Parameters xs ys) (content.Parameters zs ws) texts (inr other) is = absurd other
+one-of level path (content.Parameters xs ys) second texts other is = is
+one-of level path first second texts other is = is
+
+pub appends-one : (level : Level) (path : List ℕ) (first second : Content) (old new : List PartTexts) → NotSet first ⊎ NotSet second →
     AppendsTexts (AreTextsOfOne level path first second) old new → AppendsTexts (AreTextsOf level path first second) old new
-appends-one level path (content.Parameters xs ys) second old new other is = absurd (other xs ys refl)
-appends-one level path first second old new other is = is
+appends-one level path first second old new other (texts, is, e) = (texts, one-of level path first second texts other is, e)
+
+pub no-set : (value : Content) → ((xs ys : List ParameterParts) → value ≡ content.Parameters xs ys → ⊥) → NotSet value
+no-set (content.Parameters xs ys) other = other xs ys refl
+no-set value other = tt
 
 -- ---- the parts of a parameter
 

@@ -4,5 +4,6 @@ pub mod ExcerptLemmas
 pub mod LineLemmas
 pub mod OrderLemmas
 pub mod PieceLemmas
+pub mod TellingLemmas
 pub mod ToldLemmas
 pub mod TurnedLemmas

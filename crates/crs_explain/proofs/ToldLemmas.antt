@@ -18,7 +18,7 @@ use Rattle.crs_explain.specs.Differing.{AreTextsOfName, AreTextsOfNames, AreText
 
 -- ---- nothing is told
 
-both-empty : {A : Type 0} (xs ys : List A) → [] ≡ xs ++ ys → (xs ≡ []) × (ys ≡ [])
+pub both-empty : {A : Type 0} (xs ys : List A) → [] ≡ xs ++ ys → (xs ≡ []) × (ys ≡ [])
 both-empty [] ys e = (refl, sym e)
 both-empty (x ∷ xs) ys e = absurd (cc)
 

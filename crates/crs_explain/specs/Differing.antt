@@ -1,5 +1,5 @@
 -- What differs between two CRSs as texts.
-use Rattle.std.specs.Prelude.{◌≡◌, ◌∷◌, [], ℕ, List, ◌++◌, Bool, true, false, if◌then◌else◌, Option, Some, codes}
+use Rattle.std.specs.Prelude.{◌≡◌, ◌==◌, ◌∷◌, [], ℕ, List, ◌++◌, Bool, true, false, if◌then◌else◌, Option, Some, codes, not, take}
 use Rattle.crs_value.specs.declared.values.level.Level.{Level}
 use Rattle.crs_same.specs.declared.content.Content.{Content}
 use Rattle.crs_canon.specs.ContentText.{IsContentText}
@@ -7,7 +7,8 @@ use Rattle.crs_value.specs.Values.{ParameterParts}
 use Rattle.crs_same.specs.Parts.{◌⨾◌, DifferenceParts, Differences, Parts, identifiers, numbers, units, DifferencesInCrs}
 use Rattle.crs_same.specs.Paths.{further_text, path_text}
 use Rattle.crs_canon.specs.Named.{ArePairedNames, named_once, unpaired}
-use Rattle.std.specs.List.{flat_map}
+use Rattle.std.specs.List.{flat_map, list_any, prefix_len}
+use Rattle.std.specs.Str.{bytes_eq}
 use Rattle.crs_value.specs.declared.values.crs.Crs.{Crs}
 use Rattle.crs_streams.specs.Escaped.{escaped}
 use Rattle.crs_shape.specs.declared.unit_kind.UnitKind.TheVariants as kinds
@@ -105,9 +106,10 @@ abbrev pub shown : List ℕ → List ℕ
 shown [] = codes "none"
 shown (b ∷ bytes) = escaped (b ∷ bytes)
 
--- the texts of a part that differs: of a set of parameters those of the set, else of the part alone
+-- the texts of a part that differs: of two sets of parameters those of the sets, else of the part alone
 abbrev pub AreTextsOf : Level → List ℕ → (first second : Content) → List PartTexts → Type 0
-AreTextsOf level path (content.Parameters xs ys) second texts = AreTextsOfSet level path xs ys texts
+AreTextsOf level path (content.Parameters xs lacking) (content.Parameters ys others) texts =
+    AreTextsOfSet level path xs ys texts
 AreTextsOf level path first second texts = AreTextsOfOne level path first second texts
 
 -- the texts of these parts, in order
@@ -140,3 +142,17 @@ part_pieces part = part.path ∷ part.first ∷ part.second ∷ []
 abbrev pub AreDifferencePieces : Level → Crs → Crs → List (List ℕ) → Type 0
 AreDifferencePieces level a b pieces =
     (parts : List PartTexts) × AreDifferenceTexts level a b parts × (pieces ≡ flat_map part_pieces parts)
+
+-- ---- which part a text tells of
+
+-- a byte of the path to a part: in that to a member of a set a bracket follows
+abbrev pub is_of_part : ℕ → Bool
+is_of_part b = not (b == 91)
+
+-- the path to a part, without the name of a member and what follows
+abbrev pub part_of : List ℕ → List ℕ
+part_of path = take (prefix_len is_of_part path) path
+
+-- whether one of some texts tells of this part
+abbrev pub has_part : List PartTexts → List ℕ → Bool
+has_part texts part = list_any (λ one. bytes_eq (part_of one.path) part) texts

@@ -1,11 +1,12 @@
 -- How the refusal of a text is explained: to a person in some lines, and to a program in pieces.
-use Rattle.std.specs.Prelude.{◌≡◌, ◌≤◌, ◌++◌, ◌∷◌, [], ℕ, List, Option, length, codes, decimal}
+use Rattle.std.specs.Prelude.{◌≡◌, ◌⊎◌, ◌==◌, ◌≤◌, ◌++◌, ◌∷◌, [], ℕ, List, Option, length, codes, decimal, if◌then◌else◌, map, take}
 use Rattle.crs_text.specs.Refusal.{RefusedAt, refused_text}
 use Rattle.crs_text.specs.Position.{IsPosition, feeds}
 use Rattle.crs_text.specs.declared.position.Position.{Position}
 use Rattle.crs_explain.specs.Excerpt.{IsExcerpt}
 use Rattle.crs_explain.specs.Expectation.{Expectation, expected_line, or_nothing}
 use Rattle.crs_explain.specs.Expected.{IsExpected}
+use Rattle.crs_explain.specs.Found.{named_by}
 
 -- words of a line: at most 1,000 bytes, none of which is a line feed
 abbrev pub AreWords : List ℕ → Type 0
@@ -21,6 +22,28 @@ pub record Sentences : Type 0 where
 abbrev pub AreSentences : Sentences → Type 0
 AreSentences s = AreWords s.open_or_meant × AreWords s.meaning × AreWords s.hints
 
+-- a blank for a line feed
+abbrev pub in_line : ℕ → ℕ
+in_line b = if b == 10 then 32 else b
+
+-- bytes as the words of a line: the first 1,000, with blanks for line feeds
+abbrev pub line_words : List ℕ → List ℕ
+line_words words = map in_line (take 1000 words)
+
+-- the delimiter that is open: the keyword before it, of which at most 40 bytes are shown, the delimiter, and where they begin
+abbrev pub open_text : (keyword : List ℕ) (delimiter place : ℕ) → List ℕ
+open_text keyword delimiter place = named_by keyword ++ delimiter ∷ codes " at " ++ decimal place ++ codes " is still open"
+
+-- words that tell of an open delimiter, or none
+abbrev pub IsOpenText : List ℕ → Type 0
+IsOpenText words =
+    (words ≡ [])
+    ⊎ ((keyword : List ℕ) × (delimiter : ℕ) × (place : ℕ) × (words ≡ open_text keyword delimiter place))
+
+-- at a token with which no text goes on, and at the end of a text, it is told which delimiter is open
+abbrev pub TellsOpen : RefusedAt → List ℕ → Type 0
+TellsOpen refusal words = (refusal.number ≡ 6) ⊎ (refusal.number ≡ 7) → IsOpenText words
+
 -- all that is explained of a refusal
 pub record Explanation : Type 0 where
   pub position : Position
@@ -29,12 +52,16 @@ pub record Explanation : Type 0 where
   pub sentences : Sentences
 
 -- the explanation of a text's refusal: the line and column of the place; a piece of the line and a
--- caret; what is found and what could stand there, where that is known; and sentences
+-- caret; what is found and what could stand there, where that is known; and sentences, of which the first
+-- tells at 6 and 7 which delimiter is open
 pub record Explains (text : List ℕ) (refusal : RefusedAt) (e : Explanation) : Type 0 where
   pub is_position : IsPosition text refusal.place e.position
   pub is_excerpt : IsExcerpt text refusal.place e.excerpt
   pub is_expected : IsExpected text refusal e.expected
   pub are_sentences : AreSentences e.sentences
+  pub clue : List ℕ
+  pub tells_open : TellsOpen refusal clue
+  pub is_clue : e.sentences.open_or_meant ≡ line_words clue
 
 -- `refused N NAME at P, line L, column C`, and a line feed
 abbrev pub head : RefusedAt → Position → List ℕ

@@ -1,4 +1,3 @@
 pub mod Appended
 pub mod Cut
-pub mod Lines
 pub mod Meant

@@ -100,13 +100,14 @@ impl Site<'_> {
             out.old.items out.new.items) }
     {
         let at = self;
-        match first {
-            Content::Parameters(these, others) => {
-                let (these, others) = (these.as_slice(), others.as_slice());
-                Sets { at, these, others }.append(out)
-            }
-            _ => self.append_one(first, second, out),
-        }
+        let Content::Parameters(these, _) = first else {
+            return self.append_one(first, second, out);
+        };
+        let Content::Parameters(others, _) = second else {
+            return self.append_one(first, second, out);
+        };
+        let (these, others) = (these.as_slice(), others.as_slice());
+        Sets { at, these, others }.append(out)
     }
 
     // Appends the texts of what has these values.

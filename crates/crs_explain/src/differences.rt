@@ -1,5 +1,5 @@
 //! All parts in which two CRSs differ, in order, for people and programs: in lines, as objects of JSON, and in pieces.
-ghost use Rattle.std.specs.Prelude.{◌≡◌, ◌++◌, ◌≤◌, IfOk, MatchOption, OnOk, false, length, true};
+ghost use Rattle.std.specs.Prelude.{◌≡◌, ◌≢◌, ◌++◌, ◌≤◌, [], IfOk, IfSome, MatchOption, OnOk, false, length, true};
 ghost use Rattle.std.specs.List.{flat_map, prefix_len};
 ghost use Rattle.crs_explain.specs.Differing.{difference_line, part_pieces, shown};
 ghost use Rattle.crs_explain.specs.InOrder.{AreOrderedTexts, has_step_from, is_of_word, rank, word_at};
@@ -7,6 +7,7 @@ ghost use Rattle.crs_explain.specs.Json.{difference_members, difference_object};
 ghost use Rattle.crs_same.specs.SameCrs.{SameCrs};
 
 use crate::difference_texts::{DifferenceTexts, append_texts};
+use crate::laws::nothing_is_told_where_same;
 use crate::names::Name;
 use crate::{Made, Pieces};
 use crs_same::{differences, laws};
@@ -27,11 +28,13 @@ pub fn ordered_parts<'a>(
     level: Level,
     words: &[Name],
 ) -> Made<Option<Vec<DifferenceTexts>>>
-    ensures { IfOk result (λ found. MatchOption found (SameCrs level a.now b.now)
+    ensures parts { IfOk result (λ found. MatchOption found (SameCrs level a.now b.now)
         (λ texts. (¬ SameCrs level a.now b.now) × AreOrderedTexts words.now level a.now b.now texts.items)) }
+    ensures some { IfOk result (λ found. IfSome found (λ texts. texts.items ≢ [])) }
 {
     laws::first_difference_is_first_part();
     laws::no_part_differs_where_same();
+    nothing_is_told_where_same();
     crs_is_sound(a);
     crs_is_sound(b);
     let differences = differences(alloc, a, b, level)?;

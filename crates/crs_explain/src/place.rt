@@ -6,8 +6,8 @@ ghost use Rattle.crs_explain.specs.Found.{first_byte, found_in, is_of_word, name
 use crate::Made;
 use std::alloc::Global;
 
-// How many bytes of a word are shown.
-const SHOWN: usize = 40;
+/// How many bytes of a word are shown.
+pub(crate) const SHOWN: usize = 40;
 
 /// What begins at the front of these bytes, or the delimiter that closes there.
 pub(crate) fn found_text(alloc: Global, there: &[u8]) -> Made<Vec<u8>>

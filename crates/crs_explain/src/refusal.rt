@@ -1,11 +1,11 @@
 //! The refusal of a text, explained to a person and to a program: in lines, in pieces, and as an object of JSON.
 ghost use Rattle.std.specs.Prelude.{◌≡◌, ◌++◌, ◌∷◌, ◌≤◌, [], IfOk, OnOk, codes, decimal, length};
-ghost use Rattle.crs_explain.specs.Explained.{AreExplainedPieces, AreWords, Explains, IsExplained, head, line_if_any, sentence_lines};
+ghost use Rattle.crs_explain.specs.Explained.{AreExplainedPieces, Explains, IsExplained, TellsOpen, head, in_line, line_if_any, line_words, sentence_lines};
 ghost use Rattle.crs_explain.specs.Json.{IsRefusalObject, expected_members, place_members, sentence_members, which_member};
-ghost use Rattle.crs_explain.specs.inner.Lines.{in_line};
 
 use crate::excerpt::excerpt;
 use crate::expected::{ExpectedTexts, UNKNOWN_WORD, expectation, or_nothing};
+use crate::hint::glance::front;
 use crate::names::{append_array, push_each};
 use crate::place::word_at;
 use crate::units::units;
@@ -122,7 +122,9 @@ fn explanation(alloc: Global, text: &[u8], refusal: Refusal) -> Made<Explanation
 }
 
 // What is open at the place, which units are asked for, or which name was meant; empty where there is none.
-fn clue(alloc: Global, text: &[u8], refusal: Refusal, meant: &[u8]) -> Made<Vec<u8>> {
+fn clue(alloc: Global, text: &[u8], refusal: Refusal, meant: &[u8]) -> Made<Vec<u8>>
+    ensures { IfOk result (λ clue. TellsOpen refusal clue.items) }
+{
     match refusal.number() {
         UNEXPECTED | UNEXPECTED_END => still_open(alloc, text, refusal),
         UNKNOWN_KEYWORD | UNKNOWN_WORD if !meant.is_empty() => {
@@ -135,10 +137,10 @@ fn clue(alloc: Global, text: &[u8], refusal: Refusal, meant: &[u8]) -> Made<Vec<
 
 // The words of a line: the first of these, with blanks for line feeds.
 fn words_of(alloc: Global, words: &[u8]) -> Made<Vec<u8>>
-    ensures { IfOk result (λ line. AreWords line.items) }
+    ensures { IfOk result (λ line. line.items ≡ line_words words.now) }
 {
     let mut line = Vec::new(alloc);
-    for byte in words.get(..MOST).unwrap_or(words) {
+    for byte in front(words, MOST) {
         line.push(in_line(*byte))?;
     }
     Ok(line)

@@ -52,7 +52,7 @@ across-same : (h : Horizontal) → across (meaning no_rules) h ≡ h
 across-same (horizontals.Geodetic g) = simp parts_same
 across-same (horizontals.Projected p) = simp parts_same
 
-nothing-changes : (text : AxisParts → List ℕ) (x : Crs) → rewritten text (meaning no_rules) x ≡ x
+pub nothing-changes : (text : AxisParts → List ℕ) (x : Crs) → rewritten text (meaning no_rules) x ≡ x
 nothing-changes text (crs.Geodetic g) = simp parts_same
 nothing-changes text (crs.Projected p) = simp parts_same
 nothing-changes text (crs.Vertical v) = simp parts_same

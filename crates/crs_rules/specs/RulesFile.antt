@@ -1,6 +1,7 @@
 -- Rules files: the rules that they spell, or the first refused line.
-use Rattle.std.specs.Prelude.{◌≡◌, ◌⊎◌, ◌==◌, ◌&&◌, ◌||◌, ◌+◌, ℕ, Bool, true, IsTrue, IsFalse, List, [], ◌∷◌}
+use Rattle.std.specs.Prelude.{◌≡◌, ◌⊎◌, ◌==◌, ◌&&◌, ◌||◌, ◌+◌, ℕ, Bool, true, IsTrue, IsFalse, List, [], ◌∷◌, codes, if◌then◌else◌}
 use Rattle.crs_text.specs.Items.{Item}
+use Rattle.crs_text.specs.Refusal.{is_refusal, name_of}
 use Rattle.crs_text.specs.TextFault.{RefusesText, SpellsNode}
 use Rattle.crs_text.specs.Tokens.{is_white}
 use Rattle.crs_streams.specs.Lines.{AreLines}
@@ -39,6 +40,15 @@ abbrev pub RefusesFile : Reading → List ℕ → RulesRefusal → Type 0
 RefusesFile r bytes f =
     (lines : List (List ℕ)) × AreLines bytes lines
     × FaultOver Reads FaultOfLine (record r { line = 0 }) lines f
+
+-- what the number of a refused line means, in words; of 1 to 8 the name of a text's refusal
+abbrev pub meaning_of : ℕ → List ℕ
+meaning_of n =
+    if n == 41 then codes "neither SAME nor UNCOUNTED"
+    else (if n == 42 then codes "no node or word that may stand here"
+    else (if n == 43 then codes "a node of another kind than the first of its set"
+    else (if n == 44 then codes "a node that stood in a set before"
+    else (if is_refusal n then name_of n else []))))
 
 -- before the first file
 abbrev pub start : Reading

@@ -33,6 +33,11 @@ pub fn rewritten_crs_is_sound()
         IsCrs (rewritten text (meaning r) crs) }
 {}
 
+/// The same of a CRS whose axes stay in their order.
+pub fn renamed_crs_is_sound()
+    ensures { (r : RulesParts) (crs : Crs) → AreRules r → IsCrs crs → IsCrs (renamed (meaning r) crs) }
+{}
+
 /// What rules write is accepted.
 pub fn rules_are_sound(rules: &Rules)
     ensures { AreRules rules.now }
@@ -103,6 +108,11 @@ pub fn no_rules_give_canonical_texts()
     answers_are_equal_where_same();
     axes_are_canonical();
 }
+
+/// No rules rewrite no part of a CRS.
+pub fn no_rules_rewrite_nothing()
+    ensures { (x : Crs) → renamed (meaning no_rules) x ≡ x }
+{}
 
 /// The order of aliases says nothing, where rules are steady.
 pub fn order_of_rules_is_nothing()

@@ -6,8 +6,10 @@ ghost use Rattle.crs_c.specs.FirstPart.{words_of};
 
 use crate::calls::codes::{NO_MEMORY, REFUSED, SECOND_REFUSED};
 use crate::calls::refused::{Refused, tell};
+use crs_explain::laws::nothing_is_told_where_same;
 use crs_explain::{Pieces, difference_lines, difference_pieces, differing_parts};
 use crs_same::{Path, first_part, laws, same};
+use crs_value::laws::crs_is_sound;
 use crs_value::{Crs, Level, read};
 use std::alloc::{AllocError, Global};
 
@@ -102,34 +104,40 @@ fn words_of(alloc: Global, found: Option<Path>) -> Result<Vec<u8>, AllocError>
     Ok(words)
 }
 
-/// The lines of all parts in which two CRSs differ at a level.
+/// The lines of all parts in which two CRSs differ at a level; no lines exactly where they are the same.
 #[derive(Clone, Copy)]
 pub struct Lines(pub Level);
 
 impl Comparing for Lines {
-    ghost use Rattle.crs_explain.specs.Differing.{IsDifferencesText};
+    ghost use Rattle.crs_c.specs.Explain.{AreLines};
 
     type Made = Vec<u8>;
 
-    ghost Like = { λ s a b lines. IsDifferencesText s.0 a b lines.items };
+    ghost Like = { λ s a b lines. AreLines s.0 a b lines.items };
 
     fn compare<'t>(self, alloc: Global, a: &Crs<'t>, b: &Crs<'t>) -> Result<Vec<u8>, AllocError> {
+        nothing_is_told_where_same();
+        crs_is_sound(a);
+        crs_is_sound(b);
         difference_lines(alloc, &differing_parts(alloc, a, b, self.0)?)
     }
 }
 
-/// The pieces of all parts in which two CRSs differ at a level.
+/// The pieces of all parts in which two CRSs differ at a level; no pieces exactly where they are the same.
 #[derive(Clone, Copy)]
 pub struct DifferencePieces(pub Level);
 
 impl Comparing for DifferencePieces {
-    ghost use Rattle.crs_explain.specs.Differing.{AreDifferencePieces};
+    ghost use Rattle.crs_c.specs.ExplainPieces.{ArePieces};
 
     type Made = Pieces;
 
-    ghost Like = { λ s a b pieces. AreDifferencePieces s.0 a b pieces };
+    ghost Like = { λ s a b pieces. ArePieces s.0 a b pieces };
 
     fn compare<'t>(self, alloc: Global, a: &Crs<'t>, b: &Crs<'t>) -> Result<Pieces, AllocError> {
+        nothing_is_told_where_same();
+        crs_is_sound(a);
+        crs_is_sound(b);
         difference_pieces(alloc, &differing_parts(alloc, a, b, self.0)?)
     }
 }

@@ -11,7 +11,7 @@ pub(crate) const MOST: usize = 240;
 #[repr(C)]
 #[derive(Drop)]
 pub struct Piece {
-    /// Its bytes at the front.
+    /// Its bytes at the front, and zeros behind them.
     pub bytes: [u8; MOST],
     /// How many.
     pub length: usize,

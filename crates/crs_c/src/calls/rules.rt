@@ -1,17 +1,21 @@
 //! Rules as a caller of C holds them: what each call does to them, taken by value and handed back, and what it answers.
-ghost use Rattle.std.specs.Prelude.{◌≡◌};
+ghost use Rattle.std.specs.Prelude.{◌≡◌, MatchResult};
 ghost use Rattle.crs_text.specs.Fault.{refusal_of};
+ghost use Rattle.crs_value.specs.Spells.{IsFaultOfText};
 ghost use Rattle.crs_c.specs.Held.{nothing_held};
 ghost use Rattle.crs_c.specs.Pieces.{IsPiece};
-ghost use Rattle.crs_c.specs.RulesCalls.{IsFileRead, IsFormAt, IsFormed, file_fault, file_read, form_fault, form_without_level};
+ghost use Rattle.crs_c.specs.RulesCalls.{IsFileRead, IsFormAt, IsFormed, IsOwnForm, file_fault, file_read, form_fault, form_without_level};
 
 use crate::calls::codes::{NO_LEVEL, NO_MEMORY, OK, REFUSED, level_numbered};
 use crate::calls::piece::{Piece, piece_of};
 use crate::calls::refused::{Refused, no_refusal, place_and_number};
 use crate::letting_go::let_go_anywhere;
+use crs_rules::laws::files::read_rules_are_steady;
+use crs_rules::laws::{forms_are_their_own, rules_are_sound};
 use crs_rules::{RulesFault, RulesReader, canon_under};
 use crs_text::Fault;
 use crs_value::Level;
+use crs_writer::Canon;
 use std::alloc::Global;
 use std::marker::Model;
 
@@ -25,10 +29,13 @@ pub struct HeldRules {
 
 impl Model for HeldRules {
     ghost use Rattle.crs_c.specs.Held.{HeldParts};
+    ghost use Rattle.crs_c.specs.inner.Files.{AreOfFiles};
 
     ghost Value = { HeldParts };
 
     ghost view = { λ held. record { reading = held.reader; form = held.form.items } };
+
+    ghost invariant = { λ held. AreOfFiles held.reader };
 }
 
 /// What is answered of a rules file: `struct crsdesk_rules_standing` of C.
@@ -110,6 +117,7 @@ fn without_form(code: u32) -> Form
 }
 
 /// No rules.
+#[tactic(auto, using(crate::proofs::FilesLemmas::no_files))]
 pub fn no_rules(alloc: Global) -> HeldRules
     ensures { result ≡ nothing_held }
 {
@@ -121,7 +129,7 @@ pub fn no_rules(alloc: Global) -> HeldRules
 }
 
 /// Adds the rules of one more file.
-#[tactic(auto, unfolding(crate::specs::RulesCalls::IsFileRead))]
+#[tactic(auto, unfolding(crate::specs::RulesCalls::IsFileRead), using(crate::proofs::FilesLemmas::one_more))]
 pub fn add_file(held: HeldRules, text: &[u8]) -> (HeldRules, RulesStanding)
     ensures { IsFileRead text.now held result.0 result.1 }
 {
@@ -149,11 +157,22 @@ pub fn make_form(held: HeldRules, level: u32, text: &[u8]) -> (HeldRules, Form)
     (held, told)
 }
 
+// The form of a text, which is its own form: no rules of files chain.
+fn own_form(held: &HeldRules, level: Level, text: &[u8]) -> Result<Canon, Fault>
+    ensures { MatchResult result (λ form. IsOwnForm held.now.reading.rules level text.now form.bytes) (IsFaultOfText text.now) }
+{
+    forms_are_their_own();
+    read_rules_are_steady();
+    let rules = held.reader.rules();
+    rules_are_sound(rules);
+    canon_under(held.alloc, text, level, rules)
+}
+
 #[tactic(auto, unfolding(crate::specs::RulesCalls::IsFormAt))]
 fn keep_form_at(held: &mut HeldRules, level: Level, text: &[u8]) -> Form
     ensures { IsFormAt level text.now held.old held.new result }
 {
-    match canon_under(held.alloc, text, level, held.reader.rules()) {
+    match own_form(held, level, text) {
         Ok(form) => {
             let form = form.into_bytes();
             let told = Form {

@@ -6,8 +6,9 @@ ghost use Rattle.crs_value.specs.Spells.{IsFaultOfText};
 ghost use Rattle.crs_canon.specs.MainTheorem.{IsAccepted};
 ghost use Rattle.crs_writer.specs.Canonical.{IsCanonicalOf};
 ghost use Rattle.crs_rules.specs.Rewritten.{IsForm};
+ghost use Rattle.crs_explain.specs.Differing.{has_part, is_of_part, part_of};
 ghost use Rattle.crs_desk.specs.RulesOutput.{IsExplainedBehind, IsExplainedUnder, IsRefusedOf, TellsUnder};
-ghost use Rattle.crs_desk.specs.RulesOutput.{has_part, is_of_part, marked, marked_one, part_of, status_of, texts_in, told_parts, with_mark};
+ghost use Rattle.crs_desk.specs.RulesOutput.{marked, marked_one, status_of, texts_in, told_parts, with_mark};
 
 use crate::runs::explain::{Told, same_line};
 use crate::{

@@ -122,16 +122,14 @@ fn holds_none(keyword: &[u8]) -> bool {
 
 /// The node whose opening delimiter is at a place.
 pub(crate) fn node_at(text: &[u8], at: usize, delimiter: u8) -> NodeStart<'_> {
-    let near = back(front(text, at), 100);
-    let ahead = near.trim_ascii_end();
+    let ahead = front(text, at).trim_ascii_end();
     let run = ahead.iter().rev().take_while(|it| is_of_word(**it)).count();
     let word = back(ahead, run);
     // A keyword begins with a letter.
     let letter = word.iter().position(|it| it.is_ascii_alphabetic());
     let keyword = rest(word, letter.unwrap_or(run));
-    let white = near.len().saturating_sub(ahead.len());
     NodeStart {
-        begin: at.saturating_sub(white).saturating_sub(keyword.len()),
+        begin: ahead.len().saturating_sub(keyword.len()),
         keyword,
         delimiter,
     }

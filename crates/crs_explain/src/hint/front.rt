@@ -5,6 +5,7 @@ use crate::hint::glance::{
     split_word, word_length,
 };
 use crate::hint::{Entry, Filling, Hint, by_first_bytes, filled, said, sentence};
+use crate::place::SHOWN;
 
 /// What a text is by its front.
 pub(crate) fn by_front(text: &[u8]) -> Option<Hint<'_>> {
@@ -87,8 +88,10 @@ fn by_geometry(front: &[u8]) -> Option<Hint<'_>> {
 // `SRID=` with its digits, where a semicolon follows them.
 fn srid_of(front: &[u8]) -> Option<&[u8]> {
     let digits = digit_count(rest(front, 5));
+    // A longer number is no SRID, and no word that is shown whole.
+    let is_begun = begins(front, b"SRID=") && matches!(digits, 1..=35);
     match front.split_at_checked(5usize.saturating_add(digits)) {
-        Some((srid, [b';', ..])) if begins(front, b"SRID=") && digits > 0 => Some(srid),
+        Some((srid, [b';', ..])) if is_begun => Some(srid),
         _ => None,
     }
 }
@@ -102,14 +105,24 @@ fn by_string(text: &[u8]) -> Option<Hint<'_>> {
         let told = "This is a PROJ string, which ends in +type=crs where it is a CRS: {}";
         filled(told, Filling::ByProj(transformation_of(text)))
     } else if digit_count(text) == text.len() {
-        filled(sentence::CODE, Filling::Argument(b"EPSG:", text))
+        by_code(b"EPSG:", text)
     } else if is_code(text) || is_address(text) {
-        filled(sentence::CODE, Filling::Argument(b"", text))
+        by_code(b"", text)
     } else if is_path(text) {
         said("This is the name of a file, most likely: what is wanted is the text in that file.")
     } else {
         None
     }
+}
+
+// What to do with a code, behind these bytes; one of more bytes than are shown of a word isn't written out.
+fn by_code<'a>(authority: &'static [u8], code: &'a [u8]) -> Option<Hint<'a>> {
+    let word = if code.len() <= SHOWN {
+        Filling::Argument(authority, code)
+    } else {
+        Filling::Words(b"CODE")
+    };
+    filled(sentence::CODE, word)
 }
 
 // `+proj=utm ..`, also without plus signs, or with `init=`, or with other words before.

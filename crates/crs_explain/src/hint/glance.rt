@@ -1,4 +1,6 @@
 //! Short looks at bytes.
+ghost use Rattle.std.specs.Prelude.{◌≡◌, take};
+
 use crs_shape::{Class, keywords};
 
 /// How many bytes a hint looks at, from the text's front and from the place on.
@@ -15,7 +17,10 @@ pub(crate) fn rest(text: &[u8], count: usize) -> &[u8] {
 }
 
 /// The first bytes, at most so many.
-pub(crate) fn front(text: &[u8], count: usize) -> &[u8] {
+#[tactic(auto, using(std::proofs::lemmas::List::take_all))]
+pub(crate) fn front(text: &[u8], count: usize) -> &[u8]
+    ensures { result.now ≡ take count text.now }
+{
     text.get(..count).unwrap_or(text)
 }
 

@@ -1,4 +1,8 @@
 //! Which hints apply to a refused text, and how they are written.
+ghost use Rattle.std.specs.Prelude.{◌≡◌, ◌++◌, ◌∷◌, IfOk, OnOk, codes, decimal};
+ghost use Rattle.crs_explain.specs.Explained.{IsOpenText, open_text};
+ghost use Rattle.crs_explain.specs.Found.{named_by};
+
 use crate::Made;
 use crate::hint::before::{look_before, node_at};
 use crate::hint::front::by_front;
@@ -6,6 +10,7 @@ use crate::hint::glance::{looked_at, rest};
 use crate::hint::place::by_place;
 use crate::hint::sentence::BY_PROJ;
 use crate::hint::{About, Filling, Hint, NodeStart};
+use crate::place::name_text;
 use bstr::ByteSlice;
 use crs_streams::append_number;
 use crs_text::{Refusal, open_delimiter};
@@ -40,15 +45,25 @@ fn beside<'a>(whole: Option<Hint<'_>>, there: Option<Hint<'a>>, number: u8) -> O
 }
 
 /// The node open at a refusal, as `CS[ at 24 is still open`; nothing where none is. `AllocError`: no memory.
-pub fn still_open(alloc: Global, text: &[u8], refusal: Refusal) -> Made<Vec<u8>> {
-    let mut out = Vec::new(alloc);
-    if let Some(at) = open_delimiter(text, refusal.place())
-        && let [delimiter, ..] = rest(text, at)
-    {
-        append_node(node_at(text, at, *delimiter), &mut out)?;
-        out.extend_from_slice(b" is still open")?;
+pub fn still_open(alloc: Global, text: &[u8], refusal: Refusal) -> Made<Vec<u8>>
+    ensures { IfOk result (λ words. IsOpenText words.items) }
+{
+    let Some(at) = open_delimiter(text, refusal.place()) else {
+        return Ok(Vec::new(alloc));
+    };
+    match rest(text, at) {
+        [delimiter, ..] => open_text(alloc, node_at(text, at, *delimiter)),
+        [] => Ok(Vec::new(alloc)),
     }
-    Ok(out)
+}
+
+fn open_text(alloc: Global, node: NodeStart<'_>) -> Made<Vec<u8>>
+    ensures { IfOk result (λ words. words.items ≡ open_text node.entry.keyword.now node.entry.delimiter node.entry.begin) }
+{
+    let mut words = Vec::new(alloc);
+    append_node(node, &mut words)?;
+    words.extend_from_slice(b" is still open")?;
+    Ok(words)
 }
 
 fn append_hint(hint: &Hint<'_>, out: &mut Vec<u8>) -> Made<()> {
@@ -91,8 +106,11 @@ fn append_filling(filling: Filling<'_>, out: &mut Vec<u8>) -> Made<()> {
     }
 }
 
-fn append_capitals(word: &[u8], out: &mut Vec<u8>) -> Made<()> {
-    out.extend_from_slice(&word.to_ascii_uppercase(*out.allocator())?)
+// A word in capitals, or the front of a long one.
+fn append_capitals(word: &[u8], out: &mut Vec<u8>) -> Made<()>
+    ensures { OnOk result (out.new.items ≡ out.old.items ++ named_by word.now) }
+{
+    out.extend_from_slice(&name_text(*out.allocator(), word)?)
 }
 
 // The word as it is where a shell takes none of its bytes for anything else, else in single quotes.
@@ -121,7 +139,10 @@ fn append_by_proj(transformation: &[u8], out: &mut Vec<u8>) -> Made<()> {
 }
 
 // `CS[ at 24`
-fn append_node(node: NodeStart<'_>, out: &mut Vec<u8>) -> Made<()> {
+fn append_node(node: NodeStart<'_>, out: &mut Vec<u8>) -> Made<()>
+    ensures { OnOk result (out.new.items ≡ out.old.items ++ (named_by node.entry.keyword.now
+        ++ node.entry.delimiter ∷ codes " at " ++ decimal node.entry.begin)) }
+{
     append_capitals(node.keyword, out)?;
     out.push(node.delimiter)?;
     out.extend_from_slice(b" at ")?;

@@ -1,4 +1,7 @@
 //! Why the bytes of a rules file gave no rules.
+ghost use Rattle.std.specs.Prelude.{◌≡◌};
+ghost use Rattle.crs_rules.specs.RulesFile.{meaning_of};
+
 use crs_text::Refusal;
 use std::alloc::AllocError;
 use thiserror::Error;
@@ -25,13 +28,18 @@ pub struct RulesRefusal {
 
 impl RulesRefusal {
     /// What its number means, in words; of 1 to 8 the name of a text's refusal.
-    pub fn meaning(&self) -> &'static str {
+    pub fn meaning(&self) -> &'static str
+        ensures { result.now ≡ meaning_of self.now.number }
+    {
         match self.number {
             NO_STATEMENT => "neither SAME nor UNCOUNTED",
             NOT_HERE => "no node or word that may stand here",
             OTHER_CLASS => "a node of another kind than the first of its set",
             REPEATED => "a node that stood in a set before",
-            number => Refusal::new(number, 0).map_or("", |refusal| refusal.name()),
+            number => match Refusal::new(number, 0) {
+                Some(refusal) => refusal.name(),
+                None => "",
+            },
         }
     }
 }

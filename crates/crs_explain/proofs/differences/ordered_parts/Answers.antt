@@ -7,15 +7,15 @@ use Rattle.crs_explain.specs.InOrder.{rank}
 use Rattle.crs_explain.proofs.OrderLemmas.{where-none, where-some}
 use Rattle.crs_explain.proofs.differences.ordered_parts.Goals as goal
 
-pub returns-then-is_empty : goal.returns-then-is_empty
-returns-then-is_empty c =
+pub returns-then-is_empty-clause-parts : goal.returns-then-is_empty-clause-parts
+returns-then-is_empty-clause-parts c =
     let level = c.args.level in let a = c.args.a.now in let b = c.args.b.now in
     where-none (DifferencesInCrs level a b) _ (sym c.is_empty.ensures ∙ c.if-is_empty.true)
     (λ none. (c.no_part_differs_where_same.ensures.none level a b).0 (c.first_difference_is_first_part.ensures.none level a b none))
     (rw c.as_slice.ensures c.in_ok-differences.ensures)
 
-pub returns : goal.returns
-returns c =
+pub returns-clause-parts : goal.returns-clause-parts
+returns-clause-parts c =
     let words = c.args.words.now in
     let level = c.args.level in let a = c.args.a.now in let b = c.args.b.now in
     let (texts, are, all) = c.in_ok-append_texts.ensures in (
@@ -34,3 +34,9 @@ returns c =
         },
       ),
     )
+
+pub returns-clause-some : goal.returns-clause-some
+returns-clause-some c none =
+    let is = returns-clause-parts c in
+    is.0 ((c.nothing_is_told_where_same.ensures.ordered c.args.words.now c.args.level c.args.a.now c.args.b.now
+    c.crs_is_sound.ensures c.crs_is_sound-2.ensures _ is.1).0 none)

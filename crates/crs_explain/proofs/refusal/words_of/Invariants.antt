@@ -1,5 +1,5 @@
 use Rattle.std.proofs.Common.{◌≡◌, map, take}
-use Rattle.crs_explain.specs.inner.Lines.{in_line}
+use Rattle.crs_explain.specs.Explained.{in_line}
 use Rattle.crs_explain.proofs.refusal.words_of.Given as goal
 
 abbrev pub invariant-loop-byte : goal.invariant-loop-byte

@@ -1,5 +1,5 @@
 use Rattle.std.proofs.Common.{◌≡◌, drop}
-use Rattle.crs_desk.specs.RulesOutput.{has_part}
+use Rattle.crs_explain.specs.Differing.{has_part}
 use Rattle.crs_desk.proofs.runs.under.has_part.Given as goal
 
 abbrev pub invariant-loop-difference : goal.invariant-loop-difference

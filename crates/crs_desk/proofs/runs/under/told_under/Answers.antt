@@ -10,9 +10,9 @@ returns c =
     (λ output told. (
       _,
       _,
-      parts-found (λ texts. texts.items) words level c.args.a.now c.args.b.now _ c.in_ok-before.ensures,
+      parts-found (λ texts. texts.items) words level c.args.a.now c.args.b.now _ c.in_ok-before.ensures.parts,
       parts-found (λ texts. texts.items) words level _ _ _
-          (rw (c.rewrite_parts.ensures, c.rewrite_parts-2.ensures) at c.in_ok-after.ensures),
+          (rw (c.rewrite_parts.ensures, c.rewrite_parts-2.ensures) at c.in_ok-after.ensures.parts),
       told.0,
       told.1,
     ))
