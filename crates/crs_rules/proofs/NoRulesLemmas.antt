@@ -1,5 +1,5 @@
 -- No rules change nothing, so forms are canonical texts.
-use Rattle.std.proofs.Common.{◌≡◌, ◌↔◌, ℕ, List}
+use Rattle.std.proofs.Common.{◌≡◌, ◌↔◌, ◌∙◌, ℕ, Bool, true, false, List, [], ◌∷◌, map, refl, sym}
 use Rattle.std.proofs.lemmas.Iterator.Adapters.{option_map_id}
 use Rattle.std.proofs.lemmas.List.{map-id}
 use Rattle.crs_shape.specs.declared.class.Class.{Class}
@@ -15,48 +15,85 @@ use Rattle.crs_value.specs.declared.values.level.Level.TheVariants as levels
 use Rattle.crs_normal.specs.inner.Prelude.{axis_text}
 use Rattle.crs_writer.specs.inner.Prelude.{IsCanonicalOf}
 use Rattle.crs_canon.specs.MainTheorem.{MainTheorem}
-use Rattle.crs_rules.specs.Rules.{no_rules, meaning}
-use Rattle.crs_rules.specs.Rewritten.{across, axis, dynamic, ellipsoid, extent, frame_or_ensemble, meridian, parameter, rewritten, usage, AreTextsOfAxes, IsForm}
+use Rattle.crs_rules.specs.FormOrder.{in_form_order, put_across, put_crs}
+use Rattle.crs_rules.specs.ReorderedAxes.{unordered}
+use Rattle.crs_rules.specs.Rules.{Meaning, axes_in_any_order, meaning, no_rules, nothing}
+use Rattle.crs_rules.specs.inner.Sinking.{axes_across, axes_along, axes_up}
+use Rattle.crs_rules.specs.Rewritten.{across, ascending, axis, dynamic, ellipsoid, extent, frame_or_ensemble, meridian, parameter, renamed, rewritten, usage, AreTextsOfAxes, IsForm}
+use Rattle.crs_rules.proofs.FormOrderLemmas.{kept-by}
 
 abbrev ChangesNothing : {A : Type 0} → (A → A) → Type 0
 ChangesNothing {A} f = ◌≡◌ {A = A → A} (λ x. f x) (λ x. x)
 
-ellipsoid-same : ChangesNothing (ellipsoid (meaning no_rules))
-ellipsoid-same = simp option_map_id
+-- what rules do by which all counts, or all but the order of axes
+abbrev plain : Bool → Meaning
+plain o = meaning (record no_rules { uncounted = record nothing { axis_order = o } })
 
-meridian-same : ChangesNothing (meridian (meaning no_rules))
-meridian-same = simp option_map_id
+ellipsoid-same : (o : Bool) → ChangesNothing (ellipsoid (plain o))
+ellipsoid-same o = simp option_map_id
 
-dynamic-same : ChangesNothing (dynamic (meaning no_rules))
-dynamic-same = simp option_map_id
+meridian-same : (o : Bool) → ChangesNothing (meridian (plain o))
+meridian-same o = simp option_map_id
 
-axis-same : ChangesNothing (axis (meaning no_rules))
-axis-same = simp option_map_id
+dynamic-same : (o : Bool) → ChangesNothing (dynamic (plain o))
+dynamic-same o = simp option_map_id
 
-extent-same : ChangesNothing (extent (meaning no_rules))
-extent-same = simp option_map_id
+extent-same : (o : Bool) → ChangesNothing (extent (plain o))
+extent-same o = simp option_map_id
 
-usage-same : ChangesNothing (usage (meaning no_rules))
-usage-same = simp (extent-same, option_map_id)
+usage-same : (o : Bool) → ChangesNothing (usage (plain o))
+usage-same o = simp (extent-same, option_map_id)
 
-parameter-same : ChangesNothing (parameter (meaning no_rules))
-parameter-same = simp option_map_id
+parameter-same : (o : Bool) → ChangesNothing (parameter (plain o))
+parameter-same o = simp option_map_id
 
-frame-same : (c d : Class) (f : Frame) → frame_or_ensemble (meaning no_rules) c d f ≡ f
-frame-same c d (frames.Datum x) = simp (ellipsoid-same, option_map_id)
-frame-same c d (frames.Ensemble e) = simp (ellipsoid-same, option_map_id, map-id)
+frame-same : (o : Bool) (c d : Class) (f : Frame) → frame_or_ensemble (plain o) c d f ≡ f
+frame-same o c d (frames.Datum x) = simp (ellipsoid-same, option_map_id)
+frame-same o c d (frames.Ensemble e) = simp (ellipsoid-same, option_map_id, map-id)
 
-ruleset parts_same = (meridian-same, dynamic-same, axis-same, usage-same, parameter-same, frame-same, option_map_id, map-id)
+ruleset parts_same = (meridian-same, dynamic-same, usage-same, parameter-same, frame-same, option_map_id, map-id)
 
-across-same : (h : Horizontal) → across (meaning no_rules) h ≡ h
-across-same (horizontals.Geodetic g) = simp parts_same
-across-same (horizontals.Projected p) = simp parts_same
+abbrev AxesStay : Bool → List AxisParts → Type 0
+AxesStay o axes = map (axis (plain o)) axes ≡ axes
+
+across-same : (o : Bool) (h : Horizontal) → AxesStay o (axes_along h) → across (plain o) h ≡ h
+across-same o (horizontals.Geodetic g) e = simp (e, parts_same)
+across-same o (horizontals.Projected p) e = simp (e, parts_same)
+
+unchanged : (o : Bool) (x : Crs) → AxesStay o (axes_across x) → AxesStay o (axes_up x) → renamed (plain o) x ≡ x
+unchanged o (crs.Geodetic g) e h = simp (e, parts_same)
+unchanged o (crs.Projected p) e h = simp (e, parts_same)
+unchanged o (crs.Vertical v) e h = simp (h, parts_same)
+unchanged o (crs.Compound c) e h = let across = across-same o c.horizontal e in simp (across, h, parts_same)
+
+axes-stay : (axes : List AxisParts) → AxesStay false axes
+axes-stay [] = refl
+axes-stay (a ∷ axes) = let others = axes-stay axes in simp (others, option_map_id)
 
 pub nothing-changes : (text : AxisParts → List ℕ) (x : Crs) → rewritten text (meaning no_rules) x ≡ x
-nothing-changes text (crs.Geodetic g) = simp parts_same
-nothing-changes text (crs.Projected p) = simp parts_same
-nothing-changes text (crs.Vertical v) = simp parts_same
-nothing-changes text (crs.Compound c) = simp (across-same, parts_same)
+nothing-changes text x = unchanged false x (axes-stay (axes_across x)) (axes-stay (axes_up x))
+
+-- ---- where the order of axes alone doesn't count, a CRS whose axes are in the order of the form stays
+
+unordered-stay : (axes : List AxisParts) → AxesStay true (map unordered axes)
+unordered-stay [] = refl
+unordered-stay (a ∷ axes) = let others = unordered-stay axes in simp (others, option_map_id)
+
+put-stays : (text : AxisParts → List ℕ) (x : Crs) → renamed (meaning axes_in_any_order) (put_crs text x) ≡ put_crs text x
+put-stays text (crs.Geodetic g) = unchanged true (put_crs text (crs.Geodetic g)) (unordered-stay (ascending text g.system.axes)) refl
+put-stays text (crs.Projected p) = unchanged true (put_crs text (crs.Projected p)) (unordered-stay (ascending text p.system.axes)) refl
+put-stays text (crs.Vertical v) = unchanged true (put_crs text (crs.Vertical v)) refl (unordered-stay (ascending text v.system.axes))
+put-stays text (crs.Compound c) =
+    unchanged true (put_crs text (crs.Compound c)) (along c.horizontal) (unordered-stay (ascending text c.vertical.system.axes))
+  where
+    along : (h : Horizontal) → AxesStay true (axes_along (put_across text h))
+    along (horizontals.Geodetic g) = unordered-stay (ascending text g.system.axes)
+    along (horizontals.Projected p) = unordered-stay (ascending text p.system.axes)
+
+pub any-order : (text : AxisParts → List ℕ) (x : Crs) →
+    rewritten text (meaning axes_in_any_order) x ≡ in_form_order text (meaning axes_in_any_order) x
+any-order text x =
+    sym (kept-by text (meaning axes_in_any_order) x true refl) ∙ put-stays (λ a. text (axis (meaning axes_in_any_order) a)) x
 
 pub forms-are-canonical : (level : Level) → MainTheorem level →
     ((text bytes again : List ℕ) → IsCanonicalOf level text bytes → IsCanonicalOf level bytes again → again ≡ bytes) →

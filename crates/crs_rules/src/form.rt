@@ -76,7 +76,9 @@ pub fn read_in_form_order<'t>(
 {
     axes_are_canonical();
     let mut crs = read_accepted(alloc, text)?;
-    if rules.uncounted.axis_order {
+    if rules.are_axes_in_any_order() {
+        rewrite(alloc, &mut crs, rules)?;
+    } else if rules.uncounted.axis_order {
         put_in_form_order(alloc, &mut crs, text, rules)?;
     }
     Ok(crs)

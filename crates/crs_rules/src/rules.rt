@@ -1,8 +1,8 @@
 //! Rules.
-ghost use Rattle.std.specs.Prelude.{◌≡◌, ◌++◌, ◌∷◌, [], OnErr, OnOk, length, take};
+ghost use Rattle.std.specs.Prelude.{◌≡◌, ◌++◌, ◌∷◌, [], IsTrue, OnErr, OnOk, length, take};
 ghost use Rattle.crs_value.specs.Checks.{IsAboveZero};
 ghost use Rattle.crs_value.specs.Sound.{IsText};
-ghost use Rattle.crs_rules.specs.Rules.{no_rules, RulesParts, AreRules};
+ghost use Rattle.crs_rules.specs.Rules.{axes_in_any_order, no_rules, RulesParts, AreRules};
 
 use crate::aliases::{Aliases, NameAlias, UnitAlias};
 use crate::file::member::Member;
@@ -46,6 +46,17 @@ impl Rules {
             units: Aliases::new(alloc),
             uncounted: Uncounted::default(),
         }
+    }
+
+    // Whether these rules say that the order of axes doesn't count, and nothing else.
+    pub(crate) fn are_axes_in_any_order(&self) -> bool
+        ensures { IsTrue result → self.now ≡ axes_in_any_order }
+    {
+        let uncounted = Uncounted {
+            axis_order: true,
+            ..Uncounted::default()
+        };
+        self.uncounted == uncounted && self.names.len() == 0 && self.units.len() == 0
     }
 
     /// What doesn't count.

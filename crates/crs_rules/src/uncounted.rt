@@ -1,5 +1,5 @@
 /// What doesn't count, in CRSs that are compared under rules; by default everything counts.
-#[derive(Clone, Copy, Debug, Default)]
+#[derive(Clone, Copy, Debug, Default, PartialEq, Eq)]
 pub struct Uncounted {
     /// The names of CRSs.
     pub crs_names: bool,
