@@ -17,7 +17,8 @@ use Rattle.crs_writer.specs.inner.Prelude.{IsCanonicalOf}
 use Rattle.crs_canon.specs.MainTheorem.{MainTheorem}
 use Rattle.crs_rules.specs.FormOrder.{in_form_order, put_across, put_crs}
 use Rattle.crs_rules.specs.ReorderedAxes.{unordered}
-use Rattle.crs_rules.specs.Rules.{Meaning, axes_in_any_order, meaning, no_rules, nothing}
+use Rattle.crs_rules.specs.Rules.{Meaning, meaning, no_rules, nothing}
+use Rattle.crs_rules.specs.inner.AnyOrder.{axes_in_any_order}
 use Rattle.crs_rules.specs.inner.Sinking.{axes_across, axes_along, axes_up}
 use Rattle.crs_rules.specs.Rewritten.{across, ascending, axis, dynamic, ellipsoid, extent, frame_or_ensemble, meridian, parameter, renamed, rewritten, usage, AreTextsOfAxes, IsForm}
 use Rattle.crs_rules.proofs.FormOrderLemmas.{kept-by}

@@ -103,10 +103,6 @@ nothing = record {
 abbrev pub no_rules : RulesParts
 no_rules = record { names = []; units = []; uncounted = nothing }
 
--- rules by which nothing counts as another, and all counts but the order of axes
-abbrev pub axes_in_any_order : RulesParts
-axes_in_any_order = record no_rules { uncounted = record nothing { axis_order = true } }
-
 -- ---- what is asked of rules: what they write is accepted
 
 -- what is asked of an alias of a name: the name that is written is a text

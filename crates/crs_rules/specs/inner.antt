@@ -1,4 +1,5 @@
 pub mod AddedNodes
+pub mod AnyOrder
 pub mod Equality
 pub mod EqualityLaws
 pub mod Faults

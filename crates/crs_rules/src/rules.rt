@@ -2,7 +2,8 @@
 ghost use Rattle.std.specs.Prelude.{◌≡◌, ◌++◌, ◌∷◌, [], IsTrue, OnErr, OnOk, length, take};
 ghost use Rattle.crs_value.specs.Checks.{IsAboveZero};
 ghost use Rattle.crs_value.specs.Sound.{IsText};
-ghost use Rattle.crs_rules.specs.Rules.{axes_in_any_order, no_rules, RulesParts, AreRules};
+ghost use Rattle.crs_rules.specs.Rules.{no_rules, RulesParts, AreRules};
+ghost use Rattle.crs_rules.specs.inner.AnyOrder.{axes_in_any_order};
 
 use crate::aliases::{Aliases, NameAlias, UnitAlias};
 use crate::file::member::Member;
