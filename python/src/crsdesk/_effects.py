@@ -1,0 +1,297 @@
+"""What is read must have counted: each number, name and word of a text that PROJ reads.
+
+WKT: PROJ writes its answer, the CRS in WKT2, once more in the form of the text. A part that stands there again, in the
+same node with the same value, has counted: the answer says it, once or twice. Each other part is altered alone, and the
+text is read again. Where the answer stays as it is, PROJ has passed the part over, and the text is refused with the part
+and its place; an altered text that PROJ doesn't read is another answer. So a text that PROJ or its like wrote needs one
+conversion more, one of another tool one for each part that it writes otherwise; and nothing here knows what PROJ passes
+over.
+
+- The answer is written again, not what PROJ holds: that has more than WKT2 says, as an ``EXTENSION``.
+- WKT1 is written as GDAL and as Esri write it, and either may have the part. So ``D_WGS_1984`` is as good as ``WGS_1984``.
+- Numbers are alike by the 15 digits that PROJ writes, and altered in the last of these that the text has. Words, codes and
+  names of parameters are alike whatever their case and quotes, other names letter by letter.
+- Parameters have no order, axes have. The name of a parameter has counted where its value has.
+- Identifiers of parts, which WKT2 leaves out, are looked for in what PROJ holds; those of a BOUNDCRS aren't.
+
+PROJ strings: each word but defaults is left out, and else altered. Words that say an ellipsoid may say the same one.
+"""
+
+from __future__ import annotations
+
+import re
+from dataclasses import dataclass, field
+from decimal import Decimal
+from typing import Callable, Dict, Iterable, Iterator, List, NamedTuple, Optional, Sequence, Set, Tuple
+
+from ._tree import Node, tree_of
+
+# What PROJ writes of a text in WKT2; None where its reading isn't taken.
+Answer = Callable[[str], Optional[str]]
+DIGITS = 15
+NUMBER = re.compile(r"[-+]?(?:\d+\.?\d*|\.\d+)(?:[eE][-+]?\d+)?", re.ASCII)
+TOKEN = re.compile(r'"(?:[^"]|"")*"|[\[\](),]|[^\s\[\](),"]+')
+WORD = re.compile(r'[^\s"]+')
+OPPOSITE = {"NORTH": "SOUTH", "SOUTH": "NORTH", "EAST": "WEST", "WEST": "EAST", "UP": "DOWN", "DOWN": "UP"}
+IDENTIFIERS = ("AUTHORITY", "ID")
+# How many parts of a text are altered.
+MOST_TRIED = 100
+MOST_SHOWN = 60
+# The keys of a PROJ string that says a CRS: PROJ passes others over.
+KEYS = frozenset(
+    (
+        "R R_A R_C R_V R_a R_g R_h R_lat_a R_lat_g M W a alpha axis azi b czech datum e ellps es f gamma geoid_crs geoidgrids h "
+        "ip k k_0 lat_0 lat_1 lat_2 lat_3 lat_b lat_t lat_ts lon_0 lon_1 lon_2 lon_3 lonc m n nadgrids no_cut no_defs no_off "
+        "no_rot no_uoff ns o_alpha o_lat_1 o_lat_2 o_lat_c o_lat_p o_lon_1 o_lon_2 o_lon_c o_lon_p o_proj over path pm proj q rf "
+        "s south sweep sym theta tilt title to_meter towgs84 type units vto_meter vunits wktext x_0 y_0 zone approx algo "
+        "lsat plat_0 plon_0 ph0_ nlat rlat lat_c lon_c"
+    ).split()
+)
+# What a PROJ string may say though it is so without.
+DEFAULTS = {
+    "type": ("crs",),
+    "no_defs": ("",),
+    "wktext": ("",),
+    "axis": ("enu",),
+    "units": ("m",),
+    "vunits": ("m",),
+    "to_meter": ("1",),
+    "vto_meter": ("1",),
+    "pm": ("greenwich", "0"),
+}
+ZERO = frozenset("x_0 y_0 z_0 lat_0 lon_0 lat_1 lat_2 lat_ts lonc alpha gamma h_0".split())
+ONE = frozenset(("k", "k_0"))
+# What says an ellipsoid, of which one may follow from others.
+SIZES = frozenset("a b rf f e es R ellps datum".split())
+NAMES_OF_SIZES = ("ellps", "datum")
+NOT_TRIED = ("proj", "title")
+
+
+class NotRead(ValueError):
+    """Why PROJ's reading of a text isn't taken, in one line: in its words where it has any."""
+
+
+class Leaf(NamedTuple):
+    """A number, name or word as it is written, its place in the text, and the keyword of its node."""
+
+    written: str
+    place: int
+    keyword: str
+
+
+class Told(NamedTuple):
+    """A text in which PROJ says its answer again; with ``identifiers`` those alone are taken of it."""
+
+    text: str
+    identifiers: bool = False
+
+
+@dataclass
+class Part:
+    """A node, with the place of its keyword."""
+
+    keyword: str
+    place: int
+    leaves: List[Leaf] = field(default_factory=list)
+    parts: List[Part] = field(default_factory=list)
+
+    @property
+    def key(self) -> Tuple[str, str]:
+        """By what its counterpart in another text is found."""
+        has_name = self.keyword == "PARAMETER" and self.leaves
+        return self.keyword, said(self.leaves[0].written).upper() if has_name else ""
+
+
+def check_parts(text: str, written: str, again: Iterable[Told], answer: Answer) -> None:
+    """NotRead where a part of a text in WKT has no effect. ``written`` is the answer, ``again`` what it is said again in,
+    of which no more is asked once all parts stand there."""
+    root = part_of(text)
+    if root is None:
+        raise NotRead("it isn't one node of WKT")
+    leaves = list(unsaid(root, None))
+    for told in again:
+        other = part_of(told.text)
+        missed = set(unsaid(root, other))
+        known = {said(it.written) for it in unsaid(other, None) if it.keyword in IDENTIFIERS} if other else ()
+        leaves = [
+            it for it in leaves if (said(it.written) not in known if it.keyword in IDENTIFIERS else told.identifiers or it in missed)
+        ]
+        if not leaves:
+            return
+    if len(leaves) > MOST_TRIED:
+        raise NotRead(f"PROJ would write {len(leaves):,} parts otherwise, too many to try each")
+    for leaf in leaves:
+        end = leaf.place + len(leaf.written)
+        if answer(f"{text[: leaf.place]}{another(leaf.written)}{text[end:]}") == written:
+            raise NotRead(without_effect(f"{leaf.written[:MOST_SHOWN]} in {leaf.keyword}", leaf.place))
+
+
+def without_effect(part: str, place: int) -> str:
+    return f"{part} at character {place} has no effect: PROJ would pass it over"
+
+
+def part_of(text: str) -> Optional[Part]:
+    """The root of a text in WKT; None where it isn't one node."""
+    waiting = [Part("", 0)]
+    for token in TOKEN.finditer(text):
+        found, place = token[0], token.start()
+        top = waiting[-1]
+        if found in "[(":
+            if not top.leaves:
+                return None
+            keyword = top.leaves.pop()
+            waiting.append(Part(keyword.written.upper(), keyword.place))
+        elif found in "])":
+            done = waiting.pop()
+            if not waiting:
+                return None
+            waiting[-1].parts.append(done)
+        elif found != ",":
+            top.leaves += [Leaf(*it, top.keyword) for it in words_of(top.keyword, found, place)]
+    roots = waiting[0].parts
+    return roots[0] if len(waiting) == len(roots) == 1 and not waiting[0].leaves else None
+
+
+def words_of(keyword: str, found: str, place: int) -> Iterator[Tuple[str, int]]:
+    """What a value of a node has, and where: itself, or the words of a PROJ string."""
+    if keyword == "EXTENSION":
+        yield from ((word[0], place + word.start()) for word in WORD.finditer(found))
+    else:
+        yield found, place
+
+
+def unsaid(part: Part, other: Optional[Part]) -> Iterator[Leaf]:
+    """The leaves of a node, and of those in it, that its counterpart in another text doesn't have."""
+    others = [said(it.written) for it in other.leaves] if other else []
+    first = 1 if part.keyword == "PARAMETER" else 0
+    for number, leaf in enumerate(part.leaves[first:], first):
+        # The words of a PROJ string have no order.
+        if said(leaf.written) not in (others if part.keyword == "EXTENSION" else others[number : number + 1]):
+            yield leaf
+    counterparts: Dict[Tuple[str, str], List[Part]] = {}
+    for it in other.parts if other else ():
+        counterparts.setdefault(it.key, []).append(it)
+    counts: Dict[Tuple[str, str], int] = {}
+    for it in part.parts:
+        counts[it.key] = counts.get(it.key, 0) + 1
+        # One that is there twice has the last counterpart again.
+        yield from unsaid(it, next(iter(counterparts.get(it.key, [])[: counts[it.key]][-1:]), None))
+
+
+def said(written: str) -> str:
+    """A value in one spelling: a number by 15 digits, a word in capitals, a name or code without its quotes."""
+    if written.startswith('"'):
+        return written[1:-1].replace('""', '"')
+    key, equals, value = written.rpartition("=")
+    return f"{key}{equals}{rounded(value)}".upper()
+
+
+def rounded(number: str) -> str:
+    """A number by 15 digits; what is none as it is."""
+    return f"{float(number):.{DIGITS}g}" if NUMBER.fullmatch(number) else number
+
+
+def another(written: str) -> str:
+    """Another value: the next number, the opposite direction, a name or word that is a letter longer."""
+    if written.startswith('"'):
+        return f'{written[:-1]}x"'
+    key, equals, value = written.rpartition("=")
+    if not NUMBER.fullmatch(value):
+        return OPPOSITE.get(written.upper(), f"{written}x")
+    number = Decimal(value)
+    exponent = int(number.as_tuple().exponent)
+    last = Decimal(1).scaleb(max(exponent, number.adjusted() - DIGITS + 1) if number else -1)
+    return f"{key}{equals}{number.quantize(last) + last:f}"
+
+
+# PROJ strings.
+
+
+def checked_string(text: str) -> str:
+    """A PROJ string that says a CRS. NotRead where it has a key that PROJ passes over: an unknown one, one again."""
+    keys: Set[str] = set()
+    for word in text.split():
+        key = key_of(word)
+        if key not in KEYS:
+            raise NotRead(f"+{key} isn't known: PROJ would pass it over")
+        if key in keys:
+            raise NotRead(f"+{key} is there twice: PROJ would take one of them")
+        keys.add(key)
+    return text if "type" in keys else f"{text} +type=crs"
+
+
+def key_of(word: str) -> str:
+    return word.lstrip("+").partition("=")[0]
+
+
+def check_words(text: str, written: str, answer: Answer) -> None:
+    """NotRead where a PROJ string has a word, no default, without which and with another value of which it says the same
+    CRS: PROJ passes over those that a projection doesn't have."""
+    words = text.split()
+    whole = without_remark(written)
+
+    def told(words: Sequence[str]) -> Optional[Node]:
+        try:
+            found = answer(checked_string(" ".join(words)))
+        except NotRead:
+            return None
+        return without_remark(found) if found else None
+
+    def has_effect(number: int, word: str) -> bool:
+        before, after = words[:number], words[number + 1 :]
+        # Where another word says the same, as +lat_1 does with +lat_0, another value still makes a difference.
+        return told(before + after) != whole or "=" in word and told([*before, another(word), *after]) != whole
+
+    of_size = [it for it in words if key_of(it) in SIZES]
+    for number, found in enumerate(re.finditer(r"\S+", text)):
+        word = found[0]
+        if word in of_size:
+            counts = len(of_size) == 1 or has_own_size(word, of_size, words, whole, told)
+        else:
+            counts = key_of(word) in NOT_TRIED or is_default(word) or has_effect(number, word)
+        if not counts:
+            raise NotRead(without_effect(word, found.start()))
+
+
+def has_own_size(
+    word: str, of_size: List[str], words: List[str], whole: Node, told: Callable[[Sequence[str]], Optional[Node]]
+) -> bool:
+    """Whether one of the words that say an ellipsoid says that of the CRS: a name alone, a number alone or with another of
+    them, so that another number says another one."""
+    others = [it for it in of_size if it != word]
+    wanted = sizes_of(whole)
+
+    def size_with(given: Sequence[str], instead: str) -> object:
+        found = told([instead if it == word else it for it in words if it in given or it not in of_size])
+        return found and sizes_of(found)
+
+    if key_of(word) in NAMES_OF_SIZES:
+        return size_with([word], word) == wanted
+    return any(
+        size_with([word, *other], word) == wanted != size_with([word, *other], another(word))
+        for other in ([], *([it] for it in others))
+    )
+
+
+def sizes_of(whole: Node) -> List[List[str]]:
+    """The numbers of a CRS's ellipsoids."""
+    return [it.values[1:] for it in whole.all() if it.keyword == "ELLIPSOID"]
+
+
+def without_remark(written: str) -> Node:
+    """A text without the remark in which PROJ keeps a string that it doesn't read in full."""
+    try:
+        whole = tree_of(written)
+    except (IndexError, ValueError):
+        raise NotRead("PROJ writes no well-formed text of it") from None
+    for node in whole.all():
+        node.items = [it for it in node.items if isinstance(it, str) or it.keyword != "REMARK"]
+    return whole
+
+
+def is_default(word: str) -> bool:
+    """Whether a word of a PROJ string says what is so without it."""
+    key, _, value = word.lstrip("+").partition("=")
+    if value in DEFAULTS.get(key, ()):
+        return True
+    return key in ZERO and rounded(value).lstrip("-") == "0" or key in ONE and rounded(value) == "1"
