@@ -12,7 +12,7 @@ over.
 - Numbers are alike by the 15 digits that PROJ writes, and altered in the last of these that the text has. Words, codes and
   names of parameters are alike whatever their case and quotes, other names letter by letter.
 - Parameters have no order, axes have. The name of a parameter has counted where its value has.
-- Identifiers of parts, which WKT2 leaves out, are looked for in what PROJ holds; those of a BOUNDCRS aren't.
+- Identifiers of parts aren't tried: WKT2 leaves most of them out.
 
 PROJ strings: each word but defaults is left out, and else altered. Words that say an ellipsoid may say the same one.
 """
@@ -33,7 +33,9 @@ NUMBER = re.compile(r"[-+]?(?:\d+\.?\d*|\.\d+)(?:[eE][-+]?\d+)?", re.ASCII)
 TOKEN = re.compile(r'"(?:[^"]|"")*"|[\[\](),]|[^\s\[\](),"]+')
 WORD = re.compile(r'[^\s"]+')
 OPPOSITE = {"NORTH": "SOUTH", "SOUTH": "NORTH", "EAST": "WEST", "WEST": "EAST", "UP": "DOWN", "DOWN": "UP"}
+# Those of the whole, which are as deep as this, count.
 IDENTIFIERS = ("AUTHORITY", "ID")
+DEPTH_OF_IDENTIFIERS = 3
 # How many parts of a text are altered.
 MOST_TRIED = 100
 MOST_SHOWN = 60
@@ -72,18 +74,12 @@ class NotRead(ValueError):
 
 
 class Leaf(NamedTuple):
-    """A number, name or word as it is written, its place in the text, and the keyword of its node."""
+    """A number, name or word as it is written, its place in the text, and keyword and name of its node."""
 
     written: str
     place: int
     keyword: str
-
-
-class Told(NamedTuple):
-    """A text in which PROJ says its answer again; with ``identifiers`` those alone are taken of it."""
-
-    text: str
-    identifiers: bool = False
+    name: str = ""
 
 
 @dataclass
@@ -102,20 +98,16 @@ class Part:
         return self.keyword, said(self.leaves[0].written).upper() if has_name else ""
 
 
-def check_parts(text: str, written: str, again: Iterable[Told], answer: Answer) -> None:
+def check_parts(text: str, written: str, again: Iterable[str], answer: Answer) -> None:
     """NotRead where a part of a text in WKT has no effect. ``written`` is the answer, ``again`` what it is said again in,
     of which no more is asked once all parts stand there."""
     root = part_of(text)
     if root is None:
-        raise NotRead("it isn't one node of WKT")
+        raise NotRead("it has more than nodes of WKT")
     leaves = list(unsaid(root, None))
     for told in again:
-        other = part_of(told.text)
-        missed = set(unsaid(root, other))
-        known = {said(it.written) for it in unsaid(other, None) if it.keyword in IDENTIFIERS} if other else ()
-        leaves = [
-            it for it in leaves if (said(it.written) not in known if it.keyword in IDENTIFIERS else told.identifiers or it in missed)
-        ]
+        missed = set(unsaid(root, part_of(told)))
+        leaves = [it for it in leaves if it in missed]
         if not leaves:
             return
     if len(leaves) > MOST_TRIED:
@@ -123,7 +115,8 @@ def check_parts(text: str, written: str, again: Iterable[Told], answer: Answer) 
     for leaf in leaves:
         end = leaf.place + len(leaf.written)
         if answer(f"{text[: leaf.place]}{another(leaf.written)}{text[end:]}") == written:
-            raise NotRead(without_effect(f"{leaf.written[:MOST_SHOWN]} in {leaf.keyword}", leaf.place))
+            node = f"{leaf.keyword} {leaf.name}" if leaf.name else leaf.keyword
+            raise NotRead(without_effect(f"{leaf.written[:MOST_SHOWN]} in {node[:MOST_SHOWN]}", leaf.place))
 
 
 def without_effect(part: str, place: int) -> str:
@@ -131,7 +124,7 @@ def without_effect(part: str, place: int) -> str:
 
 
 def part_of(text: str) -> Optional[Part]:
-    """The root of a text in WKT; None where it isn't one node."""
+    """A node of a text's nodes, of which Esri's WKT1 may have two; None where there are others than nodes."""
     waiting = [Part("", 0)]
     for token in TOKEN.finditer(text):
         found, place = token[0], token.start()
@@ -146,10 +139,10 @@ def part_of(text: str) -> Optional[Part]:
             if not waiting:
                 return None
             waiting[-1].parts.append(done)
-        elif found != ",":
-            top.leaves += [Leaf(*it, top.keyword) for it in words_of(top.keyword, found, place)]
-    roots = waiting[0].parts
-    return roots[0] if len(waiting) == len(roots) == 1 and not waiting[0].leaves else None
+        elif found != "," and (top.keyword not in IDENTIFIERS or len(waiting) <= DEPTH_OF_IDENTIFIERS):
+            name = top.leaves[0].written if top.leaves else ""
+            top.leaves += [Leaf(*it, top.keyword, name) for it in words_of(top.keyword, found, place)]
+    return waiting[0] if len(waiting) == 1 and not waiting[0].leaves else None
 
 
 def words_of(keyword: str, found: str, place: int) -> Iterator[Tuple[str, int]]:
@@ -162,11 +155,13 @@ def words_of(keyword: str, found: str, place: int) -> Iterator[Tuple[str, int]]:
 
 def unsaid(part: Part, other: Optional[Part]) -> Iterator[Leaf]:
     """The leaves of a node, and of those in it, that its counterpart in another text doesn't have."""
-    others = [said(it.written) for it in other.leaves] if other else []
     first = 1 if part.keyword == "PARAMETER" else 0
+    # PROJ computes the longitude of a meridian in degrees from that in grads.
+    digits = DIGITS - (part.keyword == "PRIMEM")
+    others = [said(it.written, digits) for it in other.leaves] if other else []
     for number, leaf in enumerate(part.leaves[first:], first):
         # The words of a PROJ string have no order.
-        if said(leaf.written) not in (others if part.keyword == "EXTENSION" else others[number : number + 1]):
+        if said(leaf.written, digits) not in (others if part.keyword == "EXTENSION" else others[number : number + 1]):
             yield leaf
     counterparts: Dict[Tuple[str, str], List[Part]] = {}
     for it in other.parts if other else ():
@@ -178,17 +173,17 @@ def unsaid(part: Part, other: Optional[Part]) -> Iterator[Leaf]:
         yield from unsaid(it, next(iter(counterparts.get(it.key, [])[: counts[it.key]][-1:]), None))
 
 
-def said(written: str) -> str:
-    """A value in one spelling: a number by 15 digits, a word in capitals, a name or code without its quotes."""
+def said(written: str, digits: int = DIGITS) -> str:
+    """A value in one spelling: a number by its digits, a word in capitals, a name or code without its quotes."""
     if written.startswith('"'):
         return written[1:-1].replace('""', '"')
     key, equals, value = written.rpartition("=")
-    return f"{key}{equals}{rounded(value)}".upper()
+    return f"{key}{equals}{rounded(value, digits)}".upper()
 
 
-def rounded(number: str) -> str:
-    """A number by 15 digits; what is none as it is."""
-    return f"{float(number):.{DIGITS}g}" if NUMBER.fullmatch(number) else number
+def rounded(number: str, digits: int = DIGITS) -> str:
+    """A number by its digits; what is none as it is."""
+    return f"{float(number):.{digits}g}" if NUMBER.fullmatch(number) else number
 
 
 def another(written: str) -> str:

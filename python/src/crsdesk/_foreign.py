@@ -17,7 +17,7 @@ import os
 import re
 from typing import Any, Callable, Dict, Generator, Iterator, List, NamedTuple, NoReturn, Optional, Sequence, Tuple, Union
 
-from ._effects import NotRead, Told, check_parts, check_words, checked_string
+from ._effects import NotRead, check_parts, check_words, checked_string
 
 # The bound of the program `crsdesk` too.
 MOST_BYTES = 1_048_576
@@ -42,6 +42,7 @@ QUOTED = re.compile(r'"[^"]*"')
 # What opens and closes, an open quote, and what is in no text outside quotes.
 DELIMITER = re.compile(r'"[^"]*"|[\[\]()"]|[^\x00-\x7f]')
 CLOSING = {"[": "]", "(": ")"}
+VERTICAL = re.compile(r"\s*,\s*VERTCS\s*[\[(]", re.IGNORECASE)
 UNITS = {"metre": 1.0, "degree": 0.0174532925199433, "unity": 1.0}
 WKT2_2019, WKT1_GDAL, WKT1_ESRI = 2, 4, 5
 ERRORS_ALONE = 1
@@ -203,9 +204,10 @@ def joined(node: str, parts: List[str]) -> str:
 
 
 def check_delimiters(text: str) -> None:
-    """NotRead where a text isn't one node, closed as it is opened: PROJ takes ``)`` for ``]``, and some more after the
-    end."""
+    """NotRead where a text isn't one node, or Esri's two of a compound CRS, closed as they are opened: PROJ takes ``)`` for
+    ``]``, and some more after the end."""
     closing: List[str] = []
+    is_second = False
     for match in DELIMITER.finditer(text):
         token = match[0]
         if token in CLOSING:
@@ -215,7 +217,9 @@ def check_delimiters(text: str) -> None:
                 raise NotRead(f"{token!r} is at character {match.start()}, where nothing closes so")
             closing.pop()
             if not closing and match.end() < len(text):
-                raise NotRead(f"more follows at character {match.end()}")
+                if is_second or not VERTICAL.match(text, match.end()):
+                    raise NotRead(f"more follows at character {match.end()}")
+                is_second = True
 
 
 def parsed_json(text: str) -> Any:
@@ -397,21 +401,17 @@ class Reading(NamedTuple):
             self.context.refuse()
         return str(found.decode())
 
-    def again(self) -> Generator[Told, None, None]:
-        """What is written, in the form of the text; of WKT1 first as GDAL writes it. A form that PROJ can't write is none."""
-        yield Told(self.written, identifiers=self.form == WKT1)
-        for form in (WKT1_GDAL, WKT1_ESRI) if self.form == WKT1 else ():
-            with self.proj.made(self.context, self.written, True) as crs:
-                yield Told(self.told(crs, form))
-            if form == WKT1_GDAL:
-                yield Told(self.told(self.crs, form), identifiers=True)
-
-    def told(self, crs: Any, form: int) -> str:
-        self.context.said.clear()
-        try:
-            return self.proj.written(self.context, crs, form) if crs else ""
-        except NotRead:
-            return ""
+    def again(self) -> Generator[str, None, None]:
+        """What is written, again in the form of the text; WKT1 as GDAL writes it, and as Esri does. Nothing for one in which
+        PROJ can't write it."""
+        if self.form == BOUND:
+            yield self.written
+            return
+        with self.proj.made(self.context, self.written, True) as crs:
+            for form in (WKT1_GDAL, WKT1_ESRI) if crs else ():
+                self.context.said.clear()
+                with contextlib.suppress(NotRead):
+                    yield self.proj.written(self.context, crs, form)
 
 
 def texts_of(words: Sequence[str]) -> Any:
