@@ -12,7 +12,8 @@ over.
 - Numbers are alike by the 15 digits that PROJ writes, and altered in the last of these that the text has. Words, codes and
   names of parameters are alike whatever their case and quotes, other names letter by letter.
 - Parameters have no order, axes have. The name of a parameter has counted where its value has.
-- Identifiers of parts aren't tried: WKT2 leaves most of them out.
+- A datum may have two names of one: the identifier beside it says the other. A scale factor of 1 may have no effect.
+- WKT2 has no place for identifiers of most parts and for axes of a base CRS. They aren't tried.
 
 PROJ strings: each word but defaults is left out, and else altered. Words that say an ellipsoid may say the same one.
 """
@@ -33,9 +34,8 @@ NUMBER = re.compile(r"[-+]?(?:\d+\.?\d*|\.\d+)(?:[eE][-+]?\d+)?", re.ASCII)
 TOKEN = re.compile(r'"(?:[^"]|"")*"|[\[\](),]|[^\s\[\](),"]+')
 WORD = re.compile(r'[^\s"]+')
 OPPOSITE = {"NORTH": "SOUTH", "SOUTH": "NORTH", "EAST": "WEST", "WEST": "EAST", "UP": "DOWN", "DOWN": "UP"}
-# Those of the whole, which are as deep as this, count.
 IDENTIFIERS = ("AUTHORITY", "ID")
-DEPTH_OF_IDENTIFIERS = 3
+NAMED = ("DATUM", "VDATUM", "VERT_DATUM", "ENSEMBLE", "PROJECTION", "METHOD")
 # How many parts of a text are altered.
 MOST_TRIED = 100
 MOST_SHOWN = 60
@@ -84,12 +84,19 @@ class Leaf(NamedTuple):
 
 @dataclass
 class Part:
-    """A node, with the place of its keyword."""
+    """A node, where its keyword begins and where it ends."""
 
     keyword: str
     place: int
+    end: int = 0
     leaves: List[Leaf] = field(default_factory=list)
     parts: List[Part] = field(default_factory=list)
+
+    def all(self) -> Iterator[Part]:
+        """It, and all nodes in it."""
+        yield self
+        for part in self.parts:
+            yield from part.all()
 
     @property
     def key(self) -> Tuple[str, str]:
@@ -99,12 +106,13 @@ class Part:
 
 
 def check_parts(text: str, written: str, again: Iterable[str], answer: Answer) -> None:
-    """NotRead where a part of a text in WKT has no effect. ``written`` is the answer, ``again`` what it is said again in,
+    """NotRead where a part of a text in WKT has no effect. ``written`` is the answer, ``again`` what it is written in again,
     of which no more is asked once all parts stand there."""
     root = part_of(text)
     if root is None:
         raise NotRead("it has more than nodes of WKT")
-    leaves = list(unsaid(root, None))
+    names = names_in(written)
+    leaves = [it for it in unsaid(root, None) if it.keyword not in NAMED or said(it.written) not in names]
     for told in again:
         missed = set(unsaid(root, part_of(told)))
         leaves = [it for it in leaves if it in missed]
@@ -112,11 +120,35 @@ def check_parts(text: str, written: str, again: Iterable[str], answer: Answer) -
             return
     if len(leaves) > MOST_TRIED:
         raise NotRead(f"PROJ would write {len(leaves):,} parts otherwise, too many to try each")
-    for leaf in leaves:
+
+    def has_effect(text: str, leaf: Leaf) -> bool:
         end = leaf.place + len(leaf.written)
-        if answer(f"{text[: leaf.place]}{another(leaf.written)}{text[end:]}") == written:
-            node = f"{leaf.keyword} {leaf.name}" if leaf.name else leaf.keyword
-            raise NotRead(without_effect(f"{leaf.written[:MOST_SHOWN]} in {node[:MOST_SHOWN]}", leaf.place))
+        return answer(f"{text[: leaf.place]}{another(leaf.written)}{text[end:]}") != written
+
+    for leaf in leaves:
+        node, beside = next((it, above.parts) for above in root.all() for it in above.parts if leaf in it.leaves)
+        if has_effect(text, leaf) or is_neutral(node, beside):
+            continue
+        for it in node.parts:
+            if it.keyword in IDENTIFIERS:
+                shorter = f"{text[: it.place].rstrip().rstrip(',')}{text[it.end :]}"
+                if answer(shorter) == written and has_effect(shorter, leaf):
+                    break
+        else:
+            named = f"{leaf.keyword} {leaf.name}" if leaf.name else leaf.keyword
+            raise NotRead(without_effect(f"{leaf.written[:MOST_SHOWN]} in {named[:MOST_SHOWN]}", leaf.place))
+
+
+def names_in(written: str) -> Set[str]:
+    """The names of datums and methods in a text in WKT2, some of which no form of WKT1 has."""
+    root = part_of(written)
+    return {said(it.leaves[0].written) for it in root.all() if it.keyword in NAMED} if root else set()
+
+
+def is_neutral(node: Part, beside: Sequence[Part]) -> bool:
+    """Whether a node is the one scale factor of a method, and is 1."""
+    is_factor = node.key == ("PARAMETER", "SCALE_FACTOR") and said(node.leaves[-1].written) == "1"
+    return is_factor and sum(it.key == node.key for it in beside) == 1
 
 
 def without_effect(part: str, place: int) -> str:
@@ -138,11 +170,20 @@ def part_of(text: str) -> Optional[Part]:
             done = waiting.pop()
             if not waiting:
                 return None
+            done.end = token.end()
             waiting[-1].parts.append(done)
-        elif found != "," and (top.keyword not in IDENTIFIERS or len(waiting) <= DEPTH_OF_IDENTIFIERS):
+        elif found != "," and not is_left_out([it.keyword for it in waiting[1:]]):
             name = top.leaves[0].written if top.leaves else ""
             top.leaves += [Leaf(*it, top.keyword, name) for it in words_of(top.keyword, found, place)]
     return waiting[0] if len(waiting) == 1 and not waiting[0].leaves else None
+
+
+def is_left_out(keywords: Sequence[str]) -> bool:
+    """Whether WKT2 has no place for a node, by the keywords of those that it is in: for an identifier of a part, for an axis
+    of a base CRS."""
+    if keywords[-1:] == ["AXIS"]:
+        return keywords[-3:-2] == ["PROJCS"]
+    return len(keywords) > 2 and keywords[-1] in IDENTIFIERS
 
 
 def words_of(keyword: str, found: str, place: int) -> Iterator[Tuple[str, int]]:

@@ -94,9 +94,10 @@ def is_foreign(text: bytes) -> bool:
 def read(text: Union[str, bytes]) -> Foreign:
     """What PROJ reads of a text whose form it has. ``NotRead`` where it warns or repairs, or isn't there."""
     try:
-        text = (text.decode() if isinstance(text, bytes) else text).strip()
+        given = (text.decode() if isinstance(text, bytes) else text).rstrip()
     except UnicodeDecodeError:
         raise NotRead("the text isn't UTF-8") from None
+    text = given.lstrip()
     form = form_of(text)
     if form is None:
         raise NotRead("PROJ isn't asked for a text of this form")
@@ -106,9 +107,9 @@ def read(text: Union[str, bytes]) -> Foreign:
     if proj is None:
         raise NotRead("it isn't there; osgeo (GDAL's Python) and pyproj have it")
     if form in (WKT1, BOUND):
-        check_delimiters(text)
+        check_delimiters(given)
     # JSON is parsed here first: how deep it may be is bounded.
-    given = parsed_json(text) if form == JSON else None
+    members = parsed_json(text) if form == JSON else None
 
     def answer(altered: str) -> Optional[str]:
         with contextlib.suppress(NotRead), proj.reading(altered, form) as found:
@@ -118,12 +119,12 @@ def read(text: Union[str, bytes]) -> Foreign:
     with proj.reading(checked_string(text) if form == STRING else text, form) as reading:
         if form in (WKT1, BOUND):
             with contextlib.closing(reading.again()) as again:
-                check_parts(text, reading.written, again, answer)
+                check_parts(given, reading.written, again, answer)
         if form == JSON:
-            for path in lost(given, json.loads(reading.as_json()), ""):
+            for path in lost(members, json.loads(reading.as_json()), ""):
                 raise NotRead(f"PROJ would pass {path} over, or change it")
     if form == STRING:
-        check_words(text, reading.written, answer)
+        check_words(given, reading.written, answer)
     plain, bound = unbound(reading.written)
     if bound:
         # PROJ names the axes of a target otherwise once it has read its own text. So one transformation has one text.
