@@ -33,4 +33,7 @@ __all__ = [
     "differences",
     "same",
 ]
+# Tracebacks and help have the names that are imported.
+for _public in (Catalogue, Crs, Difference, Group, Refused, Rules, RulesRefused):
+    _public.__module__ = __name__
 __version__ = version()

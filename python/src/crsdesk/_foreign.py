@@ -85,18 +85,15 @@ def form_of(text: str) -> Optional[str]:
 
 def is_foreign(text: bytes) -> bool:
     """Whether PROJ is asked for a text."""
-    try:
-        return form_of(text.decode()) is not None
-    except UnicodeDecodeError:
-        return False
+    return form_of(text.decode("utf-8", "replace")) is not None
 
 
 def read(text: Union[str, bytes]) -> Foreign:
     """What PROJ reads of a text whose form it has. ``NotRead`` where it warns or repairs, or isn't there."""
     try:
         given = (text.decode() if isinstance(text, bytes) else text).rstrip()
-    except UnicodeDecodeError:
-        raise NotRead("the text isn't UTF-8") from None
+    except UnicodeDecodeError as error:
+        raise NotRead(f"byte {error.object[error.start]:#04x} at {error.start} isn't UTF-8") from None
     text = given.lstrip()
     form = form_of(text)
     if form is None:
