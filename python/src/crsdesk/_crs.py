@@ -428,8 +428,10 @@ class Crs:
     def __eq__(self, other: object) -> bool:
         if isinstance(other, Crs):
             return self._full == other._full and self._rules == other._rules
-        # Another package's CRS, which has its own comparison and hash, is none: it isn't asked.
-        return False if hasattr(other, "to_wkt") or hasattr(other, "ExportToWkt") else NotImplemented
+        if hasattr(other, "to_wkt") or hasattr(other, "ExportToWkt"):
+            # Another package's CRS has its own hash, and would compare a Crs as one of its own.
+            return False
+        return NotImplemented
 
     def __hash__(self) -> int:
         return hash(self._full)

@@ -305,7 +305,7 @@ def has_own_size(
         return size_with([word], word) == wanted
     return any(
         size_with([word, *other], word) == wanted != size_with([word, *other], another(word))
-        for other in ([], *([it] for it in others))
+        for other in [[], *[[it] for it in others]]
     )
 
 

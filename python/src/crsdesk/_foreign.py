@@ -15,9 +15,22 @@ import importlib
 import json
 import os
 import re
-from typing import Any, Callable, Dict, Generator, Iterator, List, NamedTuple, NoReturn, Optional, Sequence, Tuple, Union
+from typing import (
+    Any,
+    Callable,
+    Dict,
+    Generator,
+    Iterator,
+    List,
+    NamedTuple,
+    NoReturn,
+    Optional,
+    Sequence,
+    Tuple,
+    Union,
+)
 
-from ._effects import NotRead, check_parts, check_words, checked_string
+from ._effects import NotRead as NotRead, check_parts, check_words, checked_string
 
 # The bound of the program `crsdesk` too.
 MOST_BYTES = 1_048_576
@@ -107,12 +120,7 @@ def read(text: Union[str, bytes]) -> Foreign:
         check_delimiters(given)
     # JSON is parsed here first: how deep it may be is bounded.
     members = parsed_json(text) if form == JSON else None
-
-    def answer(altered: str) -> Optional[str]:
-        with contextlib.suppress(NotRead), proj.reading(altered, form) as found:
-            return found.written
-        return None
-
+    answer = functools.partial(proj.answer, form)
     with proj.reading(checked_string(text) if form == STRING else text, form) as reading:
         if form in (WKT1, BOUND):
             with contextlib.closing(reading.again()) as again:
@@ -352,6 +360,12 @@ class Proj:
             if not self.calls["proj_is_crs"](crs):
                 raise NotRead("PROJ reads it, but as no CRS")
             yield Reading(self, context, crs, form, self.written(context, crs, WKT2_2019))
+
+    def answer(self, form: str, text: str) -> Optional[str]:
+        """What PROJ writes of a text; None where its reading isn't taken."""
+        with contextlib.suppress(NotRead), self.reading(text, form) as found:
+            return found.written
+        return None
 
     def written(self, context: Context, crs: Any, form: int) -> str:
         """A CRS in a form of WKT; NotRead where PROJ says anything."""
