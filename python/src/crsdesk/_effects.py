@@ -1,6 +1,6 @@
 """What is read must have counted: each number, name and word of a text that PROJ reads.
 
-WKT: PROJ writes its answer, the CRS in WKT2, once more in the form of the text. A part that stands there again, in the
+WKT1: PROJ writes its answer, the CRS in WKT2, once more in the form of the text. A part that stands there again, in the
 same node with the same value, has counted: the answer says it, once or twice. Each other part is altered alone, and the
 text is read again. Where the answer stays as it is, PROJ has passed the part over, and the text is refused with the part
 and its place; an altered text that PROJ doesn't read is another answer. So a text that PROJ or its like wrote needs one
@@ -16,10 +16,12 @@ over.
 - WKT2 has no place for identifiers of most parts and for axes of a base CRS. They aren't tried.
 
 PROJ strings: each word but defaults is left out, and else altered. Words that say an ellipsoid may say the same one.
+BOUNDCRS: the numbers that aren't in the answer are altered. PROJ has names of its own for what it takes for WGS 84.
 """
 
 from __future__ import annotations
 
+import math
 import re
 from dataclasses import dataclass, field
 from decimal import Decimal
@@ -39,6 +41,8 @@ NAMED = ("DATUM", "VDATUM", "VERT_DATUM", "ENSEMBLE", "PROJECTION", "METHOD")
 # How many parts of a text are altered.
 MOST_TRIED = 100
 MOST_SHOWN = 60
+# Numbers beyond these are in no text that says a CRS.
+MOST_EXPONENT = 99
 # The keys of a PROJ string that says a CRS: PROJ passes others over.
 KEYS = frozenset(
     (
@@ -106,18 +110,28 @@ class Part:
 
 
 def check_parts(text: str, written: str, again: Iterable[str], answer: Answer) -> None:
-    """NotRead where a part of a text in WKT has no effect. ``written`` is the answer, ``again`` what it is written in again,
-    of which no more is asked once all parts stand there."""
-    root = part_of(text)
-    if root is None:
-        raise NotRead("it has more than nodes of WKT")
-    names = names_in(written)
+    """NotRead where a part of a text in WKT1 has no effect. ``written`` is the answer, ``again`` what it is written in
+    again, of which no more is asked once all parts stand there."""
+    root, names = nodes_of(text), names_in(written)
     leaves = [it for it in unsaid(root, None) if it.keyword not in NAMED or said(it.written) not in names]
     for told in again:
         missed = set(unsaid(root, part_of(told)))
         leaves = [it for it in leaves if it in missed]
         if not leaves:
             return
+    check_each(text, root, leaves, written, answer)
+
+
+def check_numbers(text: str, written: str, answer: Answer) -> None:
+    """NotRead where a number of a text in WKT2 has no effect, and isn't in the answer."""
+    root, other = nodes_of(text), part_of(written)
+    known = {said(it.written) for it in unsaid(other, None)} if other else set()
+    numbers = [it for it in unsaid(root, None) if NUMBER.fullmatch(it.written) and said(it.written) not in known]
+    check_each(text, root, numbers, written, answer)
+
+
+def check_each(text: str, root: Part, leaves: Sequence[Leaf], written: str, answer: Answer) -> None:
+    """NotRead where one of the leaves of a text has no effect."""
     if len(leaves) > MOST_TRIED:
         raise NotRead(f"PROJ would write {len(leaves):,} parts otherwise, too many to try each")
 
@@ -137,6 +151,14 @@ def check_parts(text: str, written: str, again: Iterable[str], answer: Answer) -
         else:
             named = f"{leaf.keyword} {leaf.name}" if leaf.name else leaf.keyword
             raise NotRead(without_effect(f"{leaf.written[:MOST_SHOWN]} in {named[:MOST_SHOWN]}", leaf.place))
+
+
+def nodes_of(text: str) -> Part:
+    """The nodes of a text; NotRead where it has others than nodes."""
+    root = part_of(text)
+    if root is None:
+        raise NotRead("it has more than nodes of WKT")
+    return root
 
 
 def names_in(written: str) -> Set[str]:
@@ -209,9 +231,10 @@ def unsaid(part: Part, other: Optional[Part]) -> Iterator[Leaf]:
         counterparts.setdefault(it.key, []).append(it)
     counts: Dict[Tuple[str, str], int] = {}
     for it in part.parts:
-        counts[it.key] = counts.get(it.key, 0) + 1
+        mates, number = counterparts.get(it.key), counts.get(it.key, 0)
+        counts[it.key] = number + 1
         # One that is there twice has the last counterpart again.
-        yield from unsaid(it, next(iter(counterparts.get(it.key, [])[: counts[it.key]][-1:]), None))
+        yield from unsaid(it, mates[min(number, len(mates) - 1)] if mates else None)
 
 
 def said(written: str, digits: int = DIGITS) -> str:
@@ -234,9 +257,10 @@ def another(written: str) -> str:
     key, equals, value = written.rpartition("=")
     if not NUMBER.fullmatch(value):
         return OPPOSITE.get(written.upper(), f"{written}x")
+    if not -MOST_EXPONENT < math.log10(abs(float(value)) or 1) < MOST_EXPONENT or not float(value):
+        return f"{key}{equals}0.1"
     number = Decimal(value)
-    exponent = int(number.as_tuple().exponent)
-    last = Decimal(1).scaleb(max(exponent, number.adjusted() - DIGITS + 1) if number else -1)
+    last = Decimal(1).scaleb(max(int(number.as_tuple().exponent), number.adjusted() - DIGITS + 1))
     return f"{key}{equals}{number.quantize(last) + last:f}"
 
 
@@ -303,10 +327,8 @@ def has_own_size(
 
     if key_of(word) in NAMES_OF_SIZES:
         return size_with([word], word) == wanted
-    return any(
-        size_with([word, *other], word) == wanted != size_with([word, *other], another(word))
-        for other in [[], *[[it] for it in others]]
-    )
+    pairs = [[word]] + [[word, it] for it in others]
+    return any(size_with(it, word) == wanted != size_with(it, another(word)) for it in pairs)
 
 
 def sizes_of(whole: Node) -> List[List[str]]:

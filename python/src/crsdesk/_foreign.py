@@ -30,7 +30,7 @@ from typing import (
     Union,
 )
 
-from ._effects import NotRead as NotRead, check_parts, check_words, checked_string
+from ._effects import NotRead as NotRead, check_numbers, check_parts, check_words, checked_string
 
 # The bound of the program `crsdesk` too.
 MOST_BYTES = 1_048_576
@@ -122,9 +122,11 @@ def read(text: Union[str, bytes]) -> Foreign:
     members = parsed_json(text) if form == JSON else None
     answer = functools.partial(proj.answer, form)
     with proj.reading(checked_string(text) if form == STRING else text, form) as reading:
-        if form in (WKT1, BOUND):
+        if form == WKT1:
             with contextlib.closing(reading.again()) as again:
                 check_parts(given, reading.written, again, answer)
+        elif form == BOUND:
+            check_numbers(given, reading.written, answer)
         if form == JSON:
             for path in lost(members, json.loads(reading.as_json()), ""):
                 raise NotRead(f"PROJ would pass {path} over, or change it")
@@ -359,7 +361,7 @@ class Proj:
                 context.refuse()
             if not self.calls["proj_is_crs"](crs):
                 raise NotRead("PROJ reads it, but as no CRS")
-            yield Reading(self, context, crs, form, self.written(context, crs, WKT2_2019))
+            yield Reading(self, context, crs, self.written(context, crs, WKT2_2019))
 
     def answer(self, form: str, text: str) -> Optional[str]:
         """What PROJ writes of a text; None where its reading isn't taken."""
@@ -403,7 +405,6 @@ class Reading(NamedTuple):
     proj: Proj
     context: Context
     crs: Any
-    form: str
     written: str
 
     def as_json(self) -> str:
@@ -414,11 +415,7 @@ class Reading(NamedTuple):
         return str(found.decode())
 
     def again(self) -> Generator[str, None, None]:
-        """What is written, again in the form of the text; WKT1 as GDAL writes it, and as Esri does. Nothing for one in which
-        PROJ can't write it."""
-        if self.form == BOUND:
-            yield self.written
-            return
+        """What is written, in WKT1 as GDAL writes it, and as Esri does; nothing for one in which PROJ can't write it."""
         with self.proj.made(self.context, self.written, True) as crs:
             for form in (WKT1_GDAL, WKT1_ESRI) if crs else ():
                 self.context.said.clear()
