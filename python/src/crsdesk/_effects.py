@@ -9,8 +9,9 @@ over.
 
 - The answer is written again, not what PROJ holds: that has more than WKT2 says, as an ``EXTENSION``.
 - WKT1 is written as GDAL and as Esri write it, and either may have the part. So ``D_WGS_1984`` is as good as ``WGS_1984``.
-- Numbers are alike by the 15 digits that PROJ writes, and altered in the last of these that the text has. Words, codes and
-  names of parameters are alike whatever their case and quotes, other names letter by letter.
+- Numbers are alike by the 15 digits that PROJ writes, and altered both ways in the last but one: so one that PROJ replaces
+  by a number near it has no effect. Words, codes and names of parameters are alike whatever their case and quotes, other
+  names letter by letter.
 - Parameters have no order, axes have. The name of a parameter has counted where its value has.
 - A datum may have two names of one: the identifier beside it says the other. A scale factor of 1 may have no effect.
 - WKT2 has no place for identifiers of most parts and for axes of a base CRS. They aren't tried.
@@ -21,7 +22,6 @@ BOUNDCRS: the numbers that aren't in the answer are altered. PROJ has names of i
 
 from __future__ import annotations
 
-import math
 import re
 from dataclasses import dataclass, field
 from decimal import Decimal
@@ -32,6 +32,9 @@ from ._tree import Node, tree_of
 # What PROJ writes of a text in WKT2; None where its reading isn't taken.
 Answer = Callable[[str], Optional[str]]
 DIGITS = 15
+ALL_DIGITS = f".{DIGITS}g"
+# A meridian's degrees may come from grads; a scale difference of 6.7 is written as 1.0000067.
+DIGITS_OF = {("PRIMEM", 1): ".14g", ("TOWGS84", 6): ".8f"}
 NUMBER = re.compile(r"[-+]?(?:\d+\.?\d*|\.\d+)(?:[eE][-+]?\d+)?", re.ASCII)
 TOKEN = re.compile(r'"(?:[^"]|"")*"|[\[\](),]|[^\s\[\](),"]+')
 WORD = re.compile(r'[^\s"]+')
@@ -41,8 +44,8 @@ NAMED = ("DATUM", "VDATUM", "VERT_DATUM", "ENSEMBLE", "PROJECTION", "METHOD")
 # How many parts of a text are altered.
 MOST_TRIED = 100
 MOST_SHOWN = 60
-# Numbers beyond these are in no text that says a CRS.
-MOST_EXPONENT = 99
+# No number of a CRS but 0 is nearer to it, and none is farther than its inverse.
+LEAST = 1e-99
 # The keys of a PROJ string that says a CRS: PROJ passes others over.
 KEYS = frozenset(
     (
@@ -136,15 +139,15 @@ def check_each(text: str, root: Part, leaves: Sequence[Leaf], written: str, answ
         raise NotRead(f"PROJ would write {len(leaves):,} parts otherwise, too many to try each")
 
     def has_effect(text: str, leaf: Leaf) -> bool:
-        end = leaf.place + len(leaf.written)
-        return answer(f"{text[: leaf.place]}{another(leaf.written)}{text[end:]}") != written
+        before, after = text[: leaf.place], text[leaf.place + len(leaf.written) :]
+        return all(answer(f"{before}{it}{after}") != written for it in others_than(leaf.written))
 
     for leaf in leaves:
         node, beside = next((it, above.parts) for above in root.all() for it in above.parts if leaf in it.leaves)
         if has_effect(text, leaf) or is_neutral(node, beside):
             continue
         for it in node.parts:
-            if it.keyword in IDENTIFIERS:
+            if it.keyword in IDENTIFIERS and leaf.keyword in NAMED:
                 shorter = f"{text[: it.place].rstrip().rstrip(',')}{text[it.end :]}"
                 if answer(shorter) == written and has_effect(shorter, leaf):
                     break
@@ -219,12 +222,12 @@ def words_of(keyword: str, found: str, place: int) -> Iterator[Tuple[str, int]]:
 def unsaid(part: Part, other: Optional[Part]) -> Iterator[Leaf]:
     """The leaves of a node, and of those in it, that its counterpart in another text doesn't have."""
     first = 1 if part.keyword == "PARAMETER" else 0
-    # PROJ computes the longitude of a meridian in degrees from that in grads.
-    digits = DIGITS - (part.keyword == "PRIMEM")
-    others = [said(it.written, digits) for it in other.leaves] if other else []
+    others = other.leaves if other else []
     for number, leaf in enumerate(part.leaves[first:], first):
+        digits = DIGITS_OF.get((part.keyword, number), ALL_DIGITS)
         # The words of a PROJ string have no order.
-        if said(leaf.written, digits) not in (others if part.keyword == "EXTENSION" else others[number : number + 1]):
+        mates = others if part.keyword == "EXTENSION" else others[number : number + 1]
+        if said(leaf.written, digits) not in [said(it.written, digits) for it in mates]:
             yield leaf
     counterparts: Dict[Tuple[str, str], List[Part]] = {}
     for it in other.parts if other else ():
@@ -237,7 +240,7 @@ def unsaid(part: Part, other: Optional[Part]) -> Iterator[Leaf]:
         yield from unsaid(it, mates[min(number, len(mates) - 1)] if mates else None)
 
 
-def said(written: str, digits: int = DIGITS) -> str:
+def said(written: str, digits: str = ALL_DIGITS) -> str:
     """A value in one spelling: a number by its digits, a word in capitals, a name or code without its quotes."""
     if written.startswith('"'):
         return written[1:-1].replace('""', '"')
@@ -245,23 +248,23 @@ def said(written: str, digits: int = DIGITS) -> str:
     return f"{key}{equals}{rounded(value, digits)}".upper()
 
 
-def rounded(number: str, digits: int = DIGITS) -> str:
+def rounded(number: str, digits: str = ALL_DIGITS) -> str:
     """A number by its digits; what is none as it is."""
-    return f"{float(number):.{digits}g}" if NUMBER.fullmatch(number) else number
+    return f"{float(number):{digits}}" if NUMBER.fullmatch(number) else number
 
 
-def another(written: str) -> str:
-    """Another value: the next number, the opposite direction, a name or word that is a letter longer."""
+def others_than(written: str) -> List[str]:
+    """Other values: the next numbers, the opposite direction, a name or word that is a letter longer."""
     if written.startswith('"'):
-        return f'{written[:-1]}x"'
+        return [f'{written[:-1]}x"']
     key, equals, value = written.rpartition("=")
     if not NUMBER.fullmatch(value):
-        return OPPOSITE.get(written.upper(), f"{written}x")
-    if not -MOST_EXPONENT < math.log10(abs(float(value)) or 1) < MOST_EXPONENT or not float(value):
-        return f"{key}{equals}0.1"
+        return [OPPOSITE.get(written.upper(), f"{written}x")]
+    if not LEAST < abs(float(value)) < 1 / LEAST:
+        return [f"{key}{equals}0.1"]
     number = Decimal(value)
-    last = Decimal(1).scaleb(max(int(number.as_tuple().exponent), number.adjusted() - DIGITS + 1))
-    return f"{key}{equals}{number.quantize(last) + last:f}"
+    step = Decimal(1).scaleb(number.adjusted() - DIGITS + 2)
+    return [f"{key}{equals}{it:f}" for it in (number + step, number - step)]
 
 
 # PROJ strings.
@@ -300,7 +303,10 @@ def check_words(text: str, written: str, answer: Answer) -> None:
     def has_effect(number: int, word: str) -> bool:
         before, after = words[:number], words[number + 1 :]
         # Where another word says the same, as +lat_1 does with +lat_0, another value still makes a difference.
-        return told(before + after) != whole or "=" in word and told([*before, another(word), *after]) != whole
+        others = others_than(word) if "=" in word else ()
+        return (
+            told(before + after) != whole or all(told([*before, it, *after]) != whole for it in others) and bool(others)
+        )
 
     of_size = [it for it in words if key_of(it) in SIZES]
     for number, found in enumerate(re.finditer(r"\S+", text)):
@@ -328,7 +334,10 @@ def has_own_size(
     if key_of(word) in NAMES_OF_SIZES:
         return size_with([word], word) == wanted
     pairs = [[word]] + [[word, it] for it in others]
-    return any(size_with(it, word) == wanted != size_with(it, another(word)) for it in pairs)
+    return any(
+        size_with(it, word) == wanted and all(size_with(it, other) != wanted for other in others_than(word))
+        for it in pairs
+    )
 
 
 def sizes_of(whole: Node) -> List[List[str]]:
