@@ -234,10 +234,10 @@ def unsaid(part: Part, other: Optional[Part]) -> Iterator[Leaf]:
         counterparts.setdefault(it.key, []).append(it)
     counts: Dict[Tuple[str, str], int] = {}
     for it in part.parts:
-        mates, number = counterparts.get(it.key), counts.get(it.key, 0)
+        found, number = counterparts.get(it.key), counts.get(it.key, 0)
         counts[it.key] = number + 1
         # One that is there twice has the last counterpart again.
-        yield from unsaid(it, mates[min(number, len(mates) - 1)] if mates else None)
+        yield from unsaid(it, found[min(number, len(found) - 1)] if found else None)
 
 
 def said(written: str, digits: str = ALL_DIGITS) -> str:
