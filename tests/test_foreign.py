@@ -115,7 +115,7 @@ FOREIGN = {
 # Texts that PROJ reads, or repairs, and a part of why its reading isn't taken.
 NOT_TAKEN = {
     GEOGRAPHIC.replace("6377397.155", "6377397,155"): "syntax error, unexpected number",
-    GEOGRAPHIC.replace("0.0174532925199433", "0.01745329252"): "with another number than 0.01745329252",
+    GEOGRAPHIC.replace("0.0174532925199433", "0.01745329252"): "0.01745329252 in UNIT",
     GEOGRAPHIC.replace('PRIMEM["Greenwich",0.5],', ""): "PRIMEM",
     GEOGRAPHIC + "x": f"more follows at character {len(GEOGRAPHIC)}",
     GEOGRAPHIC + "\xe9": f"more follows at character {len(GEOGRAPHIC)}",
@@ -131,12 +131,12 @@ NOT_TAKEN = {
     'GEOGCS["' + "x" * 1_048_576: "more than 1,048,576 characters",
     "+proj=utm +zone=31 +elps=GRS80": "+elps isn't known: PROJ would pass it over",
     "+proj=utm +zone=31 +zone=32": "+zone is there twice",
-    "+proj=utm +zone=31 +lat_ts=45": "+lat_ts=45 has no effect: PROJ would pass it over",
+    "+proj=utm +zone=31 +lat_ts=45": "+lat_ts=45 at character 19 has no effect: PROJ would pass it over",
     # PROJ keeps the whole string in a remark of what it writes of this one.
-    "+proj=utm +zone=31 +lat_0=5": "+lat_0=5 has no effect: PROJ would pass it over",
-    "+proj=longlat +zone=31 +ellps=bessel": "+zone=31 has no effect",
-    "+proj=utm +zone=33 +datum=WGS84 +ellps=bessel": "+ellps=bessel has no effect",
-    "+proj=utm +zone=31 +over": "+over has no effect",
+    "+proj=utm +zone=31 +lat_0=5": "+lat_0=5 at character 19 has no effect: PROJ would pass it over",
+    "+proj=longlat +zone=31 +ellps=bessel": "+zone=31 at character 14 has no effect",
+    "+proj=utm +zone=33 +datum=WGS84 +ellps=bessel": "+ellps=bessel at character 32 has no effect",
+    "+proj=utm +zone=31 +over": "+over at character 19 has no effect",
     "+init=epsg:4326": "+init isn't known",
     "+proj=pipeline +step +proj=utm +zone=31": "+step isn't known",
     "+proj=utm +zone=99": "Invalid value for zone",
@@ -412,11 +412,11 @@ def with_osgeo() -> None:
 
 
 def alone(function: Callable[[], None], folder: pathlib.Path, *hidden: str) -> None:
-    """Calls a function of this file in another process, in which some packages can't be imported."""
+    """Calls a function of a file of tests in another process, in which some packages can't be imported."""
     for package in hidden:
         (folder / f"{package}.py").write_text("raise ImportError(__name__)\n", encoding="utf-8")
     path = os.pathsep.join([str(folder), str(HERE), os.environ["PYTHONPATH"]])
-    call = f"import {__name__}; {__name__}.{function.__name__}()"
+    call = f"import {function.__module__} as it; it.{function.__name__}()"
     succeed([sys.executable, "-c", call], env={**os.environ, "PYTHONPATH": path})
 
 

@@ -13,7 +13,7 @@ over.
   by a number near it has no effect. Words, codes and names of parameters are alike whatever their case and quotes, other
   names letter by letter.
 - Parameters have no order, axes have. The name of a parameter has counted where its value has.
-- A datum may have two names of one: the identifier beside it says the other. A scale factor of 1 may have no effect.
+- A datum may have two names of one: the identifier beside it says the other.
 - WKT2 has no place for identifiers of most parts and for axes of a base CRS. They aren't tried.
 
 PROJ strings: each word but defaults is left out, and else altered. Words that say an ellipsoid may say the same one.
@@ -143,15 +143,9 @@ def check_each(text: str, root: Part, leaves: Sequence[Leaf], written: str, answ
         return all(answer(f"{before}{it}{after}") != written for it in others_than(leaf.written))
 
     for leaf in leaves:
-        node, beside = next((it, above.parts) for above in root.all() for it in above.parts if leaf in it.leaves)
-        if has_effect(text, leaf) or is_neutral(node, beside):
-            continue
-        for it in node.parts:
-            if it.keyword in IDENTIFIERS and leaf.keyword in NAMED:
-                shorter = f"{text[: it.place].rstrip().rstrip(',')}{text[it.end :]}"
-                if answer(shorter) == written and has_effect(shorter, leaf):
-                    break
-        else:
+        if not has_effect(text, leaf) and not any(
+            answer(shorter) == written and has_effect(shorter, leaf) for shorter in without_identifier(text, root, leaf)
+        ):
             named = f"{leaf.keyword} {leaf.name}" if leaf.name else leaf.keyword
             raise NotRead(without_effect(f"{leaf.written[:MOST_SHOWN]} in {named[:MOST_SHOWN]}", leaf.place))
 
@@ -170,10 +164,12 @@ def names_in(written: str) -> Set[str]:
     return {said(it.leaves[0].written) for it in root.all() if it.keyword in NAMED} if root else set()
 
 
-def is_neutral(node: Part, beside: Sequence[Part]) -> bool:
-    """Whether a node is the one scale factor of a method, and is 1."""
-    is_factor = node.key == ("PARAMETER", "SCALE_FACTOR") and said(node.leaves[-1].written) == "1"
-    return is_factor and sum(it.key == node.key for it in beside) == 1
+def without_identifier(text: str, root: Part, leaf: Leaf) -> Iterator[str]:
+    """A text without the identifier of the datum or method whose name a leaf is, if it has one."""
+    node = next(it for it in root.all() if leaf in it.leaves)
+    for it in node.parts if leaf.keyword in NAMED else ():
+        if it.keyword in IDENTIFIERS:
+            yield f"{text[: it.place].rstrip().rstrip(',')}{text[it.end :]}"
 
 
 def without_effect(part: str, place: int) -> str:
