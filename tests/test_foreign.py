@@ -197,6 +197,8 @@ def other_forms() -> None:
         assert "\n" not in refused.proj and (refused.number, refused.place) == (plain.number, plain.place)
     for text in NOT_ASKED:
         assert refusal_of(text, Crs.from_user).proj is None, text
+    latin = GEOGRAPHIC.replace('"G"', '"\xe9"').encode("latin-1")
+    assert refusal_of(latin, Crs.from_user).proj == "PROJ doesn't read it either: byte 0xe9 at 8 isn't UTF-8"
     # The library judges what PROJ writes.
     local = 'LOCAL_CS["L",LOCAL_DATUM["D",0],UNIT["metre",1],AXIS["x",EAST],AXIS["y",NORTH]]'
     refused = refusal_of(local, Crs.from_user)
@@ -348,6 +350,7 @@ def with_pyproj() -> None:
         own = Crs.from_user(crs)
         assert own.text == crs.to_wkt().encode() and own.read_by is None
         assert pyproj.CRS(own) == pyproj.CRS.from_user_input(own) == crs
+        assert own != crs and not own == crs and own == Crs.from_user(crs)
         assert pyproj.Transformer.from_crs(own, own).source_crs == crs
     bound = Crs.from_user(SHIFTED)
     assert pyproj.CRS(bound).is_bound and Crs.from_user(pyproj.CRS(bound)).transformation == bound.transformation
