@@ -206,7 +206,8 @@ def test_refusal_goes_to_another_process() -> None:
 def test_public_names_are_told() -> None:
     public = [it for it in vars(crsdesk).values() if isinstance(it, type) and it.__name__ in crsdesk.__all__]
     assert len(public) == 7 and {it.__module__ for it in public} == {"crsdesk"}
-    for call in (lambda: check("x"), lambda: Rules("x")):
+    calls: List[Callable[[], object]] = [lambda: check("x"), lambda: Rules("x")]
+    for call in calls:
         with pytest.raises(ValueError) as caught:
             call()
         assert re.match(r"crsdesk\.(Rules)?Refused: ", traceback.format_exception_only(caught.type, caught.value)[0])

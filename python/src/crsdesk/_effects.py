@@ -73,7 +73,6 @@ ONE = frozenset(("k", "k_0"))
 # What says an ellipsoid, of which one may follow from others.
 SIZES = frozenset("a b rf f e es R ellps datum".split())
 NAMES_OF_SIZES = ("ellps", "datum")
-NOT_TRIED = ("proj", "title")
 
 
 class NotRead(ValueError):
@@ -307,10 +306,10 @@ def check_words(text: str, written: str, answer: Answer) -> None:
     of_size = [it for it in words if key_of(it) in SIZES]
     for number, found in enumerate(re.finditer(r"\S+", text)):
         word = found[0]
-        if word in of_size:
-            counts = len(of_size) == 1 or has_own_size(word, of_size, words, whole, told)
+        if word in of_size and len(of_size) > 1:
+            counts = has_own_size(word, of_size, words, whole, told)
         else:
-            counts = key_of(word) in NOT_TRIED or is_default(word) or has_effect(number, word)
+            counts = is_default(word) or has_effect(number, word)
         if not counts:
             raise NotRead(without_effect(word, found.start()))
 
