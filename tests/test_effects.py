@@ -115,6 +115,7 @@ PASSED_OVER = {
             "+datum=WGS84 +rf=300": "+datum=WGS84",
             "+datum=WGS84 +ellps=GRS80": "+ellps=GRS80",
             "+ellps=bessel +towgs84=1,2,3 +nadgrids=a.gsb": "+towgs84=1,2,3",
+            "+datum=WGS84 +geoidgrids=a.gtx +vunits=us-ft +vto_meter=1": "+vto_meter=1",
         }.items()
     },
 }

@@ -33,6 +33,8 @@ from ._tree import Node, tree_of
 Answer = Callable[[str], Optional[str]]
 DIGITS = 15
 ALL_DIGITS = f".{DIGITS}g"
+# PROJ rounds the angles of a string.
+DIGITS_OF_WORDS = 9
 # A meridian's degrees may come from grads; a scale difference of 6.7 is written as 1.0000067.
 DIGITS_OF = {("PRIMEM", 1): ".14g", ("TOWGS84", 6): ".8f"}
 NUMBER = re.compile(r"[-+]?(?:\d+\.?\d*|\.\d+)(?:[eE][-+]?\d+)?", re.ASCII)
@@ -70,6 +72,8 @@ DEFAULTS = {
 }
 ZERO = frozenset("x_0 y_0 z_0 lat_0 lon_0 lat_1 lat_2 lat_ts lonc alpha gamma h_0".split())
 ONE = frozenset(("k", "k_0"))
+# Keys of one thing, of which PROJ takes one.
+TWINS = (("k", "k_0"), ("units", "to_meter"), ("vunits", "vto_meter"))
 # What says an ellipsoid, of which one may follow from others.
 SIZES = frozenset("a b rf f e es R ellps datum".split())
 NAMES_OF_SIZES = ("ellps", "datum")
@@ -248,8 +252,8 @@ def rounded(number: str, digits: str = ALL_DIGITS) -> str:
     return f"{float(number):{digits}}" if NUMBER.fullmatch(number) else number
 
 
-def others_than(written: str) -> List[str]:
-    """Other values: the next numbers, the opposite direction, a name or word that is a letter longer."""
+def others_than(written: str, digits: int = DIGITS - 1) -> List[str]:
+    """Other values: the next numbers of so many digits, the opposite direction, a name or word that is a letter longer."""
     if written.startswith('"'):
         return [f'{written[:-1]}x"']
     key, equals, value = written.rpartition("=")
@@ -258,7 +262,7 @@ def others_than(written: str) -> List[str]:
     if not LEAST < abs(float(value)) < 1 / LEAST:
         return [f"{key}{equals}0.1"]
     number = Decimal(value)
-    step = Decimal(1).scaleb(number.adjusted() - DIGITS + 2)
+    step = Decimal(1).scaleb(number.adjusted() - digits + 1)
     return [f"{key}{equals}{it:f}" for it in (number + step, number - step)]
 
 
@@ -298,7 +302,7 @@ def check_words(text: str, written: str, answer: Answer) -> None:
     def has_effect(number: int, word: str) -> bool:
         before, after = words[:number], words[number + 1 :]
         # Where another word says the same, as +lat_1 does with +lat_0, another value still makes a difference.
-        others = others_than(word) if "=" in word else ()
+        others = others_than(word, DIGITS_OF_WORDS) if "=" in word else ()
         return (
             told(before + after) != whole or all(told([*before, it, *after]) != whole for it in others) and bool(others)
         )
@@ -309,7 +313,7 @@ def check_words(text: str, written: str, answer: Answer) -> None:
         if word in of_size and len(of_size) > 1:
             counts = has_own_size(word, of_size, words, whole, told)
         else:
-            counts = is_default(word) or has_effect(number, word)
+            counts = is_default(word, words) or has_effect(number, word)
         if not counts:
             raise NotRead(without_effect(word, found.start()))
 
@@ -330,7 +334,8 @@ def has_own_size(
         return size_with([word], word) == wanted
     pairs = [[word]] + [[word, it] for it in others]
     return any(
-        size_with(it, word) == wanted and all(size_with(it, other) != wanted for other in others_than(word))
+        size_with(it, word) == wanted
+        and all(size_with(it, other) != wanted for other in others_than(word, DIGITS_OF_WORDS))
         for it in pairs
     )
 
@@ -351,9 +356,11 @@ def without_remark(written: str) -> Node:
     return whole
 
 
-def is_default(word: str) -> bool:
-    """Whether a word of a PROJ string says what is so without it."""
+def is_default(word: str, words: Sequence[str]) -> bool:
+    """Whether a word of a PROJ string says what is so without it, and no other word says the same thing."""
     key, _, value = word.lstrip("+").partition("=")
+    if any(key in twins and key_of(it) in twins and it != word for twins in TWINS for it in words):
+        return False
     if value in DEFAULTS.get(key, ()):
         return True
     return key in ZERO and rounded(value).lstrip("-") == "0" or key in ONE and rounded(value) == "1"
