@@ -119,11 +119,12 @@ PASSED_OVER = {
         }.items()
     },
 }
-# Words of a PROJ string that say one ellipsoid twice.
+# PROJ strings that say one thing twice.
 TWICE = [
-    "+a=6377397.155 +rf=299.1528128 +ellps=bessel",
-    "+a=6371000 +b=6371000 +R=6371000",
-    "+datum=WGS84 +ellps=WGS84",
+    "+proj=longlat +a=6377397.155 +rf=299.1528128 +ellps=bessel",
+    "+proj=longlat +a=6371000 +b=6371000 +R=6371000",
+    "+proj=longlat +datum=WGS84 +ellps=WGS84",
+    "+proj=omerc +lat_0=4 +lonc=102.25 +alpha=323 +gamma=323 +k=0.99984 +x_0=1 +y_0=2 +ellps=bessel",
 ]
 
 
@@ -146,8 +147,8 @@ def parts_without_effect() -> None:
         shown = part.partition(" in ")[0]
         assert place is None or f"\n {changed}"[int(place[1]) :].startswith(shown), (part, why)
         assert place or part.startswith("PROJ: ")
-    for words in TWICE:
-        assert told(f"+proj=longlat {words}")[0], words
+    for text in TWICE:
+        assert told(text)[0], text
 
 
 def all_parts_count() -> None:
