@@ -117,7 +117,7 @@ def test_what_is_repaired_is_refused() -> None:
         "unknown.wkt": ("EPSG:99999", "crs not found"),
         "key.wkt": (RD + " +foo=1", "+foo isn't known"),
         "twice.wkt": (RD + " +k=0.9", "+k is there twice"),
-        "effect.wkt": ("+proj=utm +zone=31 +lat_0=5", "+lat_0=5 has no effect"),
+        "effect.wkt": ("+proj=utm +zone=31 +lat_0=5", "+lat_0=5 at character 19 has no effect"),
         "no.wkt": ("+proj=nothing", ""),
     }
     place = written("repaired", {name: text for name, (text, _) in wanted.items()})

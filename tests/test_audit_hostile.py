@@ -315,6 +315,21 @@ def make_unknown(place: pathlib.Path) -> Dict[str, str]:
     return {f"{name}.geojson": why.get(name, "its CRS isn't known: ") for name in (*unknown, "far")}
 
 
+def test_latin_1_is_refused_with_its_byte() -> None:
+    """Of a .prj, and of what GDAL writes of the shapefile beside it."""
+    need("python3:osgeo")
+    place = folder() / "latin"
+    place.mkdir()
+    make_vector(place / "a.shp", "ESRI Shapefile", reference_of(28992))
+    sound = (place / "a.prj").read_text()
+    (place / "a.prj").write_bytes(sound.replace("RD_New", "RD_N\xe9w").encode("latin-1"))
+    status, _, _, data = audited_data("--convert", place)
+    found = {os.path.basename(it["place"]["file"]): it for it in data["refused"]}
+    assert status == 1 and found.keys() == {"a.shp", "a.prj"}, data
+    assert (found["a.shp"]["number"], found["a.shp"]["byte"]) == (4, len('PROJCRS["RD_N')), found
+    assert found["a.prj"]["doubts"] == ["byte 0xe9 at 12 isn't UTF-8"], found
+
+
 # The disk isn't filled.
 
 

@@ -86,6 +86,32 @@ def test_group(files: Files) -> None:
     assert files.run("group", "height.wkt", "missing", "again.wkt")[:2] == (2, "group 1: height.wkt again.wkt\n")
 
 
+def test_rules(files: Files) -> None:
+    """Texts are compared and written by their forms; what is accepted is the same."""
+    files.write("r.rules", 'UNCOUNTED[crsName]\nSAME[VDATUM["D"],VDATUM["E"]]\n')
+    files.write("twin.wkt", HEIGHT.replace('"H"', '"G"').replace('"D"', '"E"'))
+    form = CANONICAL_HEIGHT.replace('"H"', '""')
+    names = ["height.wkt", "twin.wkt"]
+    for rules, answer in (((), (1, "different name\n", "")), (("--rules", "r.rules"), (0, "same\n", ""))):
+        assert files.run("same", *rules, *names) == answer
+    assert files.run("same", "--all", "--rules=r.rules", *names) == (0, "same\n", "")
+    assert files.run("same", "--rules=r.rules", "height.wkt", "other name.wkt")[:2] == (
+        1,
+        "different system/axis1/direction\n",
+    )
+    assert files.run("canon", "--rules", "r.rules", *names) == (0, f"{form}\n{form}\n", "")
+    assert files.run("group", "--rules", "r.rules", *names) == (0, "group 1: height.wkt twin.wkt\n", "")
+    assert files.run("group", "--rules", "r.rules", "--lines", "lines.txt")[1].startswith("group 1: 1 4\n")
+    status, output, error = files.run("check", "--rules", "r.rules", "old.prj", *names)
+    assert (status, output.count("accepted vertical"), "refused 11" in output) == (1, 2, True)
+    files.write("bad.rules", "UNCOUNTED[colour]\n")
+    for command in ("check", "canon", "group", "same"):
+        told = "crsdesk: bad.rules, line 1: refused 42 at 10: no node or word that may stand here\n"
+        assert files.run(command, "--rules", "r.rules", "--rules", "bad.rules", *names) == (2, "", told)
+        told = "crsdesk: none.rules: No such file or directory\n"
+        assert files.run(command, "--rules", "none.rules", *names) == (2, "", told)
+
+
 def test_lines(files: Files) -> None:
     """check, canon and group of a file with a text a line."""
     refusal = 'lines.txt:3: refused 7 UnexpectedEnd at 11, column 12\n  VERTCRS["H"\n             ^\n'

@@ -380,7 +380,8 @@ def reference_found(reference: Any, layer: str, doubts: List[str]) -> Found:
         doubts = [" ".join(str(error).split())]
     if doubts:
         return Unread(f"GDAL: {'; '.join(doubts)}", layer)
-    return text_found(text.encode("utf-8", "surrogateescape"), layer)
+    # The bindings answer bytes where a text isn't UTF-8.
+    return text_found(text if isinstance(text, bytes) else text.encode("utf-8", "surrogateescape"), layer)
 
 
 # Archives.
