@@ -6,13 +6,14 @@ import dataclasses
 import functools
 import hashlib
 from dataclasses import dataclass, field
-from typing import Dict, List, NamedTuple, Optional, Tuple, Union
+from typing import Dict, FrozenSet, List, NamedTuple, Optional, Tuple, Union
 
 from .. import Crs, Difference, Level, Refused, Rules, canon
 from .._facts import boxes_of
 from .._foreign import form_of
 from .converting import converted
-from .kinds import TRANSFORMATION, with_whole_sets
+from .datasets import filled_by
+from .kinds import NO_AXES, NOTHING, TRANSFORMATION, Kind, with_whole_sets
 from .reading import File, Skipped, Text, Unread, Way, Without, read
 
 
@@ -69,8 +70,9 @@ class Refusal:
 
 class Judged(NamedTuple):
     """A text's answer: the CRS by its place in the list of its file, or the refusal; the digest tells equal texts.
-    ``read_by`` is the version of PROJ that has read it, where that was asked and the library refuses it; ``states_axes``
-    whether the text itself has the axes, which PROJ fills in where WKT1 has none."""
+    ``read_by`` is the version of PROJ that has read it, where that was asked and the library refuses it; ``filled``
+    has the kinds of parts that a reader filled in: PROJ the axes that WKT1 mostly has none of, GDAL what a format lacks.
+    """
 
     layer: str
     line: int
@@ -78,7 +80,7 @@ class Judged(NamedTuple):
     crs: int
     refusal: Optional[Refusal]
     read_by: str = ""
-    states_axes: bool = True
+    filled: FrozenSet[Kind] = NOTHING
 
 
 @dataclass
@@ -112,7 +114,8 @@ def told_of(file: File, converts: bool = False, ruling: Tuple[bytes, ...] = ()) 
                 told.texts.append(told.texts[-1]._replace(layer=found.layer))
                 continue
             try:
-                told.texts.append(judged(found, told.spelled, known, converts, rules))
+                its = judged(found, told.spelled, known, converts, rules)
+                told.texts.append(its._replace(filled=its.filled | filled_by(file.path, found.layer)))
                 last = found.text
             except MemoryError:
                 told.unread.append(Unread("out of memory", found.layer, found.line))
@@ -163,9 +166,8 @@ def judged(found: Text, spelled: List[Spelled], known: Known, converts: bool, ru
         added = spelled_by(crs, transformation, rules)
         known[key] = len(spelled)
         spelled.append(added)
-    return Judged(
-        found.layer, found.line, digest, known[key], None, read_by, not read_by or b"AXIS" in found.text.upper()
-    )
+    filled = NO_AXES if read_by and b"AXIS" not in found.text.upper() else NOTHING
+    return Judged(found.layer, found.line, digest, known[key], None, read_by, filled)
 
 
 def spelled_by(crs: Crs, transformation: str, rules: Optional[Rules]) -> Spelled:

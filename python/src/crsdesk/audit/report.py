@@ -4,14 +4,15 @@ from __future__ import annotations
 
 import collections
 import functools
+import itertools
 from dataclasses import dataclass, field
-from typing import Dict, Iterable, Iterator, List, NamedTuple, Optional, Protocol, Sequence, Set, Tuple
+from typing import Dict, FrozenSet, Iterable, Iterator, List, NamedTuple, Optional, Protocol, Sequence, Set, Tuple
 
 from .. import Difference
 from .collecting import Listing, Odd
 from .datasets import Belongs, belongs_to
 from .judging import Box, Refusal, Spelled, Told, Two
-from .kinds import Kind, folded, is_placeholder, kind_of
+from .kinds import NOTHING, Kind, folded, is_placeholder, kind_of
 from .reading import File
 from .registry import Asked, Registered, Verdict
 
@@ -33,7 +34,8 @@ class Variant:
     """A CRS with everything, and where it is; ``number`` counts those of its definition.
 
     ``parts`` are those in which it differs from the first CRS of its definition: identifiers, usages, remarks.
-    ``registered`` is what the registry has of it, where that was asked; ``states_axes`` whether a text of it has its axes.
+    ``registered`` is what the registry has of it, where that was asked; ``filled`` has the kinds of parts that a reader
+    filled in, since no text of it states them.
     """
 
     number: int
@@ -41,7 +43,7 @@ class Variant:
     places: List[Place] = field(default_factory=list)
     parts: List[Difference] = field(default_factory=list)
     registered: Optional[Registered] = None
-    states_axes: bool = False
+    filled: FrozenSet[Kind] = frozenset(Kind)
 
 
 @dataclass
@@ -73,9 +75,9 @@ class Definition:
         return list(dict.fromkeys(it for variant in self.variants for it in variant.crs.identifiers))
 
     @property
-    def states_axes(self) -> bool:
-        """Whether a text of it has its axes."""
-        return any(variant.states_axes for variant in self.variants)
+    def filled(self) -> FrozenSet[Kind]:
+        """The kinds of parts that no text of it states."""
+        return frozenset.intersection(*(variant.filled for variant in self.variants))
 
     @property
     def texts(self) -> int:
@@ -85,20 +87,20 @@ class Definition:
 
 @dataclass
 class Pair:
-    """Two definitions, by their numbers, that differ in parts; ``identifiers`` are those that both have, ``states_axes``
-    whether both have texts with axes."""
+    """Two definitions, by their numbers, that differ in parts; ``identifiers`` are those that both have, ``filled``
+    has the kinds of parts that on a side no text states: of a near miss any of the definition, of a data set its own.
+    """
 
     first: int
     second: int
     identifiers: List[str]
-    states_axes: bool = True
+    filled: FrozenSet[Kind]
     parts: List[Difference] = field(default_factory=list)
 
     @functools.cached_property
     def kind(self) -> Kind:
-        """That of the parts, once they are there; axes that no text states are no difference of axes."""
-        kind = kind_of(self.parts)
-        return Kind.NAMES if kind is Kind.AXES and not self.states_axes else kind
+        """That of the parts, once they are there."""
+        return kind_of(self.parts, self.filled)
 
 
 @dataclass
@@ -114,11 +116,17 @@ class NearMiss:
     def kind(self) -> Kind:
         return min(pair.kind for pair in self.pairs)
 
+    @property
+    def is_likely(self) -> bool:
+        """Whether it is likely a mistake: numbers, axes or datums differ."""
+        return self.kind < Kind.SHIFT
+
 
 @dataclass
 class DataSet:
     """Files that belong to one data set, and the pairs of their CRSs that aren't the same by definition: each beside what
-    the data set itself says, or else its first text. ``path`` has no suffix."""
+    the data set itself says, or else its first text, and texts beside that have axes of their own beside each other.
+    ``path`` has no suffix."""
 
     path: str
     rows: List[Row]
@@ -174,7 +182,7 @@ class Row:
     definition: Optional[Definition] = None
     variant: Optional[Variant] = None
     refusal: Optional[Refusal] = None
-    states_axes: bool = True
+    filled: FrozenSet[Kind] = NOTHING
 
 
 class Cause(NamedTuple):
@@ -287,10 +295,8 @@ def report_of(
     report.near_misses.sort(key=rank)
     report.data_sets.sort(key=lambda it: Kind.NAMES + 1 if it.kind is None else it.kind)
     variants = [variant for definition in report.definitions for variant in definition.variants]
-    wanted = [Asked(it.crs.full, it.crs.name, it.crs.identifiers) for it in variants]
+    wanted = [Asked(it.crs.full, it.crs.name, it.crs.identifiers, it.filled) for it in variants]
     for variant, found in zip(variants, asks.register(wanted)):
-        if found.verdict is Verdict.AXES and not variant.states_axes:
-            found.verdict = Verdict.FILLED_IN
         variant.registered = found
     report.areas = areas_of(report.definitions)
     count(report)
@@ -307,7 +313,7 @@ def rows_of(files: Sequence[File], told: Sequence[Told], report: Report) -> Iter
     for file, its in zip(files, told):
         for text in its.texts:
             place = Place(file.path, text.layer, text.line, text.read_by)
-            row = Row(place, refusal=text.refusal, states_axes=text.states_axes)
+            row = Row(place, refusal=text.refusal, filled=text.filled)
             report.rows.append(row)
             if text.refusal:
                 report.refused.append(RefusedText(row.place, text.refusal))
@@ -333,7 +339,7 @@ def definitions_of(rows: Iterable[Tuple[Row, Optional[Spelled]]], report: Report
             row.definition.variants.append(variants[crs.full, way])
         row.variant = variants[crs.full, way]
         row.variant.places.append(row.place)
-        row.variant.states_axes |= row.states_axes
+        row.variant.filled &= row.filled
     definitions = sorted(found.values(), key=lambda it: -it.texts)
     for number, definition in enumerate(definitions, 1):
         definition.number = number
@@ -392,8 +398,12 @@ def bearing(definition: Definition, miss: NearMiss) -> List[Place]:
 
 
 def pair_of(first: Definition, second: Definition) -> Pair:
-    both = [it for it in first.identifiers if it in second.identifiers]
-    return Pair(first.number, second.number, both, first.states_axes and second.states_axes)
+    return Pair(first.number, second.number, common(first, second), first.filled | second.filled)
+
+
+def common(first: Definition, second: Definition) -> List[str]:
+    """The identifiers that both have."""
+    return [it for it in first.identifiers if it in second.identifiers]
 
 
 def data_sets_of(rows: Iterable[Row]) -> List[DataSet]:
@@ -409,10 +419,26 @@ def data_sets_of(rows: Iterable[Row]) -> List[DataSet]:
             # What the data set itself says comes first.
             its.sort(key=lambda it: it[0].is_beside)
             data_set = DataSet(f"{archive} ({path})" if archive else path, [row for _, row in its])
-            definitions = list({row.definition.number: row.definition for _, row in its if row.definition}.values())
-            data_set.pairs = [pair_of(definitions[0], it) for it in definitions[1:]]
+            data_set.pairs = list(pairs_of(data_set.rows))
             sets.append(data_set)
     return sets
+
+
+def pairs_of(rows: Sequence[Row]) -> Iterator[Pair]:
+    """The pairs of the CRSs of a data set. What a text says of axes or of a transformation is compared with what another
+    of these texts says, and with nothing that a reader filled in, or that another text leaves out."""
+    found: Dict[int, Definition] = {}
+    filled: Dict[int, FrozenSet[Kind]] = {}
+    for row in rows:
+        if row.definition:
+            number = row.definition.number
+            found[number] = row.definition
+            filled[number] = filled.get(number, row.filled) & row.filled
+    for one, other in itertools.combinations(found.values(), 2):
+        first, both = next(iter(found)), filled[one.number] | filled[other.number]
+        is_left_out = one.text == other.text and not (one.transformation and other.transformation)
+        if not is_left_out and (one.number == first or filled[first] - both):
+            yield Pair(one.number, other.number, common(one, other), both)
 
 
 def compare_all(report: Report, asks: Asks) -> None:
@@ -432,10 +458,12 @@ def compare_all(report: Report, asks: Asks) -> None:
         first = definition.variants[0].crs.full
         for variant in definition.variants[1:]:
             add(Two(first, variant.crs.full, "full"), variant.parts)
-    of_misses = [pair for miss in report.near_misses for pair in miss.pairs]
-    for pair in of_misses + [pair for data_set in report.data_sets for pair in data_set.pairs]:
-        one, other = (report.definitions[number - 1] for number in (pair.first, pair.second))
-        add(Two(one.text, other.text, "definition", (one.transformation, other.transformation)), pair.parts)
+    for is_of_miss, of in ((True, report.near_misses), (False, report.data_sets)):
+        for pair in (pair for it in of for pair in it.pairs):
+            one, other = (report.definitions[number - 1] for number in (pair.first, pair.second))
+            ways = one.transformation, other.transformation
+            # A text beside a data set mostly can't say a transformation.
+            add(Two(one.text, other.text, "definition", ways if is_of_miss or all(ways) else ("", "")), pair.parts)
     for its, found in zip(puts, asks.compare(pairs)):
         for put in its:
             put += found

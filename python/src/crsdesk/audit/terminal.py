@@ -11,7 +11,8 @@ from .kinds import rows_of
 from .names import counted, place_shown, readable, visible
 from .report import Definition, NearMiss, Pair, Report, Summary, bearing, findings_of, verdict_told
 
-# How many near misses are shown, and of each how many pairs, parts, and characters of a value.
+# How many near misses are shown, beside all that are likely mistakes; and of each how many pairs, parts, and characters of
+# a value.
 MOST_MISSES = 20
 MOST_PAIRS = 20
 MOST_PARTS = 8
@@ -27,12 +28,13 @@ def lines_of(report: Report) -> Iterator[str]:
         yield f"the texts of {readable(data_set.path)} disagree"
         yield from pair_lines(report, data_set.pairs, None, [place_shown(row.place) for row in data_set.rows])
     yield from registry_lines(report)
-    for miss in report.near_misses[:MOST_MISSES]:
+    shown = max(MOST_MISSES, sum(it.is_likely for it in report.near_misses))
+    for miss in report.near_misses[:shown]:
         yield ""
         yield from near_miss_lines(report, miss)
-    if len(report.near_misses) > MOST_MISSES:
+    if len(report.near_misses) > shown:
         yield ""
-        yield f"{len(report.near_misses) - MOST_MISSES:,} more near misses: --html and --json have all"
+        yield f"{len(report.near_misses) - shown:,} more near misses: --html and --json have all"
 
 
 def summary_rows(report: Report) -> Iterator[Tuple[str, str]]:
