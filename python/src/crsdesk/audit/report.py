@@ -436,8 +436,9 @@ def pairs_of(rows: Sequence[Row]) -> Iterator[Pair]:
             filled[number] = filled.get(number, row.filled) & row.filled
     for one, other in itertools.combinations(found.values(), 2):
         first, both = next(iter(found)), filled[one.number] | filled[other.number]
-        is_left_out = one.text == other.text and not (one.transformation and other.transformation)
-        if not is_left_out and (one.number == first or filled[first] - both):
+        if not (one.transformation and other.transformation):
+            both |= {Kind.SHIFT}
+        if (one.text != other.text or Kind.SHIFT not in both) and (one.number == first or filled[first] - both):
             yield Pair(one.number, other.number, common(one, other), both)
 
 
@@ -458,12 +459,10 @@ def compare_all(report: Report, asks: Asks) -> None:
         first = definition.variants[0].crs.full
         for variant in definition.variants[1:]:
             add(Two(first, variant.crs.full, "full"), variant.parts)
-    for is_of_miss, of in ((True, report.near_misses), (False, report.data_sets)):
-        for pair in (pair for it in of for pair in it.pairs):
-            one, other = (report.definitions[number - 1] for number in (pair.first, pair.second))
-            ways = one.transformation, other.transformation
-            # A text beside a data set mostly can't say a transformation.
-            add(Two(one.text, other.text, "definition", ways if is_of_miss or all(ways) else ("", "")), pair.parts)
+    of_misses = [pair for miss in report.near_misses for pair in miss.pairs]
+    for pair in of_misses + [pair for data_set in report.data_sets for pair in data_set.pairs]:
+        one, other = (report.definitions[number - 1] for number in (pair.first, pair.second))
+        add(Two(one.text, other.text, "definition", (one.transformation, other.transformation)), pair.parts)
     for its, found in zip(puts, asks.compare(pairs)):
         for put in its:
             put += found
