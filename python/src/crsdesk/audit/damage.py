@@ -10,6 +10,8 @@ import json
 import re
 from typing import Any, Dict, Iterator, List
 
+from .looks import kind_of_text, told_of_text
+
 # What a warning of the CRS has, among those that come as a data set is opened.
 OF_CRS = re.compile(
     r"PROJ|CRS|SRS|EPSG|WKT|geo ?key|GTIF|projection|datum|ellipsoid|spheroid|coordinate system|spatial ref", re.I
@@ -61,14 +63,20 @@ def invalid(reference: Any) -> List[str]:
     return [words_of(code)] if code else []
 
 
-def damage_beside(gdal: Any, data_set: Any, reference: Any) -> List[str]:
-    """What is wrong in a text beside a data set (.prj) by which GDAL has its CRS: that it is damaged, or that GDAL took
-    a CRS with another ellipsoid for it."""
+def text_beside(gdal: Any, data_set: Any) -> bytes:
+    """The text beside a data set (.prj) by which GDAL has its CRS; nothing where there is none."""
     names = [name for name in data_set.GetFileList() or [] if name.lower().endswith(".prj")]
-    return [word for name in names[:1] for word in damage_in(gdal, content_of(gdal, name), reference)]
+    return content_of(gdal, names[0]) if names else b""
+
+
+def strange_in(content: bytes) -> List[str]:
+    """That the text beside a data set is none of a CRS, of which GDAL's words would quote some."""
+    kind = kind_of_text(content) if content.strip() else ""
+    return [f"its .prj isn't read: {told_of_text(kind, len(content))}"] if kind else []
 
 
 def damage_in(gdal: Any, content: bytes, reference: Any) -> List[str]:
+    """What is wrong in such a text: that it is damaged, or that GDAL took a CRS with another ellipsoid for it."""
     from osgeo import osr
 
     lines = content.decode("utf-8", "replace").splitlines()
@@ -105,6 +113,12 @@ def content_of(gdal: Any, path: str) -> bytes:
         return bytes(gdal.VSIFReadL(1, PIECE, file) or b"")
     finally:
         gdal.VSIFCloseL(file)
+
+
+def entities_in(gdal: Any, path: str) -> List[str]:
+    """That an XML file declares entities: GDAL resolves none that leads to another file, and says nothing of it."""
+    has_some = b"<!ENTITY" in content_of(gdal, path).replace(b"\0", b"")
+    return ["its XML has entities (<!ENTITY ..>), which aren't resolved"] if has_some else []
 
 
 # GeoJSON: where a file names a CRS that GDAL doesn't know, it answers WGS 84.

@@ -14,6 +14,7 @@ from .._foreign import form_of
 from .converting import converted
 from .datasets import filled_by
 from .kinds import NO_AXES, NOTHING, TRANSFORMATION, Kind, with_whole_sets
+from .looks import kind_of_text
 from .reading import File, Skipped, Text, Unread, Way, Without, read
 
 
@@ -52,7 +53,9 @@ class Refusal:
     """Why a text is refused, in the words of ``Refused``: ``place`` is its byte, ``piece`` the line with a caret below,
     ``expected`` what could stand there, ``hint`` what the text most likely is and what to do, or nothing, ``doubts`` why
     what PROJ reads the text as isn't taken, where that was tried. ``form`` is that of a text that PROJ is asked for, as
-    ``WKT1``, damaged or not; nothing of any other. ``keyword`` is one that is nowhere read there, as ``TIMECRS``."""
+    ``WKT1``, damaged or not; nothing of any other. ``keyword`` is one that is nowhere read there, as ``TIMECRS``. Of a text
+    that doesn't look like that of a CRS nothing is quoted: ``instead`` says what it is, ``length`` how many bytes it has.
+    """
 
     number: int
     name: str
@@ -66,6 +69,8 @@ class Refusal:
     doubts: Tuple[str, ...] = ()
     form: str = ""
     keyword: str = ""
+    instead: str = ""
+    length: int = 0
 
 
 class Judged(NamedTuple):
@@ -147,7 +152,7 @@ def judged(found: Text, spelled: List[Spelled], known: Known, converts: bool, ru
     try:
         crs = Crs(found.text)
     except Refused as refused:
-        refusal = refusal_of(refused, found.line, form_of(found.text.decode("utf-8", "replace")) or "")
+        refusal = refusal_of(refused, found)
         conversion = converted(found.text) if converts else None
         if conversion is None:
             return Judged(found.layer, found.line, digest, -1, refusal)
@@ -159,7 +164,8 @@ def judged(found: Text, spelled: List[Spelled], known: Known, converts: bool, ru
             except Refused as its:
                 doubts = (f"{conversion.producer} writes a text that is refused: {its.summary}",)
         if doubts:
-            return Judged(found.layer, found.line, digest, -1, dataclasses.replace(refusal, doubts=doubts))
+            refusal = dataclasses.replace(refusal, doubts=() if refusal.instead else doubts)
+            return Judged(found.layer, found.line, digest, -1, refusal)
     key = str(crs), transformation
     if key not in known:
         # Where memory is refused nothing is added.
@@ -177,21 +183,23 @@ def spelled_by(crs: Crs, transformation: str, rules: Optional[Rules]) -> Spelled
     return Spelled(str(crs), definition, form, crs.kind, crs.name, crs.identifiers, boxes, transformation)
 
 
-def refusal_of(refused: Refused, line: int, form: str) -> Refusal:
+def refusal_of(refused: Refused, found: Text) -> Refusal:
     """A refusal's words, as they are said of files."""
-    hint = "; ".join([*refused.hints_of_file(line), *filter(None, [refused.proj])])
+    instead = kind_of_text(found.text)
     return Refusal(
         refused.number,
         refused.name,
         refused.place,
         refused.line,
         refused.column,
-        refused.piece(),
+        "" if instead else refused.piece(),
         refused.expected,
         refused.meaning,
-        hint,
-        form=form,
-        keyword=refused.keyword,
+        "" if instead else "; ".join([*refused.hints_of_file(found.line), *filter(None, [refused.proj])]),
+        form="" if instead else form_of(found.text.decode("utf-8", "replace")) or "",
+        keyword="" if instead else refused.keyword,
+        instead=instead,
+        length=len(found.text),
     )
 
 

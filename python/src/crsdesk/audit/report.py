@@ -17,6 +17,29 @@ from .reading import File
 from .registry import Asked, Registered, Verdict
 
 FULL, DEFINITION = "full", "definition"
+# What is wrong in a text that is refused by a number (docs/REFUSALS.md).
+WRONG = {
+    1: "a character out of place",
+    2: "a malformed number",
+    3: "a number out of bounds",
+    4: "not UTF-8",
+    5: "an open quote",
+    6: "a comma or bracket out of place",
+    7: "cut off, or a bracket is open",
+    8: "nested too deep",
+    11: "an unknown keyword",
+    12: "a part out of place",
+    13: "a part is missing",
+    21: "an unknown type or direction",
+    22: "a part twice",
+    23: "coordinate system of another kind of CRS",
+    24: "a compound CRS of other parts",
+    25: "another number of axes",
+    26: "order of the axes",
+    27: "a unit is missing or doesn't fit",
+    28: "a value out of range",
+    29: "a dynamic ensemble",
+}
 
 
 class Place(NamedTuple):
@@ -540,6 +563,7 @@ def count(report: Report) -> None:
 
 
 def cause_of(refusal: Refusal) -> str:
-    """Why a text is refused, in a word or two: what it is instead, a keyword that isn't read, or the refusal's name."""
-    name = refusal.form.removeprefix("a ") or refusal.keyword or refusal.name
+    """Why a text is refused, in a few words: what it is instead, a keyword that isn't read, or what is wrong in it."""
+    wrong = WRONG.get(refusal.number, refusal.name)
+    name = refusal.instead or refusal.form.removeprefix("a ") or refusal.keyword or wrong
     return f"{name}, damaged or not known to PROJ" if refusal.doubts else name
