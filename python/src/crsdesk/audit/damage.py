@@ -63,20 +63,22 @@ def invalid(reference: Any) -> List[str]:
     return [words_of(code)] if code else []
 
 
-def text_beside(gdal: Any, data_set: Any) -> bytes:
-    """The text beside a data set (.prj) by which GDAL has its CRS; nothing where there is none."""
-    names = [name for name in data_set.GetFileList() or [] if name.lower().endswith(".prj")]
-    return content_of(gdal, names[0]) if names else b""
-
-
-def strange_in(content: bytes) -> List[str]:
-    """That the text beside a data set is none of a CRS, of which GDAL's words would quote some."""
+def strange_beside(gdal: Any, path: str) -> List[str]:
+    """That the .prj by which a data set has its CRS is no text of a CRS: GDAL's words would quote some of it."""
+    front = path.rpartition(".")[0]
+    content = content_of(gdal, f"{front}.prj") or content_of(gdal, f"{front}.PRJ")
     kind = kind_of_text(content) if content.strip() else ""
     return [f"its .prj isn't read: {told_of_text(kind, len(content))}"] if kind else []
 
 
+def damage_beside(gdal: Any, data_set: Any, reference: Any) -> List[str]:
+    """What is wrong in a text beside a data set (.prj) by which GDAL has its CRS: that it is damaged, or that GDAL took
+    a CRS with another ellipsoid for it."""
+    names = [name for name in data_set.GetFileList() or [] if name.lower().endswith(".prj")]
+    return [word for name in names[:1] for word in damage_in(gdal, content_of(gdal, name), reference)]
+
+
 def damage_in(gdal: Any, content: bytes, reference: Any) -> List[str]:
-    """What is wrong in such a text: that it is damaged, or that GDAL took a CRS with another ellipsoid for it."""
     from osgeo import osr
 
     lines = content.decode("utf-8", "replace").splitlines()

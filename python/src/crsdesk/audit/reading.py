@@ -20,7 +20,7 @@ import zlib
 from typing import Any, BinaryIO, Callable, Dict, Iterable, Iterator, List, NamedTuple, Optional, Tuple, Union
 
 from .._crs import is_blank
-from .damage import OF_CRS, damage_in, entities_in, invalid, strange_in, text_beside, unknown_in_geojson, warnings_of
+from .damage import OF_CRS, damage_beside, entities_in, invalid, strange_beside, unknown_in_geojson, warnings_of
 from .drivers import DRIVERS, DRIVERS_OF_MEMBERS
 from .offline import gdal_of, in_own_thread
 
@@ -96,6 +96,8 @@ DATABASES = frozenset((".gpkg", ".sqlite", ".sqlite3", ".db"))
 ARCHIVES = frozenset((".zip",))
 # A folder that is one data set.
 FOLDERS = frozenset((".gdb",))
+# The formats whose CRS is in the .prj beside.
+BY_PRJ = frozenset((".shp", ".asc"))
 XML = frozenset((".gml", ".kml"))
 OPEN_OPTIONS = {".gml": ["WRITE_GFS=NO", "DOWNLOAD_SCHEMA=NO"]}
 
@@ -345,19 +347,18 @@ def told_by_gdal(error: RuntimeError, path: str) -> str:
 def layers_of_data_set(gdal: Any, data_set: Any, path: str, member: str, doubts: List[str]) -> Iterator[Found]:
     """What the layers and rasters state; nothing does where there are doubts."""
 
-    beside = text_beside(gdal, data_set)
-    strange = strange_in(beside)
-
     def stated(reference_of: Callable[[], Any], label: str) -> Found:
         if strange:
             return Unread(strange[0], label)
         try:
             with warnings_of(gdal) as words:
                 reference = reference_of()
-            damage = damage_in(gdal, beside, reference)
+            damage = damage_beside(gdal, data_set, reference)
         except RuntimeError as error:
             return Unread(f"GDAL: {told_by_gdal(error, path)}", label)
         return reference_found(reference, label, doubts + damage + words)
+
+    strange = strange_beside(gdal, path) if suffix_of(path) in BY_PRJ else []
 
     is_told = False
     for index in range(min(data_set.GetLayerCount(), MOST_LAYERS)):

@@ -21,7 +21,8 @@ MOST_CHARACTERS = 60
 
 def lines_of(report: Report) -> Iterator[str]:
     """The summary, and the near misses, those that are most likely mistakes first."""
-    for label, value in summary_rows(report):
+    causes = "; ".join(f"{visible(it.name)}: {it.texts:,}" for it in report.summary.causes)
+    for label, value in [*summary_rows(report), *([("causes", causes)] if causes else [])]:
         yield f"{label:<13}{value}"
     for data_set in [it for it in report.data_sets if it.disagrees][:MOST_MISSES]:
         yield ""
@@ -44,19 +45,12 @@ def summary_rows(report: Report) -> Iterator[Tuple[str, str]]:
     yield "texts", f"{summary.texts:,}: {summary.accepted:,} accepted, {summary.refused:,} refused"
     if report.rules:
         yield "rules", ", ".join(readable(it.name) for it in report.rules)
-    under = f", under the rules {summary.definitions:,}" if report.rules else ""
-    yield "CRSs", f"{summary.crss:,}; by definition {summary.without_rules:,}{under}"
-    yield "repeats", f"{counted(summary.copies, 'copy', 'copies')} of a text, {counted(summary.respellings, 'respelling')} of a CRS"
-    if summary.alone:
-        definitions = counted(summary.alone_definitions, "definition")
-        rules = ", or in what the rules take away" if report.rules else ""
-        yield "alone", f"{summary.alone:,} CRSs of {definitions} differ in identifiers, usages or remarks alone{rules}"
+    under = f", {summary.definitions:,} under the rules" if report.rules else ""
+    differ = f"{summary.without_rules:,} differ in more than identifiers, usages and remarks{under}"
+    yield "CRSs", f"{summary.crss:,}, of which {differ}"
+    yield "repeats", f"{counted(summary.copies, 'copy', 'copies')} of a text, {counted(summary.respellings, 'other spelling')} of a CRS"
     if summary.converted:
         yield "converted", f"{counted(summary.converted, 'text')} by {summary.read_by}"
-    if summary.causes:
-        yield "causes", "; ".join(f"{visible(it.name)}: {it.texts:,}" for it in summary.causes)
-    for refused in summary.refused_by_number:
-        yield "refused", f"{refused.number} {refused.name}: {counted(refused.texts, 'text')}"
     if summary.data_sets:
         yield "data sets", f"{summary.data_sets:,} of several texts, of which {summary.disagreeing:,} disagree"
     if summary.registry:
