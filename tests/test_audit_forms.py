@@ -88,7 +88,7 @@ def test_old_forms_are_read_where_that_is_asked() -> None:
         "X-axis translation 598.1" in ways[0] and "X-axis translation 598.2" in ways[1] and found["esri.prj"][2] is None
     )
     (miss,) = [it for it in data["near_misses"] if it["pairs"][0]["parts"][-1]["path"] == "transformation"]
-    assert miss["kind"] == "datum" and [it["path"] for it in miss["pairs"][0]["parts"]] == ["transformation"]
+    assert miss["kind"] == "transformation" and [it["path"] for it in miss["pairs"][0]["parts"]] == ["transformation"]
 
 
 @by_proj
@@ -305,7 +305,10 @@ def test_kinds_of_differences() -> None:
         ([("kind", "geographic", "projected")], kind.DATUM),
         ([("dynamic/epoch", "2010", "2015")], kind.DATUM),
         ([("dynamic/epoch", "2010", None)], kind.NAMES),
-        ([("transformation", "a", None)], kind.DATUM),
+        ([("transformation", "a", None)], kind.SHIFT),
+        ([("transformation", "a", "b"), ("datum/name", '"A"', '"B"')], kind.DATUM),
+        ([("datum/name", '"A"', '"B"'), ("system/axis1/direction", "north", "east")], kind.AXES),
+        ([("system/axis1/direction", "north", "east"), ("datum/ellipsoid/flattening", "298", "299")], kind.NUMBERS),
         ([("conversion/method/name", '"Mercator (variant A)"', '"Mercator (variant B)"')], kind.NAMES),
         ([("conversion/method/name", '"Mercator (variant A)"', '"Mercator (variant B)"'), ("conversion/parameters", 'PARAMETER["Scale factor at natural origin",0.99]', None)], kind.NUMBERS),
         ([("conversion/method/name", '"Lambert"', '"Albers"')], kind.NUMBERS),
