@@ -686,7 +686,7 @@ def test_cells_are_no_formulas() -> None:
     out = folder() / "formulas.csv"
     assert audit("--csv", out, *sorted(texts), "plain.wkt", cwd=place)[0] == 2, "options begin with -"
     assert audit("--csv", out, "--", *sorted(texts), "plain.wkt", cwd=place)[0] == 0
-    rows = list(csv.reader(out.read_text(encoding="utf-8", newline="").splitlines()))[1:]
+    rows = list(csv.reader(out.read_bytes().decode().splitlines()))[1:]
     assert len(rows) == len(begins) + 1
     for row in rows:
         assert not any(cell.startswith(tuple("=+-@\t\r＝")) for cell in row), row
