@@ -27,6 +27,7 @@ from typing import Any, Dict, FrozenSet, Iterator, List, Optional, Tuple
 import audit_archive
 import big_catalogue
 import pytest
+from audit_archive import projected
 from gdal_data import make_raster, make_vector, reference_of
 from support import HEIGHT, NOBODY, NOTED, ROOT, need, package, run
 
@@ -299,6 +300,20 @@ def test_terminal_has_the_summary_and_the_near_misses() -> None:
         paths = [line.strip().partition(":")[0] for line in lines if line.startswith("    ")]
         found.append((match[1], match[2], both, sorted(paths)))
     assert sorted(found) == with_sorted_paths(wanted_near_misses())
+
+
+def test_terminal_shows_all_likely_mistakes() -> None:
+    """However many they are, and before those of names."""
+    texts = {}
+    for zone in range(1, 31):
+        texts[f"{zone}.wkt"] = projected(zone, rest=f',ID["S",{zone}]')
+        texts[f"{zone} odd.wkt"] = projected(zone, flattening="298.25")
+        texts[f"{zone} old.wkt"] = projected(zone, f"old {zone}", rest=f',ID["S",{zone}]')
+    status, output, _ = audit(written("likely", texts))
+    heads = re.findall(r"^2 CRSs of the (?:name|identifier) (.*)$", output, re.MULTILINE)
+    assert status == 0 and "near misses  60 (numbers 30, names and digits 30)\n" in output
+    assert len(heads) == 30 and all(it.endswith(": numbers") for it in heads), heads
+    assert output.endswith("30 more near misses: --html and --json have all\n")
 
 
 def with_sorted_paths(misses: List[Tuple[str, str, FrozenSet[str], List[str]]]) -> List[Tuple[Any, ...]]:
