@@ -297,6 +297,28 @@ def test_disagreement_is_of_one_data_set_alone() -> None:
         assert data["summary"]["disagreeing"] == 2, told
 
 
+@by_proj
+def test_a_near_miss_tells_whose_axes_differ() -> None:
+    """Where a text that states its axes is in one group with such as have none."""
+    wgs84 = text_of("wgs84_projinfo_2019.wkt")
+    axes = re.findall(r'AXIS\["[^"]*",\w+', wgs84)
+    turned = wgs84.replace(axes[0], "FIRST").replace(axes[1], axes[0]).replace("FIRST", axes[1])
+    esri = text_of("wgs84_esri.prj")
+    place = written("whose axes", {**dict.fromkeys("abc", wgs84), "d.prj": esri, "e.wkt": turned})
+    for name in "abc":
+        (place / name).rename(place / f"{name}.wkt")
+    page = folder() / "whose.html"
+    words = ("--convert", "--html", page, "--rules", ROOT / "rules" / "producers.rules")
+    _, output, data = data_of(place, *words)
+    assert [(it["kind"], len(it["pairs"])) for it in data["near_misses"]] == [("axes", 1)], output
+    told = f"first {place / 'e.wkt'}"
+    assert f"    with axes of its own 1 text, {told}\n" in output, output
+    assert f"<strong>with axes of its own</strong> <span>1 text, {told}</span>" in page.read_text(encoding="utf-8")
+    places = [place for it in data["definitions"] for variant in it["variants"] for place in variant["places"]]
+    filled = {os.path.basename(it["file"]): it["filled"] for it in places if "filled" in it}
+    assert filled == {"d.prj": ["axes"]}, filled
+
+
 def test_what_belongs_together() -> None:
     together = [("a/b.shp", "b"), ("a/b.PRJ", ""), ("a/b.qpj", "")]
     keys = {(it.archive, it.path) for it in (belongs_to(*place) for place in together) if it}

@@ -311,16 +311,16 @@ def found_in_near_misses(data: Dict[str, Any], archive: Archive, most: int) -> L
         for pair in miss["pairs"]:
             if pair["kind"] != "names and digits":
                 for number in (pair["first"], pair["second"]):
-                    found |= mistakes_in(data["definitions"][number - 1], miss, archive)
+                    found |= mistakes_in(data["definitions"][number - 1], miss, pair["kind"], archive)
     return sorted(found)
 
 
-def mistakes_in(definition: Dict[str, Any], miss: Dict[str, Any], archive: Archive) -> set[str]:
+def mistakes_in(definition: Dict[str, Any], miss: Dict[str, Any], kind: str, archive: Archive) -> set[str]:
     """The planted mistakes of a definition that is in a near miss. Where sound texts are in it too, as rules may have it,
-    those alone to whose name or identifier the near miss is due."""
+    those alone to whose name or identifier the near miss is due, or that state the axes in which it differs."""
     sound, planted = [], []
     for variant in definition["variants"]:
-        places = [key_of(it) for it in variant["places"]]
+        places = [key_of(it) for it in variant["places"] if kind not in it.get("filled", ())]
         mistakes = {archive.planted[it].name for it in places if it in archive.planted}
         planted.append((bears(variant, miss), mistakes))
         sound += [bears(variant, miss) for it in places if it not in archive.planted]

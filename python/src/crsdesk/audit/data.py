@@ -82,6 +82,8 @@ def of_place(place: Place) -> Dict[str, Any]:
         data["line"] = place.line
     if place.read_by:
         data["read_by"] = place.read_by
+    if place.filled:
+        data["filled"] = [it.label for it in sorted(place.filled)]
     return data
 
 

@@ -34,6 +34,7 @@ from .report import (
     bearing,
     cause_of,
     findings_of,
+    stating,
     verdict_told,
 )
 from .terminal import summary_rows
@@ -169,6 +170,7 @@ def environment_of() -> jinja2.Environment:
         readable=readable,
         shapes=shapes_of,
         short=short,
+        stating=stating,
         suffix=suffix_shown,
         told=told_of_text,
         verdict=verdict_told,

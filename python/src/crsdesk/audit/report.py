@@ -44,12 +44,14 @@ WRONG = {
 
 class Place(NamedTuple):
     """Where a text is: its file, with the layer or member in it, or the line, counted from 1. ``read_by`` is the version
-    of PROJ that has read the text, where it isn't read as it is."""
+    of PROJ that has read the text, where it isn't read as it is; ``filled`` has the kinds of parts that a reader filled in,
+    since the text doesn't state them."""
 
     file: str
     layer: str = ""
     line: int = 0
     read_by: str = ""
+    filled: FrozenSet[Kind] = NOTHING
 
 
 @dataclass
@@ -57,8 +59,7 @@ class Variant:
     """A CRS with everything, and where it is; ``number`` counts those of its definition.
 
     ``parts`` are those in which it differs from the first CRS of its definition: identifiers, usages, remarks.
-    ``registered`` is what the registry has of it, where that was asked; ``filled`` has the kinds of parts that a reader
-    filled in, since no text of it states them.
+    ``registered`` is what the registry has of it, where that was asked.
     """
 
     number: int
@@ -66,7 +67,11 @@ class Variant:
     places: List[Place] = field(default_factory=list)
     parts: List[Difference] = field(default_factory=list)
     registered: Optional[Registered] = None
-    filled: FrozenSet[Kind] = frozenset(Kind)
+
+    @property
+    def filled(self) -> FrozenSet[Kind]:
+        """The kinds of parts that no text of it states."""
+        return frozenset.intersection(*(it.filled for it in self.places))
 
 
 @dataclass
@@ -205,7 +210,6 @@ class Row:
     definition: Optional[Definition] = None
     variant: Optional[Variant] = None
     refusal: Optional[Refusal] = None
-    filled: FrozenSet[Kind] = NOTHING
 
 
 class Cause(NamedTuple):
@@ -335,8 +339,8 @@ def rows_of(files: Sequence[File], told: Sequence[Told], report: Report) -> Iter
     seen: Set[bytes] = set()
     for file, its in zip(files, told):
         for text in its.texts:
-            place = Place(file.path, text.layer, text.line, text.read_by)
-            row = Row(place, refusal=text.refusal, filled=text.filled)
+            place = Place(file.path, text.layer, text.line, text.read_by, text.filled)
+            row = Row(place, refusal=text.refusal)
             report.rows.append(row)
             if text.refusal:
                 report.refused.append(RefusedText(row.place, text.refusal))
@@ -362,7 +366,6 @@ def definitions_of(rows: Iterable[Tuple[Row, Optional[Spelled]]], report: Report
             row.definition.variants.append(variants[crs.full, way])
         row.variant = variants[crs.full, way]
         row.variant.places.append(row.place)
-        row.variant.filled &= row.filled
     definitions = sorted(found.values(), key=lambda it: -it.texts)
     for number, definition in enumerate(definitions, 1):
         definition.number = number
@@ -420,6 +423,13 @@ def bearing(definition: Definition, miss: NearMiss) -> List[Place]:
     return [] if len(its) == len(definition.variants) else [place for it in its for place in it.places]
 
 
+def stating(definition: Definition, kind: Kind) -> List[Place]:
+    """The texts of a definition that state parts of a kind, which a reader filled in for the others; none where all do."""
+    places = [place for variant in definition.variants for place in variant.places]
+    its = [place for place in places if kind not in place.filled]
+    return [] if len(its) == len(places) else its
+
+
 def pair_of(first: Definition, second: Definition) -> Pair:
     return Pair(first.number, second.number, common(first, second), first.filled | second.filled)
 
@@ -456,7 +466,7 @@ def pairs_of(rows: Sequence[Row]) -> Iterator[Pair]:
         if row.definition:
             number = row.definition.number
             found[number] = row.definition
-            filled[number] = filled.get(number, row.filled) & row.filled
+            filled[number] = filled.get(number, row.place.filled) & row.place.filled
     for one, other in itertools.combinations(found.values(), 2):
         first, both = next(iter(found)), filled[one.number] | filled[other.number]
         if not (one.transformation and other.transformation):

@@ -7,9 +7,9 @@ import os
 from typing import Iterable, Iterator, Optional, Sequence, Tuple
 
 from .. import Difference
-from .kinds import rows_of
+from .kinds import Kind, rows_of
 from .names import counted, place_shown, readable, visible
-from .report import Definition, NearMiss, Pair, Report, Summary, bearing, findings_of, verdict_told
+from .report import Definition, NearMiss, Pair, Report, Summary, bearing, findings_of, stating, verdict_told
 
 # How many near misses are shown, beside all that are likely mistakes; and of each how many pairs, parts, and characters of
 # a value.
@@ -97,21 +97,25 @@ def pair_lines(
     report: Report, pairs: Sequence[Pair], miss: Optional[NearMiss] = None, files: Sequence[str] = ()
 ) -> Iterator[str]:
     """The first definition of pairs, and each other one with the parts in which it differs."""
-    yield from definition_lines(report.definitions[pairs[0].first - 1], miss)
+    yield from definition_lines(report.definitions[pairs[0].first - 1], miss, pairs[0].kind)
     for pair in pairs[:MOST_PAIRS]:
-        yield from definition_lines(report.definitions[pair.second - 1], miss)
+        yield from definition_lines(report.definitions[pair.second - 1], miss, pair.kind)
         yield from part_lines(pair.parts)
     if len(pairs) > MOST_PAIRS:
         yield f"  .. and {counted(len(pairs) - MOST_PAIRS, 'CRS', 'CRSs')} more"
     yield from (f"  {file}" for file in files)
 
 
-def definition_lines(definition: Definition, miss: Optional[NearMiss]) -> Iterator[str]:
-    """A definition, and which of its texts have the near miss's name or identifier, where not all have it."""
+def definition_lines(definition: Definition, miss: Optional[NearMiss], kind: Kind) -> Iterator[str]:
+    """A definition, and which of its texts have the near miss's name or identifier, or axes of their own where these
+    differ, where not all have."""
     yield f"  {told_of(definition)}"
     places = bearing(definition, miss) if miss else []
     if miss and places:
         yield f"    with this {miss.by} {counted(len(places), 'text')}, first {place_shown(places[0])}"
+    places = stating(definition, kind) if miss else []
+    if places:
+        yield f"    with {kind.label} of its own {counted(len(places), 'text')}, first {place_shown(places[0])}"
 
 
 def part_lines(parts: Sequence[Difference]) -> Iterator[str]:
