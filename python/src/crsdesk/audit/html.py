@@ -162,6 +162,7 @@ def environment_of() -> jinja2.Environment:
     )
     environment.filters.update(
         bearing=bearing,
+        cause=cause_of,
         counted=counted,
         lines=lines_of,
         statements=statements_of,

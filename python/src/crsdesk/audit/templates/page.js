@@ -11,10 +11,12 @@
     const owner = label.closest("details.group") || label.closest("section");
     return [label, label.textContent, owner, chunks.filter(([chunk]) => owner.contains(chunk))];
   });
+  // A refused text is found by its cause too, which stands above it.
+  const text_of = (item) => `${item.textContent} ${item.closest(".cause")?.querySelector("b").textContent || ""}`.toLowerCase();
   const opened = new Set();
   let texts = null;
   const filter = () => {
-    texts = texts || new Map(chunks.flatMap(([, items]) => items.map((item) => [item, item.textContent.toLowerCase()])));
+    texts = texts || new Map(chunks.flatMap(([, items]) => items.map((item) => [item, text_of(item)])));
     const asked = words.value.toLowerCase().split(/\s+/).filter(Boolean);
     const found = [];
     for (const [chunk, items] of chunks) {
