@@ -638,11 +638,11 @@ def test_names_are_shown_as_text() -> None:
         assert names.visible(text) == wanted and names.readable(text) == f"$'{wanted}'"
     assert names.visible("a\u00a0b") == names.readable("a\u00a0b") == "a\u00a0b" != names.distinct("a\u00a0b")
     place = written("unseen", {"zone\u200b31.wkt": HEIGHT.replace('"H"', '"H\u200b"'), "zone31.wkt": HEIGHT})
-    files, words = reports("unseen")
+    paths, words = reports("unseen")
     status, output, _ = audit(*words, place)
     assert status == 0 and r"\u200B" in output and "\u200b" not in output
     for kind in ("html", "csv"):
-        text = files[kind].read_text(encoding="utf-8")
+        text = paths[kind].read_text(encoding="utf-8")
         assert "\u200b" not in text and r"zone\u200B31.wkt" in text and r"H\u200B" in text, kind
 
 

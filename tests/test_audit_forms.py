@@ -287,9 +287,9 @@ def test_disagreement_is_of_one_data_set_alone() -> None:
         "left out.prj": shift, "left out.qpj": re.sub(r",TOWGS84\[[^]]*\]", "", shift),
         "shifts.prj": shift, "shifts.qpj": shift.replace("598.1", "598.2"),
     }  # fmt: skip
-    place = written("own axes", texts)
-    for more in ({}, {"other.wkt": turned, "another.wkt": wgs84, "same.wkt": esri}):
-        written("own axes", more)
+    others = {"other.wkt": turned, "another.wkt": wgs84, "same.wkt": esri}
+    for files in (texts, {**texts, **others}):
+        place = written("own axes", files)
         _, _, data = data_of(place, "--convert")
         told = {os.path.basename(it["path"]): it["kind"] for it in data["data_sets"]}
         assert (told["stated"], told["shifts"]) == ("axes", "transformation"), told

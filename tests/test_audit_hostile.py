@@ -589,9 +589,9 @@ def test_members_with_a_password_are_told() -> None:
         for name in ("a.wkt", "b.shp", "c.shp", "c.prj", "d.wkt"):
             archive.writestr(name, HEIGHT)
     content = bytearray(path.read_bytes())
-    for name in (b"a.wkt", b"b.shp", b"c.prj"):
-        content[content.index(name) - 24] |= 1
-        content[content.rindex(name) - 38] |= 1
+    for member in (b"a.wkt", b"b.shp", b"c.prj"):
+        content[content.index(member) - 24] |= 1
+        content[content.rindex(member) - 38] |= 1
     path.write_bytes(content)
     status, _, error, data = audited_data(path)
     told = {it["place"]["layer"]: it["why"] for it in data["unread"]}

@@ -12,7 +12,8 @@
     return [label, label.textContent, owner, chunks.filter(([chunk]) => owner.contains(chunk))];
   });
   // A refused text is found by its cause too, which stands above it.
-  const text_of = (item) => `${item.textContent} ${item.closest(".cause")?.querySelector("b").textContent || ""}`.toLowerCase();
+  const cause_of = (item) => item.closest(".cause")?.querySelector("b");
+  const text_of = (item) => `${item.textContent} ${cause_of(item)?.textContent || ""}`.toLowerCase();
   const opened = new Set();
   let texts = null;
   const filter = () => {
@@ -52,8 +53,9 @@
   const mark = (items, asked) => {
     if (!window.Highlight) return;
     const ranges = [];
-    for (const item of asked.length ? items : []) {
-      const walk = document.createTreeWalker(item, NodeFilter.SHOW_TEXT);
+    const places = new Set(items.flatMap((item) => [cause_of(item) || item, item]));
+    for (const place of asked.length ? places : []) {
+      const walk = document.createTreeWalker(place, NodeFilter.SHOW_TEXT);
       while (walk.nextNode()) {
         const text = walk.currentNode.data.toLowerCase();
         for (const word of asked) {
