@@ -4,7 +4,7 @@ from __future__ import annotations
 
 import re
 
-from .._foreign import CODE_FORM, KEYS, WKT1_HEADS
+from .._foreign import CODE_FORM, WKT1_HEADS
 
 # First words that no other text has, and such as another may have, so that a bracket must follow.
 HEADS = WKT1_HEADS | frozenset(
@@ -19,7 +19,7 @@ NODES = frozenset(
     "AUTHORITY AXIS CONVERSION CS DATUM DYNAMIC ENSEMBLE ID METHOD PARAMETER PROJECTION TRF UNIT VRF".split()
 )
 WORD = re.compile(r"([A-Za-z_0-9]+)\s*([\[(]?)")
-STRING_WORD = re.compile(r"\+([A-Za-z_0-9]+)(?:[=\s]|$)|(?:proj|init)=")
+STRING_WORD = re.compile(r"\+[a-zA-Z_][a-zA-Z_0-9]*(?:[=\s]|$)|(?:proj|init)=")
 PROJJSON = re.compile(r'\{\s*"(?:\$schema"\s*:\s*"https?://proj\.org/|type"\s*:\s*"\w*CRS")')
 AUTHORITIES = ("epsg:", "esri:", "ignf:", "ogc:", "nkg:", "iau_2015:", "urn:ogc:", "http://", "https://")
 BOM = "\ufeff"
@@ -34,12 +34,9 @@ def looks_like_crs(text: bytes) -> bool:
     match = WORD.match(front)
     if match and (match[1].upper() in HEADS or match[2] and match[1].upper() in NODES):
         return True
-    word = STRING_WORD.match(front)
-    if word:
-        return word[1] is None or word[1] in KEYS or word[1] == "init"
     if CODE_FORM.fullmatch(front.rstrip()):
         return front.lower().startswith(AUTHORITIES)
-    return PROJJSON.match(front) is not None
+    return any(it.match(front) for it in (STRING_WORD, PROJJSON))
 
 
 def kind_of_text(text: bytes) -> str:
