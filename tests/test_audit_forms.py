@@ -317,6 +317,13 @@ def test_a_near_miss_tells_whose_axes_differ() -> None:
     places = [place for it in data["definitions"] for variant in it["variants"] for place in variant["places"]]
     filled = {os.path.basename(it["file"]): it["filled"] for it in places if "filled" in it}
     assert filled == {"d.prj": ["axes"]}, filled
+    # Where no text of the largest group has axes of its own those that have are compared with each other.
+    place = written("more axes", {**{f"{name}.prj": esri for name in "abc"}, "d.wkt": wgs84, "e.wkt": turned})
+    _, output, data = data_of(place, "--convert")
+    (miss,) = data["near_misses"]
+    told = [(it["first"], it["second"], it["kind"]) for it in miss["pairs"]]
+    assert told == [(2, 3, "axes"), (1, 2, "names and digits"), (1, 3, "names and digits")], told
+    assert "3 CRSs of the name WGS 84: axes\n  2 EPSG:4326: 1 text" in output, output
 
 
 def test_what_belongs_together() -> None:

@@ -134,11 +134,19 @@ class Pair:
 @dataclass
 class NearMiss:
     """Definitions that differ, of one name or of one identifier: ``by`` says which, and ``value`` has it. Each pair is
-    the definition of the most texts, and one of the others; what is to be looked at first comes first."""
+    the definition of the most texts, and one of the others; what is to be looked at first comes first. Where no text of
+    that one states its axes, those in ``of_axes`` are of the most texts of the others, and are pairs where axes differ.
+    """
 
     by: str
     value: str
     pairs: List[Pair]
+    of_axes: List[Pair] = field(default_factory=list)
+
+    @property
+    def crss(self) -> int:
+        """How many definitions there are."""
+        return len({number for pair in self.pairs for number in (pair.first, pair.second)})
 
     @functools.cached_property
     def kind(self) -> Kind:
@@ -318,6 +326,7 @@ def report_of(
     report.data_sets = data_sets_of(report.rows)
     compare_all(report, asks)
     for miss in report.near_misses:
+        miss.pairs += [it for it in miss.of_axes if it.kind is Kind.AXES]
         miss.pairs.sort(key=lambda it: it.kind)
     report.near_misses.sort(key=rank)
     report.data_sets.sort(key=lambda it: Kind.NAMES + 1 if it.kind is None else it.kind)
@@ -408,7 +417,9 @@ def near_misses_of(definitions: Sequence[Definition]) -> List[NearMiss]:
 
 
 def near_miss(by: str, value: str, first: Definition, others: Sequence[Definition]) -> NearMiss:
-    return NearMiss(by, value, [pair_of(first, it) for it in others])
+    stating = [it for it in others if Kind.AXES not in it.filled] if Kind.AXES in first.filled else []
+    of_axes = [pair_of(stating[0], it) for it in stating[1:]]
+    return NearMiss(by, value, [pair_of(first, it) for it in others], of_axes)
 
 
 def bearing(definition: Definition, miss: NearMiss) -> List[Place]:
@@ -492,7 +503,7 @@ def compare_all(report: Report, asks: Asks) -> None:
         first = definition.variants[0].crs.full
         for variant in definition.variants[1:]:
             add(Two(first, variant.crs.full, "full"), variant.parts)
-    of_misses = [pair for miss in report.near_misses for pair in miss.pairs]
+    of_misses = [pair for miss in report.near_misses for pair in miss.pairs + miss.of_axes]
     for pair in of_misses + [pair for data_set in report.data_sets for pair in data_set.pairs]:
         one, other = (report.definitions[number - 1] for number in (pair.first, pair.second))
         add(Two(one.text, other.text, "definition", (one.transformation, other.transformation)), pair.parts)

@@ -89,7 +89,7 @@ def near_misses_told(report: Report) -> str:
 
 def near_miss_lines(report: Report, miss: NearMiss) -> Iterator[str]:
     head = f"of the {miss.by} {cut(visible(miss.value))}"
-    yield f"{counted(len(miss.pairs) + 1, 'CRS', 'CRSs')} {head}: {miss.kind.label}"
+    yield f"{counted(miss.crss, 'CRS', 'CRSs')} {head}: {miss.kind.label}"
     yield from pair_lines(report, miss.pairs, miss)
 
 
@@ -97,8 +97,11 @@ def pair_lines(
     report: Report, pairs: Sequence[Pair], miss: Optional[NearMiss] = None, files: Sequence[str] = ()
 ) -> Iterator[str]:
     """The first definition of pairs, and each other one with the parts in which it differs."""
-    yield from definition_lines(report.definitions[pairs[0].first - 1], miss, pairs[0].kind)
+    first = 0
     for pair in pairs[:MOST_PAIRS]:
+        if pair.first != first:
+            first = pair.first
+            yield from definition_lines(report.definitions[first - 1], miss, pair.kind)
         yield from definition_lines(report.definitions[pair.second - 1], miss, pair.kind)
         yield from part_lines(pair.parts)
     if len(pairs) > MOST_PAIRS:
