@@ -28,18 +28,15 @@ def test_groups_are_those_under_the_rules() -> None:
     assert (
         data["summary"]["without_rules"] == 3
         and "rules" not in output
-        and "CRSs         3; by definition 3\n" in output
+        and "CRSs         3, of which 3 differ in more than identifiers, usages and remarks\n" in output
     )
     status, output, data = data_of(place, "--rules", PRODUCERS)
     assert status == 0 and [it["texts"] for it in data["definitions"]] == [2, 1]
     found = by_file(data)
     assert found[UTM[0]][0] == found[UTM[1]][0] != found["rd_projinfo_2019.wkt"][0]
     assert (data["summary"]["definitions"], data["summary"]["without_rules"], data["summary"]["crss"]) == (2, 3, 3)
-    assert f"rules        {PRODUCERS}\nCRSs         3; by definition 3, under the rules 2\n" in output, output
-    assert (
-        "2 CRSs of 1 definition differ in identifiers, usages or remarks alone, or in what the rules take away\n"
-        in output
-    )
+    crss = "3, of which 3 differ in more than identifiers, usages and remarks, 2 under the rules"
+    assert f"rules        {PRODUCERS}\nCRSs         {crss}\n" in output, output
     # What a group's text is, and what tells its CRSs apart.
     rules = Rules.from_file(PRODUCERS)
     group = data["definitions"][0]
@@ -132,7 +129,7 @@ def test_the_report_names_the_rules() -> None:
     shown = f"$'{place}/<b>\\n.rules'"
     assert f"rules        {PRODUCERS}, {shown}\n" in output, output
     data = json.loads(out["json"].read_text())
-    assert [it["file"] for it in data["rules"]] == [str(PRODUCERS), str(odd)] and data["form"] == "crsdesk audit 3"
+    assert [it["file"] for it in data["rules"]] == [str(PRODUCERS), str(odd)] and data["form"] == "crsdesk audit 4"
     assert [it["text"].encode() for it in data["rules"]] == [PRODUCERS.read_bytes(), odd.read_bytes()]
     if importlib.util.find_spec("jsonschema"):
         import jsonschema

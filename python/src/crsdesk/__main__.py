@@ -344,6 +344,7 @@ def parser() -> argparse.ArgumentParser:
     made.add_argument("paths", nargs="+", metavar="PATH", help="a folder, with all below it, or a file")
     made.add_argument("--txt", action="store_true", help="a .txt file is a text")
     made.add_argument("--lines", action="store_true", help=LINES_HELP_OF_AUDIT)
+    made.add_argument("--follow", action="store_true", help="follows links that lead out of what is named")
     made.add_argument("--convert", action="store_true", help=CONVERT_HELP)
     add_rules(made)
     made.add_argument("--registry", action="store_true", help=REGISTRY_HELP)
