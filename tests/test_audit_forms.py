@@ -92,6 +92,27 @@ def test_old_forms_are_read_where_that_is_asked() -> None:
 
 
 @by_proj
+def test_a_bound_crs_is_in_the_group_of_its_source() -> None:
+    """Where that is asked: it is told with its transformation, and is no near miss of another one."""
+    bound = text_of("dhdn_towgs84.prj")
+    plain = bound.replace(",TOWGS84[598.1,73.7,418.2,0.202,0.045,-2.455,6.7]", "")
+    assert plain != bound
+    texts = {"bound.prj": bound, "other.prj": bound.replace("598.1", "598.2"), "plain.prj": plain}
+    page = folder() / "source.html"
+    place = written("source", texts)
+    _, output, data = data_of(place, "--convert", "--source-of-bound", "--html", page)
+    (group,) = data["definitions"]
+    ways = {os.path.basename(it["places"][0]["file"]): it["transformation"] for it in group["variants"]}
+    assert ways["plain.prj"] is None and "598.1" in ways["bound.prj"] and "598.2" in ways["other.prj"], ways
+    assert group["transformation"] is None and data["near_misses"] == [] and data["summary"]["bound"] == 2
+    assert [[it["path"] for it in variant["parts"]] for variant in group["variants"]] == [[], *2 * [["transformation"]]]
+    assert "bound        2 texts with a transformation, in the groups of their source CRSs\n" in output, output
+    assert page.read_text(encoding="utf-8").count("With its transformation: ") == 2
+    _, output, data = data_of(place, "--convert")
+    assert len(data["definitions"]) == 3 and "bound        2 texts with a transformation\n" in output
+
+
+@by_proj
 def test_the_order_of_conversions_changes_nothing() -> None:
     place = written("shuffled", forms())
     paths = [str(place / name) for name in forms()]
@@ -321,8 +342,8 @@ def test_a_near_miss_tells_whose_axes_differ() -> None:
     place = written("more axes", {**{f"{name}.prj": esri for name in "abc"}, "d.wkt": wgs84, "e.wkt": turned})
     _, output, data = data_of(place, "--convert")
     (miss,) = data["near_misses"]
-    told = [(it["first"], it["second"], it["kind"]) for it in miss["pairs"]]
-    assert told == [(2, 3, "axes"), (1, 2, "names and digits"), (1, 3, "names and digits")], told
+    pairs = [(it["first"], it["second"], it["kind"]) for it in miss["pairs"]]
+    assert pairs == [(2, 3, "axes"), (1, 2, "names and digits"), (1, 3, "names and digits")], pairs
     assert "3 CRSs of the name WGS 84: axes\n  2 EPSG:4326: 1 text" in output, output
 
 

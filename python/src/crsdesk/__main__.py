@@ -28,6 +28,7 @@ LEVEL_HELP = "what counts: full, or definition, without identifiers, usages and 
 FILE_HELP = "a file with a text; - is standard input"
 LINES_HELP = "a file has a text a line (docs/CATALOGUES.md)"
 CONVERT_HELP = "WKT1, PROJ strings, PROJJSON and codes are read by PROJ, which osgeo or pyproj has (docs/PYTHON.md)"
+SOURCE_HELP = "with --convert: a bound CRS is in the group of its source CRS, told with its transformation"
 LINES_HELP_OF_AUDIT = "it has a text a line, and so has a file of another suffix that is named itself"
 REGISTRY_HELP = "compares the CRSs with those of PROJ's database"
 RULES_HELP = (
@@ -346,6 +347,7 @@ def parser() -> argparse.ArgumentParser:
     made.add_argument("--lines", action="store_true", help=LINES_HELP_OF_AUDIT)
     made.add_argument("--follow", action="store_true", help="follows links that lead out of what is named")
     made.add_argument("--convert", action="store_true", help=CONVERT_HELP)
+    made.add_argument("--source-of-bound", action="store_true", help=SOURCE_HELP)
     add_rules(made)
     made.add_argument("--registry", action="store_true", help=REGISTRY_HELP)
     made.add_argument("--html", metavar="FILE", help="writes the report as a page")

@@ -106,7 +106,7 @@ def audit(run: Run, asked: argparse.Namespace, rules: Sequence[RulesFile]) -> No
     try:
         with Outputs(list(writers)) as outputs:
             jobs = asked.jobs or len(os.sched_getaffinity(0))
-            report = report_on(asked.paths, listing, jobs, asked.convert, asked.registry, rules)
+            report = report_on(asked, listing, jobs, rules)
             for name, write in writers.items():
                 outputs.write(name, functools.partial(write, report))
             outputs.finish()
@@ -178,21 +178,15 @@ class Processes:
         return in_order(followed(answers, len(asked), "asking the registry"))
 
 
-def report_on(
-    paths: Sequence[str],
-    listing: Listing,
-    jobs: int,
-    converts: bool,
-    is_registered: bool,
-    rules: Sequence[RulesFile],
-) -> Report:
+def report_on(asked: argparse.Namespace, listing: Listing, jobs: int, rules: Sequence[RulesFile]) -> Report:
     """The report on the files of a listing, which processes read."""
     ruling = tuple(it.text for it in rules)
     with Workers(jobs) as workers:
-        function = functools.partial(told_of, converts=converts, ruling=ruling)
+        function = functools.partial(told_of, converts=asked.convert, ruling=ruling)
         answers = workers.answers(function, listing.files, lost_file)
         told = in_order(followed(answers, len(listing.files), "reading files"))
-        return report_of(paths, listing, told, Processes(workers, is_registered, ruling), rules)
+        asks = Processes(workers, asked.registry, ruling)
+        return report_of(asked.paths, listing, told, asks, rules, asked.source_of_bound)
 
 
 def in_order(answers: Iterable[Tuple[int, Answer]]) -> List[Answer]:

@@ -113,6 +113,7 @@ def of_variant(variant: Variant) -> Dict[str, Any]:
         "number": variant.number,
         "identifiers": list(variant.crs.identifiers),
         "text": variant.crs.full,
+        "transformation": variant.crs.transformation or None,
         "parts": of_parts(variant.parts),
         "registered": of_registered(variant.registered) if variant.registered else None,
         "places": [of_place(it) for it in variant.places],

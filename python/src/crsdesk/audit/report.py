@@ -77,7 +77,8 @@ class Variant:
 @dataclass
 class Definition:
     """The CRSs that are the same by definition, or under rules, those of the most texts first; ``text`` is the canonical
-    text, or the form under rules. Bound CRSs of one source CRS are the same where their transformations are."""
+    text, or the form under rules. Bound CRSs of one source CRS are the same where their transformations are, or are with it
+    where the report takes source CRSs."""
 
     number: int
     text: str
@@ -241,7 +242,7 @@ class Summary:
                      ``respellings`` together
     ``alone``        CRSs that differ from another in identifiers, usages or remarks alone, or in what rules take away;
                      ``alone_definitions`` theirs
-    ``converted``    of the accepted texts those that PROJ has read, and ``read_by`` its version
+    ``converted``    of the accepted texts those that PROJ has read, and ``read_by`` its version; ``bound`` those of bound CRSs
     ``data_sets``    those of several texts, and of them how many disagree in more than names and digits
     ``registry``     accepted texts by what the registry has of their CRSs, where that was asked
     """
@@ -261,6 +262,7 @@ class Summary:
     alone_definitions: int = 0
     causes: List[Cause] = field(default_factory=list)
     converted: int = 0
+    bound: int = 0
     read_by: str = ""
     data_sets: int = 0
     disagreeing: int = 0
@@ -276,7 +278,8 @@ class RulesFile(NamedTuple):
 
 @dataclass
 class Report:
-    """All that an audit found, and the rules under which it compared, of no files where there were none."""
+    """All that an audit found, and the rules under which it compared, of no files where there were none; ``takes_source`` says
+    whether a bound CRS is in the group of its source CRS."""
 
     paths: List[str]
     rules: List[RulesFile]
@@ -291,6 +294,7 @@ class Report:
     skipped: List[Untold]
     passed: List[Untold]
     rows: List[Row]
+    takes_source: bool = False
 
     @property
     def status(self) -> int:
@@ -309,11 +313,16 @@ class Asks(Protocol):
 
 
 def report_of(
-    paths: Sequence[str], listing: Listing, told: Sequence[Told], asks: Asks, rules: Sequence[RulesFile] = ()
+    paths: Sequence[str],
+    listing: Listing,
+    told: Sequence[Told],
+    asks: Asks,
+    rules: Sequence[RulesFile] = (),
+    takes_source: bool = False,
 ) -> Report:
     """The report of what each of the listed files states, which was told under the same rules."""
     summary = Summary(files=len(listing.files))
-    report = Report(list(paths), list(rules), summary, [], [], [], [], [], [], [], [], [], [])
+    report = Report(list(paths), list(rules), summary, [], [], [], [], [], [], [], [], [], [], takes_source)
     report.summary.others = dict(sorted(listing.others.items()))
     report.unread += odd_ones(listing.unread)
     report.passed += odd_ones(listing.passed)
@@ -368,12 +377,13 @@ def definitions_of(rows: Iterable[Tuple[Row, Optional[Spelled]]], report: Report
     for row, crs in rows:
         if crs is None:
             continue
-        way = crs.transformation
+        way = "" if report.takes_source else crs.transformation
         row.definition = found.setdefault((crs.form, way), Definition(0, crs.form, way))
-        if (crs.full, way) not in variants:
-            variants[crs.full, way] = Variant(0, crs)
-            row.definition.variants.append(variants[crs.full, way])
-        row.variant = variants[crs.full, way]
+        key = crs.full, crs.transformation
+        if key not in variants:
+            variants[key] = Variant(0, crs)
+            row.definition.variants.append(variants[key])
+        row.variant = variants[key]
         row.variant.places.append(row.place)
     definitions = sorted(found.values(), key=lambda it: -it.texts)
     for number, definition in enumerate(definitions, 1):
@@ -500,9 +510,10 @@ def compare_all(report: Report, asks: Asks) -> None:
         puts[places[two]].append(put)
 
     for definition in report.definitions:
-        first = definition.variants[0].crs.full
+        first = definition.variants[0].crs
         for variant in definition.variants[1:]:
-            add(Two(first, variant.crs.full, "full"), variant.parts)
+            ways = first.transformation, variant.crs.transformation
+            add(Two(first.full, variant.crs.full, "full", ways), variant.parts)
     of_misses = [pair for miss in report.near_misses for pair in miss.pairs + miss.of_axes]
     for pair in of_misses + [pair for data_set in report.data_sets for pair in data_set.pairs]:
         one, other = (report.definitions[number - 1] for number in (pair.first, pair.second))
@@ -566,7 +577,8 @@ def count(report: Report) -> None:
     summary.definitions = len(report.definitions)
     summary.crss = sum(len(it.variants) for it in report.definitions)
     variants = [variant for definition in report.definitions for variant in definition.variants]
-    summary.without_rules = len({(it.crs.definition, it.crs.transformation) for it in variants})
+    ways = {(it.crs.definition, "" if report.takes_source else it.crs.transformation) for it in variants}
+    summary.without_rules = len(ways)
     summary.respellings = summary.accepted - summary.crss - summary.copies
     several = [len(it.variants) for it in report.definitions if len(it.variants) > 1]
     summary.alone, summary.alone_definitions = sum(several), len(several)
@@ -574,6 +586,7 @@ def count(report: Report) -> None:
     summary.causes = [Cause(name, texts) for name, texts in causes.most_common()]
     read_by = [row.place.read_by for row in report.rows if row.place.read_by]
     summary.converted, summary.read_by = len(read_by), next(iter(read_by), "")
+    summary.bound = sum(len(it.places) for it in variants if it.crs.transformation)
     summary.data_sets = len(report.data_sets)
     summary.disagreeing = sum(it.disagrees for it in report.data_sets)
     counts: Dict[Verdict, int] = collections.Counter()

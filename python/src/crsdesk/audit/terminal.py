@@ -17,6 +17,7 @@ MOST_MISSES = 20
 MOST_PAIRS = 20
 MOST_PARTS = 8
 MOST_CHARACTERS = 60
+SOURCE = ", in the groups of their source CRSs"
 
 
 def lines_of(report: Report) -> Iterator[str]:
@@ -51,6 +52,8 @@ def summary_rows(report: Report) -> Iterator[Tuple[str, str]]:
     yield "repeats", f"{counted(summary.copies, 'copy', 'copies')} of a text, {counted(summary.respellings, 'other spelling')} of a CRS"
     if summary.converted:
         yield "converted", f"{counted(summary.converted, 'text')} by {summary.read_by}"
+    if summary.bound:
+        yield "bound", f"{counted(summary.bound, 'text')} with a transformation{SOURCE if report.takes_source else ''}"
     if summary.data_sets:
         yield "data sets", f"{summary.data_sets:,} of several texts, of which {summary.disagreeing:,} disagree"
     if summary.registry:
