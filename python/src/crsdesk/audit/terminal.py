@@ -127,7 +127,7 @@ def definition_lines(definition: Definition, miss: Optional[NearMiss], kind: Kin
 def part_lines(parts: Sequence[Difference]) -> Iterator[str]:
     rows = sorted(rows_of(parts), key=lambda it: it.kind)
     for row in rows[:MOST_PARTS]:
-        yield f"    {cut_both(Difference(row.path, row.first, row.second))}"
+        yield f"    {visible(str(cut_both(Difference(row.path, row.first, row.second))))}"
     if len(rows) > MOST_PARTS:
         yield f"    .. and {counted(len(rows) - MOST_PARTS, 'part')} more"
 
