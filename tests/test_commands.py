@@ -8,7 +8,7 @@ from typing import Tuple
 
 import pytest
 from rows import closed_pipe
-from support import CANONICAL_HEIGHT, HEIGHT, need, package, run
+from support import CANONICAL_HEIGHT, EXAMPLES, HEIGHT, need, package, run
 from test_python import ASKED, level_of
 
 import crsdesk
@@ -198,6 +198,36 @@ def test_lines_come_as_they_are_read() -> None:
             run.stdin.flush()
             assert run.stdout.readline().startswith(f'VERTCRS["{name}"'.encode())
         run.stdin.close()
+
+
+@pytest.mark.needs("python3:pyproj")
+def test_fill(files: Files) -> None:
+    """Rows of COPY: keys as they are, values with their escapes taken off and put on again."""
+    exports = EXAMPLES / "exports"
+    bound, plain = ((exports / name).read_bytes().strip() for name in ("dhdn_towgs84.prj", "wgs84_esri.prj"))
+    named = HEIGHT.replace('"H"', '"a\tb\\\\n"').encode()
+    texts = {
+        b"1": plain,
+        b"2": bound,
+        b"a\\\\b": named.replace(b"\\", b"\\\\").replace(b"\t", b"\\t"),
+        b"3": b"\\N",
+        b"4": b" ",
+        b"5": plain.replace(b"298.257", b"298,257"),
+        b"6": b"x",
+    }
+    status, output, error = files.run("fill", source=b"".join(b"\t".join(it) + b"\n" for it in texts.items()))
+    rows = [line.split("\t") for line in output.splitlines()]
+    assert status == 1 and [row[0] for row in rows] == ["1", "2", "a\\\\b"], (output, error)
+    assert rows[0][1].startswith('GEOGCRS["WGS 84"') and rows[0][2] == "\\N"
+    crs = crsdesk.Crs.from_user(bound)
+    assert rows[1][1:] == [crs.text.decode(), crs.transformation]
+    assert rows[2][1:] == [texts[b"a\\\\b"].decode(), "\\N"]
+    told = error.splitlines()
+    assert len(told) == 2 and told[0].startswith(
+        "5: refused 11 UnknownKeyword at 0; PROJ doesn't read it either: "
+    ), told
+    assert told[1] == "6: refused 7 UnexpectedEnd at 1"
+    assert files.run("fill", source=b"1\tx\ty\n") == (2, "", "crsdesk: row 1: not two columns, a key and a text\n")
 
 
 def test_faults(files: Files) -> None:

@@ -1,4 +1,4 @@
-"""The commands over files: ``python -m crsdesk check|canon|same|group|audit``.
+"""The commands over files: ``python -m crsdesk check|canon|same|group|audit|fill``.
 
 Answers go to standard output, refusals in full and faults to standard error. Status 0: no text is refused, and of
 ``same`` both spell the same CRS. 1: a text is refused, or the two CRSs differ. 2: a file can't be read, or another
@@ -264,6 +264,27 @@ def run_group(run: Run, asked: argparse.Namespace) -> None:
         run.write(line)
 
 
+def run_fill(run: Run, asked: argparse.Namespace) -> None:
+    from . import sql
+
+    for number, row in enumerate(lines_of(sys.stdin.buffer), 1):
+        try:
+            key, text = sql.columns_of(row)
+        except ValueError as error:
+            run.tell(f"crsdesk: row {number}: {error}")
+            run.ends(FAULT)
+            return
+        try:
+            found = sql.filled(key, text)
+        except Refused as refused:
+            name = named(key.decode("utf-8", "surrogateescape"))
+            run.tell(f"{name}: {'; '.join(filter(None, [refused.summary, refused.proj]))}")
+            run.ends(DIFFERS)
+            continue
+        if found is not None:
+            sys.stdout.buffer.write(found + b"\n")
+
+
 def run_audit(run: Run, asked: argparse.Namespace) -> None:
     # What only this command needs is imported where it runs.
     from .audit.command import run_audit
@@ -272,7 +293,7 @@ def run_audit(run: Run, asked: argparse.Namespace) -> None:
 
 
 # The commands of which the options are checked here; the audit checks its own.
-OVER_FILES = (run_check, run_canon, run_same, run_group)
+OVER_FILES = (run_check, run_canon, run_same, run_group, run_fill)
 
 
 def has_proj() -> bool:
@@ -341,6 +362,11 @@ def parser() -> argparse.ArgumentParser:
     add_files(made)
     add_level(made)
 
+    made = command(
+        "fill", "writes rows with texts in WKT2 for rows of keys and texts in any form (docs/SQL.md)", run_fill
+    )
+    made.set_defaults(convert=True, rules=[])
+
     made = command("audit", "reports on the CRSs of all files of folders (docs/AUDIT.md)", run_audit)
     made.add_argument("paths", nargs="+", metavar="PATH", help="a folder, with all below it, or a file")
     made.add_argument("--txt", action="store_true", help="a .txt file is a text")
@@ -363,8 +389,9 @@ def answered(run: Run, words: Optional[List[str]]) -> int:
         asked = parser().parse_args(words)
         if asked.run in OVER_FILES:
             if asked.convert and not has_proj():
+                what = "fill" if asked.run is run_fill else "--convert"
                 run.tell(
-                    "crsdesk: --convert takes PROJ, which osgeo (GDAL's Python) or pyproj has, and neither is installed"
+                    f"crsdesk: {what} takes PROJ, which osgeo (GDAL's Python) or pyproj has, and neither is installed"
                 )
                 return FAULT
             try:
