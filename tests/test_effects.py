@@ -79,8 +79,17 @@ SATELLITE = (
     '"+proj=geos +sweep=x +lon_0=-75 +h=35786023 +x_0=0 +y_0=0 +ellps=GRS80 +units=m +no_defs "]]'
 )
 BOUND = (EXAMPLES / "exports" / "dhdn_boundcrs.wkt").read_text(encoding="utf-8")
+# PROJ's strings of EPSG:3139, 3993 and 6266.
+STRINGS = [
+    "+proj=cass +hyperbolic +lat_0=-16.25 +lon_0=179.3333 +x_0=251727.9 +y_0=334519.9 +a=6378306.3696 +b=6356571.996 +units=link",
+    "+proj=aeqd +guam +lat_0=13.4724663527778 +lon_0=144.748750705556 +x_0=50000 +y_0=50000 +ellps=clrk66",
+    "+proj=col_urban +lat_0=5.69424766111111 +lon_0=-76.6507538583333 +x_0=1047273.617 +y_0=1121443.09 +h_0=44 +ellps=GRS80",
+]
 # Texts of several tools, all of whose parts count.
-WHOLE = [WEB, ESRI_WEB, ESRI_RD, ESRI_POLE, ESRI_HEIGHT, f"{ESRI_RD},{ESRI_HEIGHT}", PARIS, KROVAK, GEOTOOLS, SATELLITE]
+WHOLE = [
+    *(WEB, ESRI_WEB, ESRI_RD, ESRI_POLE, ESRI_HEIGHT, f"{ESRI_RD},{ESRI_HEIGHT}", PARIS, KROVAK, GEOTOOLS, SATELLITE),
+    *STRINGS,
+]
 ALTERED = [WEB, f"{ESRI_RD},{ESRI_HEIGHT}", PARIS]
 # What is put where in a text, and the part that has no effect then.
 PASSED_OVER = {
@@ -116,6 +125,7 @@ PASSED_OVER = {
             "+datum=WGS84 +ellps=GRS80": "+ellps=GRS80",
             "+ellps=bessel +towgs84=1,2,3 +nadgrids=a.gsb": "+towgs84=1,2,3",
             "+datum=WGS84 +geoidgrids=a.gtx +vunits=us-ft +vto_meter=1": "+vto_meter=1",
+            "+ellps=bessel +units=us-ft": "+units=us-ft",
         }.items()
     },
 }

@@ -51,10 +51,10 @@ LEAST = 1e-99
 # The keys of a PROJ string that says a CRS: PROJ passes others over.
 KEYS = frozenset(
     (
-        "R R_A R_C R_V R_a R_g R_h R_lat_a R_lat_g M W a alpha axis azi b czech datum e ellps es f gamma geoid_crs geoidgrids h "
-        "ip k k_0 lat_0 lat_1 lat_2 lat_3 lat_b lat_t lat_ts lon_0 lon_1 lon_2 lon_3 lonc m n nadgrids no_cut no_defs no_off "
+        "R R_A R_C R_V R_a R_g R_h R_lat_a R_lat_g M W a alpha axis azi b czech datum e ellps es f gamma geoid_crs geoidgrids "
+        "guam h h_0 hyperbolic ip k k_0 lat_0 lat_1 lat_2 lat_3 lat_b lat_t lat_ts lon_0 lon_1 lon_2 lon_3 lonc m n nadgrids no_cut no_defs no_off "
         "no_rot no_uoff ns o_alpha o_lat_1 o_lat_2 o_lat_c o_lat_p o_lon_1 o_lon_2 o_lon_c o_lon_p o_proj over path pm proj q rf "
-        "s south sweep sym theta tilt title to_meter towgs84 type units vto_meter vunits wktext x_0 y_0 zone approx algo "
+        "s shape south sweep sym theta tilt title to_meter towgs84 type units vto_meter vunits wktext x_0 y_0 zone approx algo "
         "lsat plat_0 plon_0 ph0_ nlat rlat lat_c lon_c"
     ).split()
 )
@@ -72,6 +72,17 @@ DEFAULTS = {
 }
 ZERO = frozenset("x_0 y_0 z_0 lat_0 lon_0 lat_1 lat_2 lat_ts lonc alpha gamma h_0".split())
 ONE = frozenset(("k", "k_0"))
+# Values of keys that PROJ has a list for: it reads no string with another.
+NAMES = {
+    "datum": ("NAD27", "WGS84"),
+    "ellps": ("bessel", "intl"),
+    "units": ("km", "m"),
+    "vunits": ("km", "m"),
+    "pm": ("paris", "lisbon"),
+    "axis": ("wsu", "neu"),
+    "shape": ("square", "diamond"),
+    "sweep": ("x", "y"),
+}
 # Keys of one thing, of which PROJ takes one.
 TWINS = (("k", "k_0"), ("units", "to_meter"), ("vunits", "vto_meter"))
 # What says an ellipsoid, of which one may follow from others.
@@ -302,7 +313,7 @@ def check_words(text: str, written: str, answer: Answer) -> None:
     def has_effect(number: int, word: str) -> bool:
         before, after = words[:number], words[number + 1 :]
         # Where another word says the same, as +lat_1 does with +lat_0, another value still makes a difference.
-        others = others_than(word, DIGITS_OF_WORDS) if "=" in word else ()
+        others = other_words(word) if "=" in word else []
         return (
             told(before + after) != whole or all(told([*before, it, *after]) != whole for it in others) and bool(others)
         )
@@ -316,6 +327,13 @@ def check_words(text: str, written: str, answer: Answer) -> None:
             counts = is_default(word, words) or has_effect(number, word)
         if not counts:
             raise NotRead(without_effect(word, found.start()))
+
+
+def other_words(word: str) -> List[str]:
+    """A word with other values, that PROJ knows where the key has such."""
+    key, _, value = word.partition("=")
+    known = [f"{key}={it}" for it in NAMES.get(key_of(word), ()) if it != value]
+    return known[:1] or others_than(word, DIGITS_OF_WORDS)
 
 
 def has_own_size(
