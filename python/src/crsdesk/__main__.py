@@ -267,11 +267,11 @@ def run_group(run: Run, asked: argparse.Namespace) -> None:
 def run_fill(run: Run, asked: argparse.Namespace) -> None:
     from . import sql
 
-    for number, row in enumerate(lines_of(sys.stdin.buffer), 1):
+    for place, row in run.lines("-"):
         try:
             key, text = sql.columns_of(row)
         except ValueError as error:
-            run.tell(f"crsdesk: row {number}: {error}")
+            run.tell(f"crsdesk: row {place.number}: {error}")
             run.ends(FAULT)
             return
         try:
