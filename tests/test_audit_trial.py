@@ -510,12 +510,13 @@ def tell_equal(archive: Archive) -> Iterator[Tuple[str, bool]]:
     forms = collections.Counter(pathlib.Path(path).parent.name for path, _ in archive.meant)
     print(f"{len(archive.meant)} texts: {', '.join(f'{form} {count}' for form, count in forms.items())}")
     pairs, data = None, None
-    for name, words in (
+    steps: List[Tuple[str, List[str]]] = [
         ("--convert", []),
         (f"and {SHIPPED[0]}", rules[:2]),
         (f"and {SHIPPED[1]}", rules),
         ("and --source-of-bound", [*rules, "--source-of-bound"]),
-    ):
+    ]
+    for name, words in steps:
         data = audited(archive.folder, "--convert", *words)
         pairs = pairs_in(groups_of(data), archive)
         print(f"{name}: {pairs}; {len(data['definitions'])} groups, {data['summary']['refused']} refused")
@@ -541,13 +542,13 @@ def causes_apart(data: Dict[str, Any], archive: Archive) -> Counter[Tuple[str, s
     for places in by_meaning.values():
         sizes = collections.Counter(texts[it]["number"] if it in texts else 0 for it in places)
         for pair in itertools.combinations(places, 2):
-            groups = [texts.get(it) for it in pair]
-            numbers = [it["number"] if it else 0 for it in groups]
+            first, second = (texts.get(it) for it in pair)
+            numbers = [it["number"] if it else 0 for it in (first, second)]
             if numbers[0] == numbers[1] != 0:
                 continue
             smaller = min((0, 1), key=lambda it: (numbers[it] != 0, sizes[numbers[it]]))
             form = pathlib.Path(pair[smaller][0]).parent.name
-            found[form, parts_told(*groups) if groups[0] and groups[1] else "refused"] += 1
+            found[form, parts_told(first, second) if first and second else "refused"] += 1
     return found
 
 
