@@ -322,8 +322,10 @@ def test_fits_a_phone() -> None:
         driver.execute_cdp_cmd("Emulation.setDeviceMetricsOverride", metrics)
         opened(driver, page_of_archive())
         assert driver.execute_script("return [innerWidth, document.documentElement.scrollWidth]") == [390, 390]
-        widths = driver.execute_script("return [...document.querySelectorAll('caption')].map(it => it.offsetWidth)")
-        assert widths and all(it == 0 or it > 200 for it in widths), widths
+        widths = driver.execute_script(
+            "return [...document.querySelectorAll('.parts caption')].map(it => it.offsetWidth)"
+        )
+        assert widths and all(it > 300 for it in widths), widths
         (cell,) = all_of(driver, ".parts tbody td")[:1]
         assert cell.size["width"] > 300
 
