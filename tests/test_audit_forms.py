@@ -272,6 +272,30 @@ def text_of_code(code: int, form: str) -> str:
     return str(reference_of(code).ExportToWkt([f"FORMAT={form}", "MULTILINE=NO"]))
 
 
+@pytest.mark.needs("python3:osgeo")
+def test_a_geotiff_has_the_flattening_of_its_code() -> None:
+    """GDAL reckons it anew, in another last digit. Another flattening beside the code stays as it is, or GDAL warns of it."""
+    from osgeo import osr
+
+    place = written("flattening", {"dhdn.wkt": text_of_code(4314, "WKT2_2019")})
+    make_raster(place / "dhdn.tif", "GTiff", reference_of(4314), (1, 0.1, 0, 2, 0, -0.1))
+    for name, number in (("near", "299.15281281"), ("far", "299.15")):
+        other = osr.SpatialReference()
+        other.ImportFromWkt(text_of_code(4314, "WKT2_2019").replace("299.1528128", number))
+        make_raster(place / f"{name}.tif", "GTiff", other, (1, 0.1, 0, 2, 0, -0.1))
+    _, _, data = data_of(place)
+    groups = [sorted(os.path.basename(place["file"]) for place in places_of(it)) for it in data["definitions"]]
+    numbers = [re.findall(r'ELLIPSOID\["[^"]*",[^,]*,([0-9.]*)', it["text"]) for it in data["definitions"]]
+    assert groups == [["dhdn.tif", "dhdn.wkt"], ["near.tif"]] and numbers[0] == ["299.1528128"], (groups, numbers)
+    assert numbers[1][0].startswith("299.1528128") and float(numbers[1][0]) > 299.152812809, numbers
+    (unread,) = data["unread"]
+    assert unread["place"]["file"].endswith("far.tif") and "EPSG:4314" in unread["why"], unread
+
+
+def places_of(definition: Any) -> List[Any]:
+    return [place for variant in definition["variants"] for place in variant["places"]]
+
+
 @by_proj
 def test_no_sound_data_set_disagrees() -> None:
     """With and without rules, but for what MapInfo's format can't say: units of degrees, false eastings, a scale."""

@@ -10,6 +10,7 @@ import contextlib
 import enum
 import errno
 import os
+import re
 import shutil
 import sqlite3
 import stat
@@ -36,6 +37,10 @@ MOST_CHARACTERS = 1000
 # The most bytes of a database with a log that is copied.
 MOST_COPIED = 1 << 30
 DATABASE = b"SQLite format 3\0"
+# The flattening of an ellipsoid, how many characters one has that GDAL reckons, and by what part of it that is off.
+FLATTENING = re.compile(rb'(ELLIPSOID\["(?:[^"]|"")*",[^,\]]+,)([0-9.]+)')
+RECKONED = 15
+LAST_DIGITS = 1e-13
 # The flag of a zip's member that has a password.
 ENCRYPTED = 1
 
@@ -333,7 +338,27 @@ def found_by_gdal(gdal: Any, path: str, member: str, names: Tuple[str, ...]) -> 
     doubts = [word for word in words if OF_CRS.search(word)]
     if suffix_of(path) == ".geojson":
         doubts = unknown_in_geojson(gdal, path) or doubts
-    yield from layers_of_data_set(gdal, data_set, path, member, doubts)
+    for found in layers_of_data_set(gdal, data_set, path, member, doubts):
+        is_reckoned = isinstance(found, Text) and data_set.GetDriver().ShortName == "GTiff"
+        yield with_flattening(gdal, path, found) if is_reckoned else found
+
+
+def with_flattening(gdal: Any, path: str, found: Text) -> Text:
+    """What a GeoTIFF states, with the flattening of its code in place of the one that GDAL reckons by the minor axis, and
+    whose last digits aren't the file's. Where the two differ in more than these digits it is as it was."""
+    number = FLATTENING.search(found.text)
+    if number is None or len(number[2]) < RECKONED:
+        return found
+    gdal.SetThreadLocalConfigOption("GTIFF_SRS_SOURCE", "EPSG")
+    try:
+        other = reference_found(raster_reference(gdal.OpenEx(path, gdal.OF_RASTER)), found.layer, [])
+    finally:
+        gdal.SetThreadLocalConfigOption("GTIFF_SRS_SOURCE", None)
+    its = FLATTENING.search(other.text) if isinstance(other, Text) else None
+    if its is None or not isinstance(other, Text):
+        return found
+    is_near = abs(float(number[2]) - float(its[2])) <= LAST_DIGITS * float(its[2])
+    return other if is_near and FLATTENING.sub(rb"\1", other.text) == FLATTENING.sub(rb"\1", found.text) else found
 
 
 def told_by_gdal(error: RuntimeError, path: str) -> str:
