@@ -338,16 +338,16 @@ def found_by_gdal(gdal: Any, path: str, member: str, names: Tuple[str, ...]) -> 
     doubts = [word for word in words if OF_CRS.search(word)]
     if suffix_of(path) == ".geojson":
         doubts = unknown_in_geojson(gdal, path) or doubts
+    is_geotiff = data_set.GetDriver().ShortName == "GTiff"
     for found in layers_of_data_set(gdal, data_set, path, member, doubts):
-        is_reckoned = isinstance(found, Text) and data_set.GetDriver().ShortName == "GTiff"
-        yield with_flattening(gdal, path, found) if is_reckoned else found
+        yield with_flattening(gdal, path, found) if is_geotiff else found
 
 
-def with_flattening(gdal: Any, path: str, found: Text) -> Text:
+def with_flattening(gdal: Any, path: str, found: Found) -> Found:
     """What a GeoTIFF states, with the flattening of its code in place of the one that GDAL reckons by the minor axis, and
     whose last digits aren't the file's. Where the two differ in more than these digits it is as it was."""
-    number = FLATTENING.search(found.text)
-    if number is None or len(number[2]) < RECKONED:
+    number = FLATTENING.search(found.text) if isinstance(found, Text) else None
+    if not isinstance(found, Text) or number is None or len(number[2]) < RECKONED:
         return found
     gdal.SetThreadLocalConfigOption("GTIFF_SRS_SOURCE", "EPSG")
     try:
