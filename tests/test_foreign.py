@@ -199,11 +199,14 @@ def other_forms() -> None:
         assert refusal_of(text, Crs.from_user).proj is None, text
     latin = GEOGRAPHIC.replace('"G"', '"\xe9"').encode("latin-1")
     assert refusal_of(latin, Crs.from_user).proj == "PROJ doesn't read it either: byte 0xe9 at 8 isn't UTF-8"
-    # The library judges what PROJ writes: of EPSG:5800 that is an engineering CRS.
-    refused = refusal_of("EPSG:5800", Crs.from_user)
-    assert (
-        refused.proj == f"{read_by} wrote this text of a code" and refused.text and refused.text.startswith(b"ENGCRS[")
-    )
+    # The library judges what PROJ writes.
+    axes = [
+        f'{{"name":"{name}","abbreviation":"","direction":"{to}","unit":"metre"}}'
+        for name, to in (("X", "east"), ("Y", "north"))
+    ]
+    system = f'"coordinate_system":{{"subtype":"Cartesian","axis":[{",".join(axes)}]}}'
+    refused = refusal_of(f'{{"type":"EngineeringCRS","name":"L","datum":{{"name":"D"}},{system}}}', Crs.from_user)
+    assert refused.proj == f"{read_by} wrote this text of PROJJSON" and refused.text and refused.text[:7] == b"ENGCRS["
     assert Crs.from_user("EPSG:28992") == Crs.from_file(EXAMPLES / "exports" / "rd_projinfo_2019.wkt")
 
 
