@@ -33,4 +33,8 @@ __all__ = [
     "differences",
     "same",
 ]
+# Tracebacks and help have the names that are imported.
+for _public in (Catalogue, Crs, Difference, Group, Refused, Rules, RulesRefused):
+    _public.__module__ = __name__
+del _public
 __version__ = version()
