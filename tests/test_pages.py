@@ -1,0 +1,38 @@
+"""The pages that are in plain English: at most so many words by hand each, and none of the habits that pages.py lists."""
+import re
+
+import pages
+import pytest
+
+# The most words of each page that holds them.
+MOST = {
+    "CONVERTING": 650,
+    "DECISIONS": 2300,
+    "DEFINITIONS": 0,
+    "REFUSALS": 1450,
+    "THEOREMS": 900,
+}
+PATHS = {path.stem: path for path in pages.PAGES}
+# How often "where" may stand in all of them: as "if" it is a habit, which no pattern tells from a place.
+MOST_WHERE = 40
+
+
+@pytest.mark.parametrize("name", MOST)
+def test_words(name: str) -> None:
+    assert pages.words_of(PATHS[name]) <= MOST[name]
+
+
+@pytest.mark.parametrize("habit", pages.HABITS)
+@pytest.mark.parametrize("name", MOST)
+def test_habit(name: str, habit: str) -> None:
+    assert not pages.found_in(PATHS[name], habit), f"better: {pages.HABITS[habit][1]}"
+
+
+def test_where() -> None:
+    assert sum(len(re.findall(r"\bwhere\b", pages.prose_of(PATHS[name]), re.I)) for name in MOST) <= MOST_WHERE
+
+
+@pytest.mark.parametrize("habit", pages.HABITS)
+def test_pattern(habit: str) -> None:
+    """A pattern finds what it is for."""
+    assert re.search(pages.HABITS[habit][0], pages.EXAMPLES[habit], re.I)
