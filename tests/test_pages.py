@@ -8,6 +8,8 @@ import pytest
 MOST = {
     "ARCHITECTURE": 600,
     "BENCHMARKS": 350,
+    "CALLING": 600,
+    "CHANGING": 1300,
     "CONVERTING": 650,
     "DECISIONS": 2300,
     "DEFINITIONS": 0,
