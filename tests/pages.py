@@ -34,7 +34,7 @@ HABITS = {
         "the present state",
     ),
     "clauses": (r"(?<!\.)\.\.(?!\.)|, as (?=[`\"])|\.\.\.\)", "whole clauses; such as, and ..."),
-    "phrases": (r"\b(near enough|yours to say|foretold|the other way round|wants?)\b", "plain words"),
+    "phrases": (r"\b(near enough|yours to say|foretold|the other way round|want of)\b", "plain words"),
 }
 # A sentence that shows each.
 EXAMPLES = {

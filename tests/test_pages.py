@@ -12,14 +12,18 @@ MOST = {
     "CANONICAL": 700,
     "CATALOGUES": 1250,
     "CHANGING": 1300,
+    "COMPARISON": 1000,
     "CONVERTING": 650,
     "DECISIONS": 2300,
     "DEFINITIONS": 0,
+    "FAQ": 900,
+    "GLOSSARY": 450,
     "GRAMMAR": 1250,
     "REFUSALS": 1450,
     "SAMENESS": 1250,
     "SPEED": 450,
     "THEOREMS": 900,
+    "TUTORIAL": 650,
 }
 PATHS = {path.stem: path for path in pages.PAGES}
 # How often "where" may stand in all of them: as "if" it is a habit, which no pattern tells from a place.
