@@ -1,7 +1,9 @@
 """The commands, sessions, code and links that documents show (documents.py)."""
 from __future__ import annotations
 
+import html
 import pathlib
+import re
 import sys
 from typing import Tuple
 
@@ -52,6 +54,16 @@ def test_session(path: pathlib.Path, library: pathlib.Path) -> None:
 def test_code(block: Block) -> None:
     files = [ROOT / block.head.partition(" of=")[2]] if " of=" in block.head else list(EXAMPLES.rglob("*.rt"))
     assert any(block.text in file.read_text(encoding="utf-8") for file in files)
+
+
+def test_picture(program: pathlib.Path) -> None:
+    """The lines of docs/explain.svg are what the command in it prints."""
+    text = (ROOT / "docs" / "explain.svg").read_text(encoding="utf-8")
+    (command,) = re.findall(r'class="command".*>\$ (.*)</text>', text)
+    block = Block(ROOT / "docs" / "explain.svg", 1, "console", [f"$ {html.unescape(command)}"])
+    lines = [html.unescape(it) for it in re.findall(r'class="out".*?>(.*)</text>', text)]
+    words = html.unescape(command).replace(" crsdesk ", " ./crsdesk ")
+    assert printed(Command(block, 1, words, "")).splitlines() == lines
 
 
 @pytest.mark.parametrize("link", LINKS, ids=lambda it: f"{it[0].name}-{it[1]}")
