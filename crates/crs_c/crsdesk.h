@@ -10,9 +10,9 @@
    be UTF-8, are only read, and may be as long as memory allows.
 
    ANSWERS go to places that the caller gives. A text that is answered goes into a buffer of the caller's, `out`, which
-   has room for `room` bytes, and its number of bytes into `*length`; no NUL byte is written after it. Where it has
-   more bytes than there is room, the call answers CRSDESK_NO_ROOM, writes nothing into the buffer, and `*length` is the
-   room that is needed: make it and call again. Several texts are PIECES: their bytes go into `out`, one after the other,
+   has room for `room` bytes, and its number of bytes into `*length`; no NUL byte is written after it. If it has more
+   bytes than there is room, the call returns CRSDESK_NO_ROOM, and `*length` is the room that is needed: make it and call
+   again. The buffer is then as before, unless the call says otherwise. Several texts are PIECES: their bytes go into `out`, one after the other,
    and where each ends into `ends`, an array with room for `most` numbers; the first begins at 0, each other where the one
    before ends, and `*count` is how many they are. Nothing that a call answers must be freed. Catalogues and rules alone
    hold memory, until crsdesk_catalogue_free and crsdesk_rules_free.
@@ -77,8 +77,8 @@ extern "C" {
 #define CRSDESK_COMPOUND 5 /* horizontal and vertical */
 
 /* Why a text spells no CRS. Profile.
-   number: 1 to 8 a fault of the text, 11 to 13 of its shape, 21 to 29 of its values; crsdesk_refusal_name has its name.
-   place: where the fault is, in bytes from the text's first, which is 0; at most the text's length. */
+   number: 1 to 8 of the text, 11 to 13 of its shape, 21 to 29 of its values; crsdesk_refusal_name has its name.
+   place: in bytes from the text's first, which is 0; at most the text's length. */
 struct crsdesk_refusal {
     size_t place;
     uint32_t number;
