@@ -23,7 +23,7 @@ HABITS = {
     "the noun": (r"\b(that of|those of|of which)\b", "repeat the noun"),
     "by": (r"\bby definition\b(?! \()", "at level `definition`"),
     "verbs": (
-        r"\b(takes in|stands in|stands at|hands? (on|over)|is answered|are answered)\b",
+        r"\b(takes in|stands in|stands at|hands? (on|over)|is answered|are answered|stands|tells)\b",
         "prints, returns, contains",
     ),
     "rates": (r"\b(texts?|lines?|objects?|pieces?|groups?|one|rows?) an? (line|text|page|row)\b", "one text per line"),
