@@ -1,5 +1,5 @@
 -- The order that the axes of a CRS have in its form under rules.
-use Rattle.std.specs.Prelude.{◌≡◌, ℕ, List, [], map, if◌then◌else◌}
+use Rattle.std.specs.Prelude.{◌≡◌, ℕ, List, map, if◌then◌else◌}
 use Rattle.crs_value.specs.CompoundValues.{CompoundParts}
 use Rattle.crs_value.specs.CrsValues.{GeodeticParts, ProjectedParts, VerticalParts}
 use Rattle.crs_value.specs.Spells.{Spells}

@@ -1,4 +1,3 @@
-use Rattle.std.proofs.Common.{ap, map, ◌∙◌}
 use Rattle.crs_value.specs.declared.values.level.Level.TheVariants as levels
 use Rattle.crs_normal.specs.inner.Prelude.{axis_text}
 use Rattle.crs_rules.specs.Rewritten.{axis}
