@@ -26,8 +26,8 @@ MOST = {
     "TUTORIAL": 650,
 }
 PATHS = {path.stem: path for path in pages.PAGES}
-# These, and the manual page.
-PROSE = {**{name: PATHS[name] for name in MOST}, "crsdesk.1": pages.ROOT / "man" / "crsdesk.1"}
+# These, and the manual pages.
+PROSE = {name: PATHS[name] for name in MOST} | {it: pages.ROOT / "man" / it for it in ("crsdesk.1", "crsdesk.3")}
 # How often "where" may stand in all of them: as "if" it is a habit, which no pattern tells from a place.
 MOST_WHERE = 40
 
