@@ -2,7 +2,6 @@
 use crate::answer::Answer;
 use crate::row::Row;
 use crate::texts::agree;
-use crate::written::Large;
 use crs_canon::{Canon, Canonical, Set, canon, canon_of};
 use crs_same::parts::same_axis;
 use crs_same::{Path, first_part, same};
@@ -79,7 +78,7 @@ fn spells(crs: &Crs<'_>, alloc: Global, text: &Canon) -> Result<bool, AllocError
     let level = text.level();
     let own = canon_of(alloc, crs, level)?;
     let mut appended = Vec::from_slice(alloc, b"x")?;
-    crs.append(alloc, level, &mut appended)?;
+    crs.write(alloc, level, &mut appended)?;
     let is_appended = matches!(appended.as_slice(), [b'x', own @ ..] if own == text.bytes());
     Ok(own.level() == level && own.same(text) && is_appended)
 }
@@ -112,8 +111,8 @@ pub fn append_part(crs: &Crs<'_>, part: &str, level: Level, out: &mut Vec<u8>) -
 }
 
 fn append_whole(crs: &Crs<'_>, level: Level, out: &mut Vec<u8>) -> Appended {
-    let written = crs.append(*out.allocator(), level, out);
-    Some(written.and(Ok(crs.is_itself(level))))
+    let written = crs.write(*out.allocator(), level, out);
+    Some(written.and(Ok(crs.same(crs, level) && same(crs, crs, level))))
 }
 
 fn append_of(crs: &Vertical<'_>, part: &str, level: Level, out: &mut Vec<u8>) -> Appended {

@@ -1,48 +1,40 @@
 //! Values taken apart, field by field, and written with first keywords, plain numbers and no white space.
 
-// Takes a value apart by a pattern of all its fields, and puts each, in the way that is named behind it where one is.
+// Takes a value apart by a pattern of all its fields, and puts each in the way that is named behind it.
 macro_rules! put_fields {
-    ($value:ident, $out:ident => $kind:ident { $($field:ident $(: $how:ident $(($word:literal))?)?),+ }) => {
+    ($value:ident, $out:ident => $kind:ident { $($field:ident: $how:ident $(($($more:tt)+))?),+ }) => {
         let $kind { $($field),+ } = $value;
-        $(put_field!($out, $field $(, $how $(($word))?)?);)+
-    };
-}
-
-// Takes each node apart so, with a keyword that may depend on a field, and looks at it by itself.
-macro_rules! nodes {
-    ($($look:ident $($same:ident)?: $keyword:expr => $kind:ident { $($field:ident $(: $how:ident $(($word:literal))?)?),+ })+) => {$(
-        impl Written for $kind<'_> {
-            fn put(&self, out: &mut Text) {
-                let $kind { $($field),+ } = self;
-                out.open($keyword);
-                $(put_field!(out, $field $(, $how $(($word))?)?);)+
-                out.close();
-                $look!(self, out $(, $same)?);
-            }
-        }
-    )+};
-}
-
-macro_rules! look_as {
-    ($value:ident, $out:ident, $same:ident) => { look($value, $out, parts::$same($value, $value, Level::Full)) };
-}
-
-macro_rules! look_at {
-    ($value:ident, $out:ident) => {
-        let alloc = $out.out.alloc();
-        let written = $value.append(alloc, Level::Full, $out.own());
-        $out.look(written, $value.is_itself(Level::Full));
+        $(put_field!($out, $field, $how $(($($more)+))?);)+
     };
 }
 
 macro_rules! put_field {
-    ($out:ident, $field:ident) => { $field.put($out) };
     ($out:ident, $field:ident, in_keyword) => {};
     ($out:ident, $field:ident, as_word) => { $out.word($field.word().as_bytes()) };
-    ($out:ident, $field:ident, optional_code) => { if let Some(code) = $field { $out.code(code); } };
-    ($out:ident, $field:ident, optional_parts) => { if let Some(parts) = $field { $out.parts(parts); } };
+    ($out:ident, $field:ident, optional($($how:tt)+)) => { if let Some(part) = $field { put_field!($out, part, $($how)+); } };
+    ($out:ident, $field:ident, each($how:ident)) => { for part in $field.as_slice() { $out.$how(part); } };
+    ($out:ident, $field:ident, node($word:literal, $how:ident)) => { $out.open($word); $out.$how($field); $out.close(); };
     ($out:ident, $field:ident, $how:ident) => { $out.$how($field) };
-    ($out:ident, $field:ident, $how:ident ($word:literal)) => { $out.$how($word, $field) };
+}
+
+// Takes a node apart so, with a keyword that may depend on a field, and looks at it by itself.
+macro_rules! put_node {
+    ($node:ident, $out:ident, $same:ident, $keyword:expr => $kind:ident { $($field:ident: $how:ident $(($($more:tt)+))?),+ }) => {
+        let $kind { $($field),+ } = $node;
+        $out.open($keyword);
+        $(put_field!($out, $field, $how $(($($more)+))?);)+
+        $out.close();
+        look_at!($node, $out, parts::$same);
+    };
+}
+
+// Looks whether a node is the same as itself, and appends what was just put of it.
+macro_rules! look_at {
+    ($node:ident, $out:ident, $same:path) => {
+        let alloc = $out.out.alloc();
+        let written = $node.write(alloc, Level::Full, $out.own());
+        $out.look(written, $node.same($node, Level::Full) && $same($node, $node, Level::Full));
+    };
 }
 
 use crate::answer::Answer;
@@ -57,13 +49,7 @@ use crs_value::{
     List, Member, Meridian, Method, Parameter, Projected, System, SystemType, Tail, Unit, UnitKind,
     Usage, Vertical, read,
 };
-use std::alloc::{AllocError, Global};
-
-/// A value that is taken apart by a pattern of all its fields or variants.
-pub trait Written {
-    /// Appends the value's text.
-    fn put(&self, out: &mut Text);
-}
+use std::alloc::AllocError;
 
 /// The CRS of a text, taken apart and written. Of one that is `canonical` each node is looked at by itself, too: `another`
 /// is put behind one that isn't the same as itself, or that appends another text than how it stands.
@@ -75,7 +61,7 @@ pub fn put_whole(out: &mut Answer, row: &Row<'_>, how: &str) {
         own: Vec::new(out.alloc()),
     };
     match read(out.alloc(), row.text()) {
-        Ok(crs) => crs.put(&mut text),
+        Ok(crs) => text.crs(&crs),
         Err(fault) => return out.put_fault(fault),
     }
     match text.out.bytes() {
@@ -84,55 +70,15 @@ pub fn put_whole(out: &mut Answer, row: &Row<'_>, how: &str) {
     }
 }
 
-/// A text that is written part by part, with a comma before each part but the first one of a node.
+// A text that is written part by part, with a comma before each part but the first one of a node.
 #[derive(Drop)]
-pub struct Text {
+struct Text {
     out: Answer,
     // whether the next part is the first one of its node
     is_first: bool,
     is_canonical: bool,
     // what a node that is looked at appends by itself
     own: Vec<u8>,
-}
-
-// Looks whether a node is the same as itself, and appends what was just put of it.
-fn look<T: Canonical>(node: &T, out: &mut Text, is_same: bool) {
-    let alloc = out.out.alloc();
-    let written = node.write(alloc, Level::Full, out.own());
-    out.look(written, is_same && node.same(node, Level::Full));
-}
-
-/// A node with a CRS in it, at which functions of its own look: a call of `look` with one takes the prover long.
-pub trait Large {
-    /// Appends what the node appends by itself.
-    fn append(&self, alloc: Global, level: Level, out: &mut Vec<u8>) -> Result<(), AllocError>;
-
-    /// Whether the node is the same as itself.
-    fn is_itself(&self, level: Level) -> bool;
-}
-
-macro_rules! large_nodes {
-    ($($kind:ident by $same:path;)+) => {$(
-        impl Large for $kind<'_> {
-            fn append(&self, alloc: Global, level: Level, out: &mut Vec<u8>) -> Result<(), AllocError> {
-                self.write(alloc, level, out)
-            }
-
-            fn is_itself(&self, level: Level) -> bool {
-                self.same(self, level) && $same(self, self, level)
-            }
-        }
-    )+};
-}
-
-large_nodes! {
-    Crs by same;
-    Geodetic by parts::same_geodetic;
-    Projected by parts::same_projected;
-    Vertical by parts::same_vertical;
-    Compound by parts::same_compound;
-    Horizontal by parts::same_horizontal;
-    Base by parts::same_base;
 }
 
 impl Text {
@@ -170,28 +116,16 @@ impl Text {
         self.is_first = false;
     }
 
-    // A node that holds this alone.
-    fn node<T: Written>(&mut self, keyword: &str, part: &T) {
-        self.open(keyword);
-        part.put(self);
-        self.close();
+    // A text, in quotes.
+    fn text(&mut self, text: &[u8]) {
+        self.word(b"\"");
+        self.out.put_bytes(text);
+        self.out.put("\"");
     }
 
-    // The same, where there is something to hold.
-    fn optional_node<T: Written>(&mut self, keyword: &str, part: &Option<T>) {
-        if let Some(part) = part {
-            self.node(keyword, part);
-        }
-    }
-
-    fn parts(&mut self, usage: &Usage<'_>) {
-        put_fields!(usage, self => Usage { scope: optional_node("SCOPE"), area: optional_node("AREA"), bbox, extent });
-    }
-
-    // The identifiers of a node that ends with them.
-    fn to_end(&mut self, identifiers: &List<Ident<'_>>) {
-        identifiers.put(self);
-        self.close();
+    fn number(&mut self, number: &Decimal) {
+        self.word(b"");
+        put_spelled(&mut self.out, number, "", b"");
     }
 
     // A code without quotes where it has digits alone.
@@ -199,8 +133,196 @@ impl Text {
         if has_digits_alone(code) {
             self.word(code);
         } else {
-            code.put(self);
+            self.text(code);
         }
+    }
+
+    fn crs(&mut self, node: &Crs<'_>) {
+        match node {
+            Crs::Geodetic(part) => self.geodetic(part),
+            Crs::Projected(part) => self.projected(part),
+            Crs::Vertical(part) => self.vertical(part),
+            Crs::Compound(part) => self.compound(part),
+        }
+        look_at!(node, self, same);
+    }
+
+    fn geodetic(&mut self, node: &Geodetic<'_>) {
+        put_node!(node, self, same_geodetic, match system.system_type { SystemType::Ellipsoidal => "GEOGCRS", _ => "GEODCRS" } => Geodetic {
+            name: text, dynamic: optional(dynamic), frame: frame, meridian: optional(meridian), system: system, tail: tail
+        });
+    }
+
+    fn projected(&mut self, node: &Projected<'_>) {
+        put_node!(node, self, same_projected, "PROJCRS" => Projected {
+            name: text, base: base, conversion: conversion, system: system, tail: tail
+        });
+    }
+
+    fn base(&mut self, node: &Base<'_>) {
+        put_node!(node, self, same_base, "BASEGEOGCRS" => Base {
+            name: text, dynamic: optional(dynamic), frame: frame, meridian: optional(meridian), unit: optional(unit), identifiers: each(ident)
+        });
+    }
+
+    fn vertical(&mut self, node: &Vertical<'_>) {
+        put_node!(node, self, same_vertical, "VERTCRS" => Vertical {
+            name: text, dynamic: optional(dynamic), frame: frame, system: system, geoid_models: each(geoid_model), tail: tail
+        });
+    }
+
+    fn compound(&mut self, node: &Compound<'_>) {
+        put_node!(node, self, same_compound, "COMPOUNDCRS" => Compound {
+            name: text, horizontal: horizontal, vertical: vertical, tail: tail
+        });
+    }
+
+    fn horizontal(&mut self, node: &Horizontal<'_>) {
+        match node {
+            Horizontal::Geodetic(part) => self.geodetic(part),
+            Horizontal::Projected(part) => self.projected(part),
+        }
+        look_at!(node, self, parts::same_horizontal);
+    }
+
+    fn frame(&mut self, node: &Frame<'_>) {
+        match node {
+            Frame::Datum(part) => self.datum(part),
+            Frame::Ensemble(part) => self.ensemble(part),
+        }
+        look_at!(node, self, parts::same_frame);
+    }
+
+    fn datum(&mut self, node: &Datum<'_>) {
+        put_node!(node, self, same_datum, match ellipsoid { Some(_) => "DATUM", None => "VDATUM" } => Datum {
+            name: text, ellipsoid: optional(ellipsoid), anchor: optional(node("ANCHOR", text)),
+            anchor_epoch: optional(node("ANCHOREPOCH", number)), identifiers: each(ident)
+        });
+    }
+
+    fn ensemble(&mut self, node: &Ensemble<'_>) {
+        put_node!(node, self, same_ensemble, "ENSEMBLE" => Ensemble {
+            name: text, members: each(member), ellipsoid: optional(ellipsoid), accuracy: node("ENSEMBLEACCURACY", number),
+            identifiers: each(ident)
+        });
+    }
+
+    fn member(&mut self, node: &Member<'_>) {
+        put_node!(node, self, same_member, "MEMBER" => Member { name: text, identifiers: each(ident) });
+    }
+
+    fn ellipsoid(&mut self, node: &Ellipsoid<'_>) {
+        put_node!(node, self, same_ellipsoid, "ELLIPSOID" => Ellipsoid {
+            name: text, semi_major_axis: number, inverse_flattening: number, unit: optional(unit), identifiers: each(ident)
+        });
+    }
+
+    fn meridian(&mut self, node: &Meridian<'_>) {
+        put_node!(node, self, same_meridian, "PRIMEM" => Meridian {
+            name: text, longitude: number, unit: optional(unit), identifiers: each(ident)
+        });
+    }
+
+    fn dynamic(&mut self, node: &Dynamic<'_>) {
+        put_node!(node, self, same_dynamic, "DYNAMIC" => Dynamic {
+            epoch: node("FRAMEEPOCH", number), model: optional(model)
+        });
+    }
+
+    fn model(&mut self, node: &DeformationModel<'_>) {
+        put_node!(node, self, same_deformation_model, "MODEL" => DeformationModel {
+            name: text, identifiers: each(ident)
+        });
+    }
+
+    fn system(&mut self, node: &System<'_>) {
+        self.open("CS");
+        put_fields!(node, self => System {
+            system_type: as_word, dimension: number, identifiers: to_end, axes: each(axis), unit: optional(unit)
+        });
+    }
+
+    // The identifiers of a node that ends with them.
+    fn to_end(&mut self, identifiers: &List<Ident<'_>>) {
+        for ident in identifiers.as_slice() {
+            self.ident(ident);
+        }
+        self.close();
+    }
+
+    fn axis(&mut self, node: &Axis<'_>) {
+        put_node!(node, self, same_axis, "AXIS" => Axis {
+            name: text, direction: as_word, meridian: optional(axis_meridian), order: optional(node("ORDER", number)),
+            unit: optional(unit), identifiers: each(ident)
+        });
+    }
+
+    fn axis_meridian(&mut self, node: &AxisMeridian<'_>) {
+        put_node!(node, self, same_axis_meridian, "MERIDIAN" => AxisMeridian { longitude: number, unit: unit });
+    }
+
+    fn unit(&mut self, node: &Unit<'_>) {
+        put_node!(node, self, same_unit, unit_keyword(*kind) => Unit {
+            kind: in_keyword, name: text, factor: number, identifiers: each(ident)
+        });
+    }
+
+    fn conversion(&mut self, node: &Conversion<'_>) {
+        put_node!(node, self, same_conversion, "CONVERSION" => Conversion {
+            name: text, method: method, parameters: each(parameter), identifiers: each(ident)
+        });
+    }
+
+    fn method(&mut self, node: &Method<'_>) {
+        put_node!(node, self, same_method, "METHOD" => Method { name: text, identifiers: each(ident) });
+    }
+
+    fn parameter(&mut self, node: &Parameter<'_>) {
+        put_node!(node, self, same_parameter, "PARAMETER" => Parameter {
+            name: text, value: number, unit: optional(unit), identifiers: each(ident)
+        });
+    }
+
+    fn geoid_model(&mut self, node: &GeoidModel<'_>) {
+        put_node!(node, self, same_geoid_model, "GEOIDMODEL" => GeoidModel { name: text, identifiers: each(ident) });
+    }
+
+    fn ident(&mut self, node: &Ident<'_>) {
+        put_node!(node, self, same_ident, "ID" => Ident {
+            authority: text, code: code, version: optional(code), citation: optional(node("CITATION", text)),
+            uri: optional(node("URI", text))
+        });
+    }
+
+    fn tail(&mut self, node: &Tail<'_>) {
+        put_fields!(node, self => Tail {
+            bare_parts: optional(parts), usages: each(usage), identifiers: each(ident), remark: optional(node("REMARK", text))
+        });
+    }
+
+    fn parts(&mut self, node: &Usage<'_>) {
+        put_fields!(node, self => Usage {
+            scope: optional(node("SCOPE", text)), area: optional(node("AREA", text)), bbox: optional(bbox), extent: optional(extent)
+        });
+    }
+
+    fn usage(&mut self, node: &Usage<'_>) {
+        self.open("USAGE");
+        self.parts(node);
+        self.close();
+        look_at!(node, self, parts::same_usage);
+    }
+
+    fn bbox(&mut self, node: &BoundingBox) {
+        put_node!(node, self, same_box, "BBOX" => BoundingBox {
+            south: number, west: number, north: number, east: number
+        });
+    }
+
+    fn extent(&mut self, node: &Extent<'_>) {
+        put_node!(node, self, same_extent, "VERTICALEXTENT" => Extent {
+            minimum: number, maximum: number, unit: optional(unit)
+        });
     }
 }
 
@@ -213,141 +335,11 @@ fn has_digits_alone(code: &[u8]) -> bool {
     true
 }
 
-// A text, in quotes.
-impl Written for &[u8] {
-    fn put(&self, out: &mut Text) {
-        out.word(b"\"");
-        out.out.put_bytes(self);
-        out.out.put("\"");
-    }
-}
-
-impl Written for Decimal {
-    fn put(&self, out: &mut Text) {
-        out.word(b"");
-        put_spelled(&mut out.out, self, "", b"");
-    }
-}
-
-impl<T: Written> Written for List<T> {
-    fn put(&self, out: &mut Text) {
-        let members: &[T] = self.as_slice();
-        for member in members {
-            member.put(out);
-        }
-    }
-}
-
-impl<T: Written> Written for Option<T> {
-    fn put(&self, out: &mut Text) {
-        if let Some(part) = self {
-            part.put(out);
-        }
-    }
-}
-
-impl Written for Crs<'_> {
-    fn put(&self, out: &mut Text) {
-        match self {
-            Crs::Geodetic(crs) => crs.put(out),
-            Crs::Projected(crs) => crs.put(out),
-            Crs::Vertical(crs) => crs.put(out),
-            Crs::Compound(crs) => crs.put(out),
-        }
-        look_at!(self, out);
-    }
-}
-
-nodes! {
-    look_at: match system.system_type {
-        SystemType::Ellipsoidal => "GEOGCRS", _ => "GEODCRS" } => Geodetic { name, dynamic, frame, meridian, system, tail
-    }
-    look_at: "PROJCRS" => Projected { name, base, conversion, system, tail }
-    look_at: "BASEGEOGCRS" => Base { name, dynamic, frame, meridian, unit, identifiers }
-    look_at: "VERTCRS" => Vertical { name, dynamic, frame, system, geoid_models, tail }
-    look_at: "COMPOUNDCRS" => Compound { name, horizontal, vertical, tail }
-    look_as same_datum: match ellipsoid {
-        Some(_) => "DATUM", None => "VDATUM" } => Datum { name, ellipsoid, anchor: optional_node("ANCHOR"), anchor_epoch: optional_node("ANCHOREPOCH"), identifiers
-    }
-    look_as same_ensemble: "ENSEMBLE" => Ensemble {
-        name, members, ellipsoid, accuracy: node("ENSEMBLEACCURACY"), identifiers
-    }
-    look_as same_member: "MEMBER" => Member { name, identifiers }
-    look_as same_ellipsoid: "ELLIPSOID" => Ellipsoid { name, semi_major_axis, inverse_flattening, unit, identifiers }
-    look_as same_meridian: "PRIMEM" => Meridian { name, longitude, unit, identifiers }
-    look_as same_dynamic: "DYNAMIC" => Dynamic { epoch: node("FRAMEEPOCH"), model }
-    look_as same_deformation_model: "MODEL" => DeformationModel { name, identifiers }
-    look_as same_axis: "AXIS" => Axis {
-        name, direction: as_word, meridian, order: optional_node("ORDER"), unit, identifiers
-    }
-    look_as same_axis_meridian: "MERIDIAN" => AxisMeridian { longitude, unit }
-    look_as same_unit: unit_keyword(*kind) => Unit { kind: in_keyword, name, factor, identifiers }
-    look_as same_conversion: "CONVERSION" => Conversion { name, method, parameters, identifiers }
-    look_as same_method: "METHOD" => Method { name, identifiers }
-    look_as same_parameter: "PARAMETER" => Parameter { name, value, unit, identifiers }
-    look_as same_extent: "VERTICALEXTENT" => Extent { minimum, maximum, unit }
-    look_as same_geoid_model: "GEOIDMODEL" => GeoidModel { name, identifiers }
-    look_as same_ident: "ID" => Ident {
-        authority, code: code, version: optional_code, citation: optional_node("CITATION"), uri: optional_node("URI")
-    }
-}
-
-impl Written for Horizontal<'_> {
-    fn put(&self, out: &mut Text) {
-        match self {
-            Horizontal::Geodetic(crs) => crs.put(out),
-            Horizontal::Projected(crs) => crs.put(out),
-        }
-        look_at!(self, out);
-    }
-}
-
-impl Written for Frame<'_> {
-    fn put(&self, out: &mut Text) {
-        match self {
-            Frame::Datum(datum) => datum.put(out),
-            Frame::Ensemble(ensemble) => ensemble.put(out),
-        }
-        look(self, out, parts::same_frame(self, self, Level::Full));
-    }
-}
-
-impl Written for System<'_> {
-    fn put(&self, out: &mut Text) {
-        out.open("CS");
-        put_fields!(self, out => System { system_type: as_word, dimension, identifiers: to_end, axes, unit });
-    }
-}
-
 fn unit_keyword(kind: UnitKind) -> &'static str {
     match kind {
         UnitKind::Length => "LENGTHUNIT",
         UnitKind::Angle => "ANGLEUNIT",
         UnitKind::Scale => "SCALEUNIT",
         UnitKind::Plain => "UNIT",
-    }
-}
-
-impl Written for Tail<'_> {
-    fn put(&self, out: &mut Text) {
-        put_fields!(self, out => Tail { bare_parts: optional_parts, usages, identifiers, remark: optional_node("REMARK") });
-    }
-}
-
-impl Written for Usage<'_> {
-    fn put(&self, out: &mut Text) {
-        out.open("USAGE");
-        out.parts(self);
-        out.close();
-        look(self, out, parts::same_usage(self, self, Level::Full));
-    }
-}
-
-impl Written for BoundingBox {
-    fn put(&self, out: &mut Text) {
-        out.open("BBOX");
-        put_fields!(self, out => BoundingBox { south, west, north, east });
-        out.close();
-        look_as!(self, out, same_box);
     }
 }

@@ -129,7 +129,7 @@ pub fn no_rules(alloc: Global) -> HeldRules
 }
 
 /// Adds the rules of one more file.
-#[tactic(auto, unfolding(crate::specs::RulesCalls::IsFileRead), using(crate::proofs::FilesLemmas::one_more))]
+#[tactic(auto, unfolding(crate::specs::RulesCalls::IsFileRead))]
 pub fn add_file(held: HeldRules, text: &[u8]) -> (HeldRules, RulesStanding)
     ensures { IsFileRead text.now held result.0 result.1 }
 {

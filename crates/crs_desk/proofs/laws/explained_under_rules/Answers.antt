@@ -1,6 +1,5 @@
-use Rattle.std.proofs.Common.{◌≡◌, ◌∙◌, ◌++◌, ap, append-nil, sym}
-use Rattle.crs_desk.specs.ExplainOutput.{TellsWhetherSame}
-use Rattle.crs_desk.specs.RulesOutput.{ArePartsThatDiffer, marked, status_of, texts_in, told_parts}
+use Rattle.std.proofs.Common.{◌≡◌, ◌∙◌, ◌++◌, ap, append-nil}
+use Rattle.crs_desk.specs.RulesOutput.{ArePartsThatDiffer, marked, texts_in, told_parts}
 use Rattle.crs_desk.proofs.FormsLemmas.{nothing-marked, told-alone}
 use Rattle.crs_desk.proofs.laws.explained_under_rules.Goals as goal
 

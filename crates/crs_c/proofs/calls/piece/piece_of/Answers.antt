@@ -14,6 +14,6 @@ returns c =
       refl,
       ap (λ (xs : List ℕ). length xs) is,
       ap (λ (xs : List ℕ). xs ++ c.split_at_mut-front.result.1.now) (c.copy_from_slice.ensures.after ∙ is)
-      ∙ ap (λ (rest : List ℕ). piece_of c.args.text.now c.args.from ++ rest)
-      (zeros ∙ ap (λ (xs : List ℕ). replicate (240 - length xs) 0) is),
+          ∙ ap (λ (rest : List ℕ). piece_of c.args.text.now c.args.from ++ rest)
+          (zeros ∙ ap (λ (xs : List ℕ). replicate (240 - length xs) 0) is),
     )

@@ -1,4 +1,4 @@
-use Rattle.std.proofs.Common.{[], ◌∷◌, codes, refl, true}
+use Rattle.std.proofs.Common.{[], ◌∷◌, refl, true}
 use Rattle.clap.proofs.OnLiterals.{clap_on_literals}
 use Rattle.crs_group.specs.GroupOutput.{plain}
 use Rattle.crs_desk.proofs.AskedLemmas.{ReadsFiles, all_asked, canon, check, group}

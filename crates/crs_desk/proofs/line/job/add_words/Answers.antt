@@ -1,7 +1,7 @@
 use Rattle.std.proofs.Common.{[], ◌≡◌, ◌∷◌, arith, refl, rules}
 use Rattle.std.proofs.lemmas.Result.{IfErr-weaker, on_ok_weaker}
 use Rattle.std.proofs.lemmas.Str.Pattern.{split_parts}
-use Rattle.crs_desk.specs.Requests.{word_meant, words_meant}
+use Rattle.crs_desk.specs.Requests.{word_meant}
 use Rattle.crs_desk.proofs.PathWordLemmas.{all_added, more_added, one_faulty, one_word, words_at}
 use Rattle.crs_desk.proofs.line.job.add_words.Goals as goal
 
