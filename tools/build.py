@@ -40,7 +40,7 @@ import subprocess
 import sys
 import tempfile
 import time
-from typing import Iterable, Iterator, Sequence
+from typing import Callable, Iterable, Iterator, Sequence
 
 ROOT = pathlib.Path(__file__).resolve().parent.parent
 PROGRAM, LIBRARY = "crsdesk", "crs_c"
@@ -395,10 +395,23 @@ def build_program() -> None:
         prove([*below, program], "the program")
 
 
-def build_library(folder: pathlib.Path, is_over_gate: bool) -> None:
-    *below, library = needed([LIBRARY])
-    if is_newer(folder / "lib" / "libcrsdesk.so", [*library.sources(), *map(str, (HEADER, LAYOUT, SYMBOLS))]):
+def sources_of_library() -> Iterator[str]:
+    """The files and folders that the library is made of."""
+    yield from needed([LIBRARY])[-1].sources()
+    yield from map(str, (HEADER, LAYOUT, SYMBOLS))
+
+
+def sum_of(what: str) -> str:
+    """A sum of all that the program, or the library, is made of but the toolchain."""
+    crate = needed([PROGRAM if what == "program" else LIBRARY])[-1]
+    more = [] if what == "program" else [it.read_bytes() for it in (HEADER, LAYOUT, SYMBOLS)]
+    return hashlib.sha256(repr((crate.sum, more)).encode()).hexdigest()
+
+
+def build_library(folder: pathlib.Path = PREFIX, is_over_gate: bool = False) -> None:
+    if is_newer(folder / "lib" / "libcrsdesk.so", sources_of_library()):
         return
+    *below, library = needed([LIBRARY])
     prove([*below, library], "the library", below if is_over_gate else ())
     for place in ("include", "lib/pkgconfig"):
         (folder / place).mkdir(parents=True, exist_ok=True)
@@ -408,19 +421,12 @@ def build_library(folder: pathlib.Path, is_over_gate: bool) -> None:
         link(library.made, folder / "lib", pathlib.Path(scratch))
 
 
-def main() -> int:
-    parser = argparse.ArgumentParser(description=__doc__, formatter_class=argparse.RawDescriptionHelpFormatter)
-    parser.add_argument("what", choices=("program", "library"))
-    parser.add_argument("folder", nargs="?", type=pathlib.Path, default=PREFIX, metavar="FOLDER")
-    parser.add_argument("--over-gate", action="store_true", help="takes the crates below as rt ci has left them")
-    given = parser.parse_args()
+def ended(what: str, call: Callable[[], None]) -> int:
+    """The status of a call that may build, whose faults are told in a line."""
     for number in (signal.SIGTERM, signal.SIGHUP):
         signal.signal(number, signal.default_int_handler)
     try:
-        if given.what == "program":
-            build_program()
-        else:
-            build_library(given.folder.resolve(), given.over_gate)
+        call()
     except Stop as why:
         say(str(why))
         return 2
@@ -428,9 +434,20 @@ def main() -> int:
         say("interrupted; the next call goes on from what is proved")
         return 130
     except OSError as error:
-        say(f"the {given.what} was not built: {error}")
+        say(f"the {what} was not built: {error}")
         return 2
     return 0
+
+
+def main() -> int:
+    parser = argparse.ArgumentParser(description=__doc__, formatter_class=argparse.RawDescriptionHelpFormatter)
+    parser.add_argument("what", choices=("program", "library"))
+    parser.add_argument("folder", nargs="?", type=pathlib.Path, default=PREFIX, metavar="FOLDER")
+    parser.add_argument("--over-gate", action="store_true", help="takes the crates below as rt ci has left them")
+    given = parser.parse_args()
+    if given.what == "program":
+        return ended(given.what, build_program)
+    return ended(given.what, lambda: build_library(given.folder.resolve(), given.over_gate))
 
 
 if __name__ == "__main__":

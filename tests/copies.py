@@ -1,0 +1,139 @@
+"""A copy of the repository of a few crates, over a toolchain that proves what has no word WRONG, and writes down what it was
+asked for."""
+from __future__ import annotations
+
+import hashlib
+import io
+import os
+import pathlib
+import shutil
+import subprocess
+import sys
+import tarfile
+from typing import Any
+
+from support import ROOT
+
+RT = """#!/bin/sh
+[ "$1" = version ] && echo "$KIT_NAME logic abc" || echo "{kit}/START-HERE.md"
+"""
+# Takes a source's word for what happens: HUNGRY is killed where it has more than one job, SLOW waits to be ended.
+RATTLE = """#!/usr/bin/env python3
+import os, pathlib, signal, subprocess, sys, time
+words = sys.argv
+name, jobs, made = (words[words.index(it) + 1] for it in ("--crate-name", "--jobs", "-o"))
+text = pathlib.Path(next(it for it in words if it.endswith(".rt"))).read_text()
+with open("{log}", "a") as log:
+    print(name, "jobs=" + jobs, "statements" * ("--statements" in words), *(it for it in words if "=" in it and ".rlib" in it and "{kit}" not in it), file=log)
+if "SLOW" in text:
+    time.sleep(60)
+if "CHANGES" in text:
+    pathlib.Path("specs/New.antt").write_text("")
+if "HUNGRY" in text and jobs != "1":
+    os.kill(os.getpid(), signal.SIGKILL)
+if "WRONG" in text:
+    print("not proved")
+    sys.exit(1)
+if "staticlib" in words:
+    os.chdir("{scratch}")
+    subprocess.run(["cc", "-fPIC", "-c", "calls.c"], check=True)
+    subprocess.run(["ar", "rcs", made, "calls.o"], check=True)
+elif "--statements" in words:
+    pathlib.Path(made).mkdir(exist_ok=True)
+else:
+    pathlib.Path(made).write_text("#!/bin/sh\\ncat; echo $*; exit 3\\n")
+"""
+LINK = """#!/bin/sh
+while [ "$1" != -o ]; do shift; done
+cp "$3" "$2" && chmod +x "$2"
+"""
+HEADER = "typedef struct crsdesk_part { int place; } crsdesk_part;\nint crsdesk_version(crsdesk_part *part);\n"
+LAYOUT = """#include <crsdesk.h>
+#include <stdio.h>
+int layout_part(void);
+int main(void) { return layout_part() == sizeof(crsdesk_part) ? 0 : puts("struct crsdesk_part") * 0 + 1; }
+"""
+CALLS = "int crsdesk_version(void *part) { return part != 0; }\nint layout_part(void) { return sizeof(int); }\n"
+ROWS = "low:\nmid: low\nside: low itoa\ncrs_c staticlib: mid\nother: low\ncrsdesk: mid side\n"
+
+RELEASED = b"#!/bin/sh\ncat; echo released $*; exit 3\n"
+
+
+class Copy:
+    """A repository of a few crates with the build of this one, and a toolchain of its own."""
+
+    def __init__(self, folder: pathlib.Path) -> None:
+        self.root, kit = folder / "repository", folder / "kit"
+        self.log = folder / "log"
+        self.environment = {**os.environ, "PATH": f"{kit}/bin:{os.environ['PATH']}", "KIT_NAME": "rattle-kit-1"}
+        names = {"kit": kit, "log": self.log, "scratch": folder}
+        self.program = self.root / "crates/crsdesk/out/crsdesk"
+        for path, text in {
+            self.root / "README.md": "Proved with `rattle-kit-1 logic abc`.\n",
+            self.root / "crates.txt": ROWS,
+            self.root / "crates/crs_c/crsdesk.h": HEADER,
+            self.root / "crates/crs_c/layout.c": LAYOUT,
+            self.root / "crates/crs_c/symbols.map": "CRSDESK_0.1 {\n    global: crsdesk_version;\n    local: *;\n};\n",
+            self.root / "crates/crs_c/src/names.rt": 'give(b"0.1.0")',
+            folder / "calls.c": CALLS,
+            folder / "empty.c": "",
+            kit / "WHAT": "a kit",
+            kit / "bin/rt": RT.format(**names),
+            kit / "bin/rattle": RATTLE.format(**names),
+            kit / "bin/rattle-link": LINK,
+        }.items():
+            path.parent.mkdir(parents=True, exist_ok=True)
+            path.write_text(text)
+        for file in (kit / "bin").iterdir():
+            file.chmod(0o755)
+        for line in ROWS.splitlines():
+            name = line.partition(":")[0].split()[0]
+            for part in ("src", "specs"):
+                (self.root / "crates" / name / part).mkdir(parents=True, exist_ok=True)
+            self.source(name).write_text("")
+        for own in ("tools/build.py", "tools/chosen.py", "crsdesk"):
+            (self.root / own).parent.mkdir(exist_ok=True)
+            shutil.copy(ROOT / own, self.root / own)
+        (kit / "c").mkdir()
+        if shutil.which("cc"):
+            subprocess.run(["cc", "-c", folder / "empty.c", "-o", folder / "empty.o"], check=True)
+            subprocess.run(["ar", "rcs", kit / "c/liblibc_c.a", folder / "empty.o"], check=True)
+
+    def source(self, name: str) -> pathlib.Path:
+        return self.root / "crates" / name / "src" / ("main.rt" if name == "crsdesk" else "lib.rt")
+
+    def build(self, *words: str, status: int = 0) -> str:
+        """What the build says, once what is asked for is there."""
+        done = subprocess.run(
+            [self.root / "tools/build.py", *words], env=self.environment, capture_output=True, text=True
+        )
+        assert (done.returncode, done.stdout) == (status, ""), done.stderr
+        return done.stderr
+
+    def release(self, program: bytes = RELEASED, machine: str = os.uname().machine) -> pathlib.Path:
+        """The archive of a release of the sources as they are."""
+        folder, name = self.root / "release", f"crsdesk-0.1.0-linux-{machine}"
+        folder.mkdir(exist_ok=True)
+        archive = folder / f"{name}.tar.xz"
+        with tarfile.open(archive, "w:xz") as inside:
+            for path, data in {"bin/crsdesk": program, "lib/libcrsdesk.so": b"a library"}.items():
+                info = tarfile.TarInfo(f"{name}/{path}")
+                info.size, info.mode = len(data), 0o755
+                inside.addfile(info, io.BytesIO(data))
+        (folder / "SHA256SUMS").write_text(f"{hashlib.sha256(archive.read_bytes()).hexdigest()}  {archive.name}\n")
+        words = [sys.executable, "-c", "import build; print(*map(build.sum_of, ('program', 'library')))"]
+        sums = subprocess.run(words, cwd=self.root / "tools", capture_output=True, text=True, check=True)
+        (folder / "SOURCES").write_text("program {}\nlibrary {}\n".format(*sums.stdout.split()))
+        return archive
+
+    def run(self, *words: str, **more: Any) -> tuple[int, str, str]:
+        """The status of ./crsdesk, and what it writes to output and error."""
+        settings: dict[str, Any] = {"env": self.environment, "input": "a text\n", "timeout": 60, **more}
+        done = subprocess.run([self.root / "crsdesk", *words], capture_output=True, text=True, check=False, **settings)
+        return done.returncode, done.stdout, done.stderr
+
+    def asked(self) -> list[str]:
+        """What the prover was asked for since the last call, without the paths."""
+        text = self.log.read_text() if self.log.exists() else ""
+        self.log.write_text("")
+        return [line.split()[0] for line in text.splitlines()]
