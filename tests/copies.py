@@ -12,11 +12,27 @@ import sys
 import tarfile
 from typing import Any
 
-from support import ROOT
+from support import GATE, ROOT, succeed
 
+# As rt, ci puts back what was in out/rlib before.
 RT = """#!/bin/sh
-[ "$1" = version ] && echo "$KIT_NAME logic abc" || echo "{kit}/START-HERE.md"
+case "$1" in
+version) echo "$KIT_NAME logic abc" ;;
+ci)
+    for it in crates/*; do
+        mkdir -p "$it/out"
+        [ ! -d "$it/out/rlib" ] || mv "$it/out/rlib" "$it/before"
+        mkdir -p "$it/out/rlib/${{it#crates/}}.rlib"
+        [ ! -d "$it/before" ] || {{ rm -r "$it/out/rlib" && mv "$it/before" "$it/out/rlib"; }}
+    done
+    printf '{program}' >crates/crsdesk/out/crsdesk
+    chmod +x crates/crsdesk/out/crsdesk
+    echo "${{COUNTS-5 passed, 0 failed}}"
+    ;;
+*) echo "{kit}/START-HERE.md" ;;
+esac
 """
+PROGRAM = "#!/bin/sh\\ncat; echo $*; exit 3\\n"
 # Takes a source's word for what happens: HUNGRY is killed where it has more than one job, SLOW waits to be ended.
 RATTLE = """#!/usr/bin/env python3
 import os, pathlib, signal, subprocess, sys, time
@@ -41,7 +57,7 @@ if "staticlib" in words:
 elif "--statements" in words:
     pathlib.Path(made).mkdir(exist_ok=True)
 else:
-    pathlib.Path(made).write_text("#!/bin/sh\\ncat; echo $*; exit 3\\n")
+    pathlib.Path(made).write_text("{program}")
 """
 LINK = """#!/bin/sh
 while [ "$1" != -o ]; do shift; done
@@ -56,7 +72,10 @@ int main(void) { return layout_part() == sizeof(crsdesk_part) ? 0 : puts("struct
 CALLS = "int crsdesk_version(void *part) { return part != 0; }\nint layout_part(void) { return sizeof(int); }\n"
 ROWS = "low:\nmid: low\nside: low itoa\ncrs_c staticlib: mid\nother: low\ncrsdesk: mid side\n"
 
+OWN = [f"tools/{it}" for it in ("build.py", "checks_at_once.py", "chosen.py", "counts.sh", "release.py")]
+OWN += [".ci/run", "crsdesk", "prove", "test"]
 RELEASED = b"#!/bin/sh\ncat; echo released $*; exit 3\n"
+LIBRARIES = {"a": b"a static library", "so": b"a library"}
 
 
 class Copy:
@@ -66,7 +85,8 @@ class Copy:
         self.root, kit = folder / "repository", folder / "kit"
         self.log = folder / "log"
         self.environment = {**os.environ, "PATH": f"{kit}/bin:{os.environ['PATH']}", "KIT_NAME": "rattle-kit-1"}
-        names = {"kit": kit, "log": self.log, "scratch": folder}
+        self.environment.pop(GATE, None)
+        names = {"kit": kit, "log": self.log, "scratch": folder, "program": PROGRAM}
         self.program = self.root / "crates/crsdesk/out/crsdesk"
         for path, text in {
             self.root / "README.md": "Proved with `rattle-kit-1 logic abc`.\n",
@@ -91,7 +111,7 @@ class Copy:
             for part in ("src", "specs"):
                 (self.root / "crates" / name / part).mkdir(parents=True, exist_ok=True)
             self.source(name).write_text("")
-        for own in ("tools/build.py", "tools/chosen.py", "crsdesk"):
+        for own in OWN:
             (self.root / own).parent.mkdir(exist_ok=True)
             shutil.copy(ROOT / own, self.root / own)
         (kit / "c").mkdir()
@@ -110,20 +130,27 @@ class Copy:
         assert (done.returncode, done.stdout) == (status, ""), done.stderr
         return done.stderr
 
-    def release(self, program: bytes = RELEASED, machine: str = os.uname().machine) -> pathlib.Path:
-        """The archive of a release of the sources as they are."""
+    def release(
+        self, program: bytes = RELEASED, libraries: dict[str, bytes] = LIBRARIES, machine: str = os.uname().machine
+    ) -> pathlib.Path:
+        """The archive of a release of the sources as they are, with these files, as if it were made here."""
         folder, name = self.root / "release", f"crsdesk-0.1.0-linux-{machine}"
         folder.mkdir(exist_ok=True)
         archive = folder / f"{name}.tar.xz"
+        files = {"bin/crsdesk": program, **{f"lib/libcrsdesk.{it}": data for it, data in libraries.items()}}
         with tarfile.open(archive, "w:xz") as inside:
-            for path, data in {"bin/crsdesk": program, "lib/libcrsdesk.so": b"a library"}.items():
+            for path, data in files.items():
                 info = tarfile.TarInfo(f"{name}/{path}")
                 info.size, info.mode = len(data), 0o755
                 inside.addfile(info, io.BytesIO(data))
         (folder / "SHA256SUMS").write_text(f"{hashlib.sha256(archive.read_bytes()).hexdigest()}  {archive.name}\n")
-        words = [sys.executable, "-c", "import build; print(*map(build.sum_of, ('program', 'library')))"]
-        sums = subprocess.run(words, cwd=self.root / "tools", capture_output=True, text=True, check=True)
-        (folder / "SOURCES").write_text("program {}\nlibrary {}\n".format(*sums.stdout.split()))
+        told = "build.sum_of('program'), build.sum_of('library')"
+        if shutil.which("cc"):
+            told = "*release.made_with().values()"
+        words = [sys.executable, "-c", f"import build, release; print({told}, sep=chr(10))"]
+        sums = succeed(words, cwd=self.root / "tools", env=self.environment).splitlines()
+        keys = "program", "library", "kit", "compiler"
+        (folder / "SOURCES").write_text("".join(f"{key} {value}\n" for key, value in zip(keys, sums)))
         return archive
 
     def run(self, *words: str, **more: Any) -> tuple[int, str, str]:

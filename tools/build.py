@@ -95,7 +95,7 @@ def run(*words: object) -> str:
 def toolchain() -> pathlib.Path:
     """The toolchain's folder, where its logic is that of the one that the README names."""
     if not shutil.which("rt"):
-        raise Stop('the Rattle toolchain isn\'t here: no command rt. README, "Two commands", says what is needed')
+        raise Stop('the Rattle toolchain isn\'t here: no command rt. README, "Three commands", says what is needed')
     wanted = re.search(r"rattle-kit-\S+ logic ([0-9a-f]+)", (ROOT / "README.md").read_text(encoding="utf-8"))
     found, page = (run("rt", it).strip() for it in ("version", "doc"))
     if not (wanted and found.endswith(f" logic {wanted[1]}") or os.environ.get(ANY_TOOLCHAIN)):

@@ -1,0 +1,309 @@
+#!/usr/bin/env python3
+"""Makes the release of what ./prove built, or compares that with the release.
+
+    release.py [FOLDER]       FOLDER is release/ where none is given
+    release.py --compare
+
+FOLDER then has, and nothing else:
+
+    crsdesk-VERSION-linux-x86_64.tar.xz     a prefix: the program, the libraries, their header, manual, completions, rules
+    crsdesk-*-manylinux_*_x86_64.whl        the Python package with the library, and the program
+    crsdesk_*_amd64.deb                     the program for Debian, as packaging/debian/crsdesk.install has it
+    SHA256SUMS                              of these
+    SOURCES                                 the sums of the sources, and what the files were made with
+
+Equal inputs make equal bytes: names are sorted, owners are left out, and all times are that of packaging/debian/changelog.
+It takes what ./install takes with setuptools and wheel.
+
+--compare compares each program and library of the release with what was built, byte for byte, where SOURCES has the sum of
+the sources as they are; libraries where the C compiler and its linker are the same. Its last line is 'N passed, M failed'.
+"""
+from __future__ import annotations
+
+import argparse
+import base64
+import email.utils
+import functools
+import hashlib
+import io
+import lzma
+import os
+import pathlib
+import re
+import subprocess
+import sys
+import tarfile
+import tempfile
+import time
+import zipfile
+from typing import Iterator
+
+import build
+import chosen
+from build import ROOT, Stop
+
+DEBIAN = ROOT / "packaging" / "debian"
+# What ./install makes and the archive hasn't.
+WITHOUT = ("share/doc/", "share/crsdesk/crsdesk-", "share/crsdesk/installed", "lib/crsdesk_sqlite.so")
+PROGRAM, SHARED, STATIC = "bin/crsdesk", "lib/libcrsdesk.so", "lib/libcrsdesk.a"
+Files = dict[str, tuple[int, bytes]]
+# With which files of the release each is compared, by the ends of their paths, and what it was made of and with.
+ENDS = {PROGRAM: ("bin/crsdesk", "scripts/crsdesk"), SHARED: (".so", f".so.{build.INTERFACE}"), STATIC: (".a",)}
+OF_LIBRARY = ("library", "kit", "compiler")
+MADE_OF = {PROGRAM: ("program", "kit"), SHARED: OF_LIBRARY, STATIC: OF_LIBRARY}
+
+
+@functools.lru_cache(maxsize=None)
+def epoch() -> int:
+    """When the version was made, in seconds."""
+    dates = re.findall(r"^ -- .*>  (.*)$", (DEBIAN / "changelog").read_text(encoding="utf-8"), re.MULTILINE)
+    return int(email.utils.parsedate_to_datetime(dates[0]).timestamp())
+
+
+def glibc_of(*files: bytes) -> tuple[int, int]:
+    """The version of GNU's C library that programs and libraries ask for."""
+    return max(
+        (int(a), int(b)) for data in files for a, b in re.findall(rb"\0GLIBC_(\d+)\.(\d+)(?:\.\d+)?(?=\0)", data)
+    )
+
+
+def tar(files: Files, front: str, with_folders: bool = False) -> bytes:
+    """Files in a folder, packed by xz. libcrsdesk.so leads to the file with the interface's number in its name."""
+    names = {str(it) for name in files for it in pathlib.PurePosixPath(name).parents} if with_folders else set()
+    made = io.BytesIO()
+    with tarfile.open(fileobj=made, mode="w", format=tarfile.GNU_FORMAT) as archive:
+        for name in sorted({*files, *names}):
+            info = tarfile.TarInfo(front if name == "." else f"{front}{name}")
+            info.mtime, info.mode = epoch(), 0o755
+            if name not in files:
+                info.type = tarfile.DIRTYPE
+                archive.addfile(info)
+            elif name == SHARED:
+                info.type, info.linkname = tarfile.SYMTYPE, f"libcrsdesk.so.{build.INTERFACE}"
+                archive.addfile(info)
+            else:
+                info.mode, data = files[name]
+                info.size = len(data)
+                archive.addfile(info, io.BytesIO(data))
+    return lzma.compress(made.getvalue(), preset=9 | lzma.PRESET_EXTREME)
+
+
+def installed(folder: pathlib.Path) -> pathlib.Path:
+    """A prefix into which ./install has put all that it has."""
+    environment = {key: value for key, value in os.environ.items() if key not in ("DESTDIR", "CRSDESK_LIBRARY")}
+    environment["SOURCE_DATE_EPOCH"] = str(epoch())
+    words = [sys.executable, str(ROOT / "install"), str(folder)]
+    if subprocess.run(words, env=environment, stdout=subprocess.DEVNULL, check=False).returncode:
+        raise Stop("no release was made: ./install failed")
+    return folder
+
+
+def files_of(prefix: pathlib.Path) -> Files:
+    """What the archive has. The program is the prover's own bytes, and not stripped."""
+    found = {str(it.relative_to(prefix)): it for it in prefix.rglob("*") if it.is_file()}
+    files = {
+        name: (0o755 if os.access(it, os.X_OK) else 0o644, it.read_bytes())
+        for name, it in found.items()
+        if not name.startswith(WITHOUT)
+    }
+    files[PROGRAM] = 0o755, chosen.HERE["program"].read_bytes()
+    files["share/doc/crsdesk/copyright"] = 0o644, (DEBIAN / "copyright").read_bytes()
+    return files
+
+
+def record(name: str, data: bytes) -> str:
+    digest = base64.urlsafe_b64encode(hashlib.sha256(data).digest()).decode().rstrip("=")
+    return f"{name},sha256={digest},{len(data)}\n"
+
+
+def wheel(base: pathlib.Path, files: Files) -> tuple[str, bytes]:
+    """The name and the bytes of a wheel as ./install makes it, with the program, for each Linux that both can run on."""
+    with zipfile.ZipFile(base) as inside:
+        held = {it: inside.read(it) for it in inside.namelist()}
+    (front,) = {it.partition(".dist-info/")[0] for it in held if ".dist-info/" in it}
+    major, minor = glibc_of(files[PROGRAM][1], files[SHARED][1])
+    tag = f"py3-none-manylinux_{major}_{minor}_{os.uname().machine}"
+    about = f"{front}.dist-info/WHEEL"
+    held[about] = re.sub(rb"(?m)^Tag: .*$", f"Tag: {tag}".encode(), held[about])
+    program = f"{front}.data/scripts/crsdesk"
+    held[program] = files[PROGRAM][1]
+    listing = f"{front}.dist-info/RECORD"
+    del held[listing]
+    lines = "".join(record(name, data) for name, data in sorted(held.items()))
+    held[listing] = f"{lines}{listing},,\n".encode()
+    made = io.BytesIO()
+    with zipfile.ZipFile(made, "w", zipfile.ZIP_DEFLATED, compresslevel=9) as archive:
+        for name, data in sorted(held.items()):
+            info = zipfile.ZipInfo(name, time.gmtime(epoch())[:6])
+            info.compress_type, info.create_system = zipfile.ZIP_DEFLATED, 3
+            info.external_attr = (0o100755 if name == program else 0o100644) << 16
+            archive.writestr(info, data)
+    return f"{front}-{tag}.whl", made.getvalue()
+
+
+def control(files: Files, version: str) -> str:
+    """Debian's description of the program."""
+    source, *packages = (DEBIAN / "control").read_text(encoding="utf-8").split("\n\n")
+    (package,) = [it for it in packages if it.startswith("Package: crsdesk\n")]
+    kept = [line for line in source.splitlines() if line.startswith(("Maintainer:", "Section:", "Priority:"))]
+    head, _, description = package.strip().partition("\nDescription:")
+    lines = [line for line in head.splitlines() if not line.startswith("Depends:")]
+    major, minor = glibc_of(files["usr/bin/crsdesk"][1])
+    size = sum(-(-len(data) // 1024) for _, data in files.values())
+    more = [f"Version: {version}", f"Installed-Size: {size}", f"Depends: libc6 (>= {major}.{minor})"]
+    return "\n".join([*lines, *more, *kept, f"Description:{description}\n"])
+
+
+def placed(files: Files) -> Files:
+    """The files of Debian's package crsdesk, by their paths in the system."""
+    found: Files = {}
+    for line in (DEBIAN / "crsdesk.install").read_text(encoding="utf-8").splitlines():
+        path, _, folder = line.partition(" ")
+        for name, (mode, data) in files.items():
+            if f"usr/{name}" == path or f"usr/{name}".startswith(f"{path}/"):
+                target = f"{folder}/{pathlib.PurePosixPath(name).name}" if folder else f"usr/{name}"
+                found[target] = mode, data
+    found["usr/share/doc/crsdesk/copyright"] = files["share/doc/crsdesk/copyright"]
+    return found
+
+
+def deb(files: Files) -> tuple[str, bytes]:
+    """The name and the bytes of Debian's package of the program."""
+    version = re.match(r"crsdesk \((\S+)\)", (DEBIAN / "changelog").read_text(encoding="utf-8"))
+    if not version:
+        raise Stop("packaging/debian/changelog doesn't begin with a version")
+    held = placed(files)
+    sums = "".join(f"{hashlib.md5(data).hexdigest()}  {name}\n" for name, (_, data) in sorted(held.items()))
+    about: Files = {
+        "control": (0o644, control(held, version[1]).encode()),
+        "md5sums": (0o644, sums.encode()),
+    }
+    parts = {
+        "debian-binary": b"2.0\n",
+        "control.tar.xz": tar(about, "./"),
+        "data.tar.xz": tar(held, "./", with_folders=True),
+    }
+    made = b"!<arch>\n"
+    for name, data in parts.items():
+        made += (
+            f"{name:<16}{epoch():<12}{0:<6}{0:<6}{0o100644:<8o}{len(data):<10}`\n".encode()
+            + data
+            + b"\n" * (len(data) % 2)
+        )
+    return f"crsdesk_{version[1]}_amd64.deb", made
+
+
+def first_line(*words: str) -> str:
+    return build.run(*words).splitlines()[0]
+
+
+def made_with() -> dict[str, str]:
+    """What the files were made of and with, by the first words of the lines of SOURCES."""
+    what = hashlib.sha256((build.toolchain() / "WHAT").read_bytes()).hexdigest()
+    return {
+        "program": build.sum_of("program"),
+        "library": build.sum_of("library"),
+        "kit": f"{build.run('rt', 'version').strip()} {what}",
+        "compiler": f"{first_line('cc', '--version')}, {first_line('ld', '--version')}",
+    }
+
+
+def make(folder: pathlib.Path) -> None:
+    if not all(map(chosen.is_proved_here, chosen.PLACES)):
+        raise Stop("no release was made: ./prove has to prove and build the sources as they are before")
+    with tempfile.TemporaryDirectory() as name:
+        prefix = installed(pathlib.Path(name) / "prefix")
+        bases = list(prefix.glob("share/crsdesk/*.whl"))
+        if len(bases) != 1:
+            raise Stop("no release was made: ./install made no wheel")
+        files = files_of(prefix)
+        archive = f"crsdesk-{build.version()}-linux-{os.uname().machine}"
+        packages = [(f"{archive}.tar.xz", tar(files, f"{archive}/")), wheel(bases[0], files), deb(files)]
+        made = dict(packages)
+    sums = "".join(f"{hashlib.sha256(data).hexdigest()}  {it}\n" for it, data in sorted(made.items()))
+    made["SHA256SUMS"] = sums.encode()
+    made["SOURCES"] = "".join(f"{key} {value}\n" for key, value in made_with().items()).encode()
+    folder.mkdir(parents=True, exist_ok=True)
+    for file in folder.iterdir():
+        if file.name not in made:
+            file.unlink()
+    for name, data in made.items():
+        (folder / name).write_bytes(data)
+
+
+def in_deb(data: bytes) -> Iterator[tuple[str, bytes]]:
+    """The files of a package for Debian."""
+    at = len(b"!<arch>\n")
+    while at < len(data):
+        name, size = data[at : at + 16].decode().strip(), int(data[at + 48 : at + 58])
+        part = data[at + 60 : at + 60 + size]
+        at += 60 + size + size % 2
+        if name == "data.tar.xz":
+            with tarfile.open(fileobj=io.BytesIO(part)) as inside:
+                for member in inside:
+                    if file := inside.extractfile(member):
+                        yield member.name, file.read()
+
+
+def held_by(file: pathlib.Path) -> Iterator[tuple[str, bytes]]:
+    """The files in a file of the release."""
+    if hashlib.sha256(file.read_bytes()).hexdigest() != chosen.sum_told(file):
+        raise Stop(f"release/{file.name} hasn't the sum that release/SHA256SUMS tells")
+    if file.name.endswith(".tar.xz"):
+        yield from ((name, data) for name, _, data in chosen.files_in(file))
+    elif file.suffix == ".deb":
+        yield from in_deb(file.read_bytes())
+    else:
+        with zipfile.ZipFile(file) as inside:
+            yield from ((it, inside.read(it)) for it in inside.namelist())
+
+
+def compare() -> tuple[int, int]:
+    """How many programs and libraries of the release are what was built, and how many aren't. Each of these has a line, and so
+    has what isn't compared."""
+    if not chosen.archive():
+        print("nothing is compared: there is no release for this machine")
+        return 0, 0
+    told, now, counts = chosen.told_of_sources(), made_with(), [0, 0]
+    wanted: dict[str, bytes] = {}
+    for name, words in MADE_OF.items():
+        if other := [it for it in words if told.get(it) != now[it]]:
+            print(f"{name} isn't compared: the release was made with another {other[0]}")
+        else:
+            file = build.PREFIX / name if name != PROGRAM else chosen.HERE["program"]
+            wanted[name] = file.read_bytes() if file.exists() else b""
+    found = set[str]()
+    for file in sorted({*chosen.RELEASE.iterdir()} - {chosen.SOURCES, chosen.SUMS}):
+        for path, data in held_by(file):
+            for name in (it for it in wanted if path.endswith(ENDS[it])):
+                found.add(name)
+                counts[data != wanted[name]] += 1
+                if data != wanted[name]:
+                    print(f"release/{file.name}: {path} isn't what was built of these sources")
+    for name in {*wanted} - found:
+        counts[1] += 1
+        print(f"release/ has no {name}")
+    return counts[0], counts[1]
+
+
+def compared() -> int:
+    """The status of a comparison, whose last line is the counts."""
+    try:
+        passed, failed = compare()
+    except (Stop, OSError) as why:
+        print(why)
+        passed, failed = 0, 1
+    print(f"{passed} passed, {failed} failed")
+    return 1 if failed else 0
+
+
+def main() -> int:
+    parser = argparse.ArgumentParser(description=__doc__, formatter_class=argparse.RawDescriptionHelpFormatter)
+    parser.add_argument("folder", nargs="?", type=pathlib.Path, default=chosen.RELEASE, metavar="FOLDER")
+    parser.add_argument("--compare", action="store_true", help="compares the release with what was built")
+    given = parser.parse_args()
+    return compared() if given.compare else build.ended("release", lambda: make(given.folder))
+
+
+if __name__ == "__main__":
+    sys.exit(main())
