@@ -52,7 +52,8 @@ if "WRONG" in text:
     sys.exit(1)
 if "staticlib" in words:
     os.chdir("{scratch}")
-    subprocess.run(["cc", "-fPIC", "-c", "calls.c"], check=True)
+    compiler = "aarch64-linux-gnu-gcc" if "aarch64-unknown-linux-gnu" in words else "cc"
+    subprocess.run([compiler, "-fPIC", "-c", "calls.c"], check=True)
     subprocess.run(["ar", "rcs", made, "calls.o"], check=True)
 elif "--statements" in words:
     pathlib.Path(made).mkdir(exist_ok=True)
@@ -93,6 +94,7 @@ class Copy:
             self.root / "crates.txt": ROWS,
             self.root / "crates/crs_c/crsdesk.h": HEADER,
             self.root / "crates/crs_c/layout.c": LAYOUT,
+            self.root / "crates/crs_c/heap.c": "",
             self.root / "crates/crs_c/symbols.map": "CRSDESK_0.1 {\n    global: crsdesk_version;\n    local: *;\n};\n",
             self.root / "crates/crs_c/src/names.rt": 'give(b"0.1.0")',
             folder / "calls.c": CALLS,

@@ -191,6 +191,25 @@ def test_the_library_is_proved_by_one_job_over_what_the_gate_left(copy: Copy) ->
     assert "left nothing of low" in copy.build("library", "--over-gate", status=2)
 
 
+@pytest.mark.needs("aarch64-linux-gnu-gcc", "qemu-aarch64-static")
+def test_the_library_for_aarch64_is_made_beside_the_other(copy: Copy) -> None:
+    copy.build("library")
+    copy.asked()
+    copy.build("library", "--aarch64")
+    assert copy.asked() == ["crs_c"] and (copy.root / "crates/crs_c/out/libcrs_c.a").exists()
+    shared = copy.root / "out/aarch64/lib/libcrsdesk.so"
+    machine = subprocess.run(["readelf", "-h", shared], capture_output=True, text=True).stdout
+    assert re.search(r"Machine: +AArch64\n", machine)
+    assert copy.build("library", "--aarch64") == copy.build("library") == "" and copy.asked() == []
+    (copy.root / "crates/crs_c/heap.c").write_text("/* A line. */")
+    before = shared.stat().st_ctime_ns
+    assert copy.build("library", "--aarch64") == "" and copy.asked() == [] and shared.stat().st_ctime_ns > before
+    header = copy.root / "crates/crs_c/crsdesk.h"
+    header.write_text(HEADER.replace("int place;", "long place;"))
+    wanted = "crsdesk: the library was not made, since crsdesk.h isn't its header: struct crsdesk_part"
+    assert copy.build("library", "--aarch64", status=2).splitlines()[-1] == wanted
+
+
 def test_a_program_that_the_gate_built_is_run(copy: Copy) -> None:
     copy.program.parent.mkdir(parents=True)
     copy.program.write_text("#!/bin/sh\necho of the gate\n")

@@ -24,7 +24,6 @@ import build
 import c_rows
 import pytest
 import rows
-from build import toolchain
 from c_library import PAGE, Block
 from support import HERE, ROOT, run, succeed
 
@@ -191,7 +190,7 @@ def whole(tmp_path_factory: pytest.TempPathFactory) -> pathlib.Path:
     """One object of the toolchain's two libraries."""
     if not MADE.exists():
         pytest.skip(f"there is no {MADE.relative_to(ROOT)}")
-    return build.joined(MADE, toolchain(), tmp_path_factory.mktemp("whole"))
+    return build.joined(MADE, build.heap(MADE, build.TARGET), tmp_path_factory.mktemp("whole"))
 
 
 @pytest.mark.parametrize("old, new, struct", [("", "", ""), *OTHER_LAYOUTS])

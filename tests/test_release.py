@@ -12,6 +12,7 @@ import tarfile
 import zipfile
 from typing import NamedTuple
 
+import bare_root
 import build
 import chosen
 import pytest
@@ -223,3 +224,23 @@ def test_the_folder_as_it_is() -> None:
     lines = [line.split("  ") for line in chosen.SUMS.read_text(encoding="utf-8").splitlines()]
     assert {sums.get(sum, sum) for sum, _ in lines} == {name for _, name in lines}
     assert {it.name for it in files} == {"SHA256SUMS", "SOURCES", *(pathlib.Path(name).name for _, name in lines)}
+
+
+@NEEDS
+@pytest.mark.needs("unshare", "chroot", "ldd")
+def test_a_bare_root(first: Clone, tmp_path: pathlib.Path) -> None:
+    """With Python alone and no network: ./crsdesk, ./install, ./test and what the wheel has."""
+    root = bare_root.Root(tmp_path / "root")
+    shutil.copytree(ROOT, root.folder / "clone", ignore=BESIDE)
+    shutil.copytree(first.root / "release", root.folder / "clone/release")
+    for _ in ("the first", "again"):
+        done = root.run("sh", "-c", "cd /clone && ./crsdesk canon < examples/height.wkt")
+        assert (done.returncode, done.stderr) == (0, "") and done.stdout.startswith('VERTCRS["H"'), done.stderr
+    done = root.run("/clone/install", "/usr/local")
+    assert done.returncode == 0 and "skipped: the wheel" in done.stderr, done.stderr
+    assert root.run("/usr/local/bin/crsdesk", "check", "/clone/examples/wgs84.wkt").stdout == "accepted geographic\n"
+    unzip = "python3 -m zipfile -e /clone/release/*.whl /tmp/wheel && cd /tmp/wheel && python3 -m crsdesk check"
+    assert root.run("sh", "-c", f"{unzip} /clone/examples/wgs84.wkt").stdout == "accepted geographic\n"
+    done = root.run("/clone/test", "tests/test_rows.py", "-k", "lines.rows")
+    passed, failed = re.findall(r"^(\d+) passed, (\d+) failed$", done.stdout, re.MULTILINE)[-1]
+    assert int(passed) > 5 and failed == "0", done.stdout[-3000:]

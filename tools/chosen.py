@@ -58,7 +58,7 @@ def archive() -> pathlib.Path | None:
 def sum_told(file: pathlib.Path) -> str:
     """The sum that a file of the release must have."""
     lines = [it.split() for it in SUMS.read_text(encoding="utf-8").splitlines()] if SUMS.exists() else []
-    told = [words[0] for words in lines if words[1:] == [file.name]]
+    told = [words[0] for words in lines if words[1:] == [str(file.relative_to(RELEASE))]]
     if len(told) != 1:
         raise Stop(f"release/SHA256SUMS has no sum of {file.name}, and {ADVICE}")
     return told[0]

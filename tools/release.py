@@ -9,6 +9,7 @@ FOLDER then has, and nothing else:
     crsdesk-VERSION-linux-x86_64.tar.xz     a prefix: the program, the libraries, their header, manual, completions, rules
     crsdesk-*-manylinux_*_x86_64.whl        the Python package with the library, and the program
     crsdesk_*_amd64.deb                     the program for Debian, as packaging/debian/crsdesk.install has it
+    aarch64/crsdesk-*-aarch64.whl           the Python package with the library for that machine, where that was built
     SHA256SUMS                              of these
     SOURCES                                 the sums of the sources, and what the files were made with
 
@@ -30,6 +31,7 @@ import lzma
 import os
 import pathlib
 import re
+import shutil
 import subprocess
 import sys
 import tarfile
@@ -46,11 +48,21 @@ DEBIAN = ROOT / "packaging" / "debian"
 # What ./install makes and the archive hasn't.
 WITHOUT = ("share/doc/", "share/crsdesk/crsdesk-", "share/crsdesk/installed", "lib/crsdesk_sqlite.so")
 PROGRAM, SHARED, STATIC = "bin/crsdesk", "lib/libcrsdesk.so", "lib/libcrsdesk.a"
+OF_AARCH64 = "aarch64/lib/libcrsdesk.so"
 Files = dict[str, tuple[int, bytes]]
-# With which files of the release each is compared, by the ends of their paths, and what it was made of and with.
+# Where each was built, by which ends of paths it is found in the release, and what it was made of and with.
+BUILT = {
+    PROGRAM: chosen.HERE["program"],
+    **{it: build.PREFIX / it for it in (SHARED, STATIC)},
+    OF_AARCH64: build.PREFIX_OF_AARCH64 / SHARED,
+}
 ENDS = {PROGRAM: ("bin/crsdesk", "scripts/crsdesk"), SHARED: (".so", f".so.{build.INTERFACE}"), STATIC: (".a",)}
-OF_LIBRARY = ("library", "kit", "compiler")
-MADE_OF = {PROGRAM: ("program", "kit"), SHARED: OF_LIBRARY, STATIC: OF_LIBRARY}
+ENDS[OF_AARCH64] = ENDS[SHARED]
+MADE_OF = {
+    PROGRAM: ("program", "kit"),
+    **{it: ("library", "kit", "compiler") for it in (SHARED, STATIC)},
+    OF_AARCH64: ("library", "kit", "compiler-aarch64"),
+}
 
 
 @functools.lru_cache(maxsize=None)
@@ -116,17 +128,20 @@ def record(name: str, data: bytes) -> str:
     return f"{name},sha256={digest},{len(data)}\n"
 
 
-def wheel(base: pathlib.Path, files: Files) -> tuple[str, bytes]:
-    """The name and the bytes of a wheel as ./install makes it, with the program, for each Linux that both can run on."""
+def wheel(base: pathlib.Path, machine: str, shared: bytes, program: bytes = b"") -> tuple[str, bytes]:
+    """The name and the bytes of a wheel as ./install makes it, with a machine's library and a program, for each Linux on which
+    both run."""
     with zipfile.ZipFile(base) as inside:
         held = {it: inside.read(it) for it in inside.namelist()}
     (front,) = {it.partition(".dist-info/")[0] for it in held if ".dist-info/" in it}
-    major, minor = glibc_of(files[PROGRAM][1], files[SHARED][1])
-    tag = f"py3-none-manylinux_{major}_{minor}_{os.uname().machine}"
+    held["crsdesk/libcrsdesk.so"] = shared
+    major, minor = glibc_of(program, shared)
+    tag = f"py3-none-manylinux_{major}_{minor}_{machine}"
     about = f"{front}.dist-info/WHEEL"
     held[about] = re.sub(rb"(?m)^Tag: .*$", f"Tag: {tag}".encode(), held[about])
-    program = f"{front}.data/scripts/crsdesk"
-    held[program] = files[PROGRAM][1]
+    script = f"{front}.data/scripts/crsdesk"
+    if program:
+        held[script] = program
     listing = f"{front}.dist-info/RECORD"
     del held[listing]
     lines = "".join(record(name, data) for name, data in sorted(held.items()))
@@ -136,7 +151,7 @@ def wheel(base: pathlib.Path, files: Files) -> tuple[str, bytes]:
         for name, data in sorted(held.items()):
             info = zipfile.ZipInfo(name, time.gmtime(epoch())[:6])
             info.compress_type, info.create_system = zipfile.ZIP_DEFLATED, 3
-            info.external_attr = (0o100755 if name == program else 0o100644) << 16
+            info.external_attr = (0o100755 if name == script else 0o100644) << 16
             archive.writestr(info, data)
     return f"{front}-{tag}.whl", made.getvalue()
 
@@ -204,7 +219,11 @@ def made_with() -> dict[str, str]:
         "program": build.sum_of("program"),
         "library": build.sum_of("library"),
         "kit": f"{build.run('rt', 'version').strip()} {what}",
-        "compiler": f"{first_line('cc', '--version')}, {first_line('ld', '--version')}",
+        **{
+            key: ", ".join(first_line(build.tool(it, target), "--version") for it in ("cc", "ld"))
+            for key, target in {"compiler": build.TARGET, "compiler-aarch64": build.AARCH64}.items()
+            if shutil.which(build.tool("cc", target))
+        },
     }
 
 
@@ -216,18 +235,25 @@ def make(folder: pathlib.Path) -> None:
         bases = list(prefix.glob("share/crsdesk/*.whl"))
         if len(bases) != 1:
             raise Stop("no release was made: ./install made no wheel")
-        files = files_of(prefix)
-        archive = f"crsdesk-{build.version()}-linux-{os.uname().machine}"
-        packages = [(f"{archive}.tar.xz", tar(files, f"{archive}/")), wheel(bases[0], files), deb(files)]
-        made = dict(packages)
+        files, machine = files_of(prefix), os.uname().machine
+        archive = f"crsdesk-{build.version()}-linux-{machine}"
+        packages = [
+            (f"{archive}.tar.xz", tar(files, f"{archive}/")),
+            wheel(bases[0], machine, files[SHARED][1], files[PROGRAM][1]),
+            deb(files),
+        ]
+        if build.is_newer(BUILT[OF_AARCH64], build.sources_of_library(build.AARCH64)):
+            own, data = wheel(bases[0], "aarch64", BUILT[OF_AARCH64].read_bytes())
+            packages.append((f"aarch64/{own}", data))
+    made = dict(packages)
     sums = "".join(f"{hashlib.sha256(data).hexdigest()}  {it}\n" for it, data in sorted(made.items()))
     made["SHA256SUMS"] = sums.encode()
-    made["SOURCES"] = "".join(f"{key} {value}\n" for key, value in made_with().items()).encode()
-    folder.mkdir(parents=True, exist_ok=True)
-    for file in folder.iterdir():
-        if file.name not in made:
-            file.unlink()
+    told = {key: value for key, value in made_with().items() if "aarch64" not in key or len(packages) > 3}
+    made["SOURCES"] = "".join(f"{key} {value}\n" for key, value in told.items()).encode()
+    for file in [it for it in folder.rglob("*") if it.is_file()]:
+        file.unlink()
     for name, data in made.items():
+        (folder / name).parent.mkdir(parents=True, exist_ok=True)
         (folder / name).write_bytes(data)
 
 
@@ -266,20 +292,21 @@ def compare() -> tuple[int, int]:
         return 0, 0
     told, now, counts = chosen.told_of_sources(), made_with(), [0, 0]
     wanted: dict[str, bytes] = {}
-    for name, words in MADE_OF.items():
-        if other := [it for it in words if told.get(it) != now[it]]:
-            print(f"{name} isn't compared: the release was made with another {other[0]}")
+    # A release without it names no compiler for aarch64.
+    for name, words in [it for it in MADE_OF.items() if it[0] != OF_AARCH64 or it[1][-1] in told]:
+        if other := [it for it in words if told.get(it) != now.get(it)]:
+            print(f"{name} isn't compared: release/SOURCES tells another {other[0]}")
         else:
-            file = build.PREFIX / name if name != PROGRAM else chosen.HERE["program"]
-            wanted[name] = file.read_bytes() if file.exists() else b""
+            wanted[name] = BUILT[name].read_bytes() if BUILT[name].exists() else b""
     found = set[str]()
-    for file in sorted({*chosen.RELEASE.iterdir()} - {chosen.SOURCES, chosen.SUMS}):
+    for file in sorted(chosen.RELEASE.rglob("*.*")):
         for path, data in held_by(file):
-            for name in (it for it in wanted if path.endswith(ENDS[it])):
-                found.add(name)
-                counts[data != wanted[name]] += 1
-                if data != wanted[name]:
-                    print(f"release/{file.name}: {path} isn't what was built of these sources")
+            for name in wanted:
+                if (name == OF_AARCH64) == (file.parent.name == "aarch64") and path.endswith(ENDS[name]):
+                    found.add(name)
+                    counts[data != wanted[name]] += 1
+                    if data != wanted[name]:
+                        print(f"release/{file.name}: {path} isn't what was built of these sources")
     for name in {*wanted} - found:
         counts[1] += 1
         print(f"release/ has no {name}")
