@@ -1,4 +1,4 @@
-"""A root file system that has Python's own files and a few commands alone, and what runs a command there with no network."""
+"""A root file system that has Python's own files and the commands of each system, and runs a command there with no network."""
 from __future__ import annotations
 
 import pathlib
@@ -12,7 +12,9 @@ from typing import Iterable
 import pytest
 from support import run
 
-COMMANDS = "cat dirname env grep mkdir mktemp mv readlink rm sed sh sleep tail tee true uname".split()
+COMMANDS = """awk basename cat chmod cmp comm cp cut date diff dirname echo env expr false find grep head id ln ls mkdir mkfifo
+mktemp mv nproc od paste printf readlink rm rmdir sed seq sh sleep sort stat tac tail tee test touch tr true uname uniq wc xargs
+yes""".split()
 # Neither the machine's packages nor what the tests don't take of Python.
 WITHOUT = shutil.ignore_patterns("site-packages", "dist-packages", "test", "tests", "idlelib", "tkinter", "__pycache__")
 # In namespaces of its own; the folders of devices and processes are the machine's.

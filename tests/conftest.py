@@ -48,6 +48,7 @@ def prefix(library: pathlib.Path) -> pathlib.Path:
 @pytest.fixture(scope="session")
 def refusing(tmp_path_factory: pytest.TempPathFactory) -> pathlib.Path:
     """What is preloaded to refuse growths of memory."""
+    need("cc")
     made = tmp_path_factory.mktemp("growths") / "refuse_growth.so"
     succeed(["cc", "-std=c99", "-shared", "-fPIC", "-O2", "-o", made, HERE / "refuse_growth.c"])
     return made

@@ -200,7 +200,11 @@ def test_a_clone_that_is_read_only() -> None:
         if NOBODY:
             copy.environment["PATH"] = "/usr/bin:/bin"
         with read_only(copy.root):
-            assert copy.run("canon", "a file", cwd="/", **NOBODY) == (0, "canon a file\n", "")
+            try:
+                answer = copy.run("canon", "a file", cwd="/", **NOBODY)
+            except PermissionError:
+                pytest.skip("nothing may be run as another user")
+        assert answer == (0, "canon a file\n", "")
 
 
 def test_no_space(copy: Copy) -> None:
