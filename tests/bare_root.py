@@ -13,7 +13,7 @@ import pytest
 from support import run
 
 COMMANDS = """awk basename cat chmod cmp comm cp cut date diff dirname echo env expr false find grep head id ln ls mkdir mkfifo
-mktemp mv nproc od paste printf readlink rm rmdir sed seq sh sleep sort stat tac tail tee test touch tr true uname uniq wc xargs
+mktemp mv nl nproc od paste printf readlink rm rmdir sed seq sh sleep sort split stat tac tail tee test touch tr true uname uniq wc xargs
 yes""".split()
 # Neither the machine's packages nor what the tests don't take of Python.
 WITHOUT = shutil.ignore_patterns("site-packages", "dist-packages", "test", "tests", "idlelib", "tkinter", "__pycache__")

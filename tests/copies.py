@@ -50,11 +50,13 @@ if "HUNGRY" in text and jobs != "1":
 if "WRONG" in text:
     print("not proved")
     sys.exit(1)
+compiler = "aarch64-linux-gnu-gcc" if "aarch64-unknown-linux-gnu" in words else "cc"
 if "staticlib" in words:
     os.chdir("{scratch}")
-    compiler = "aarch64-linux-gnu-gcc" if "aarch64-unknown-linux-gnu" in words else "cc"
     subprocess.run([compiler, "-fPIC", "-c", "calls.c"], check=True)
     subprocess.run(["ar", "rcs", made, "calls.o"], check=True)
+elif compiler != "cc":
+    subprocess.run([compiler, "-c", "-o", made, "-x", "c", "-"], input=b"int main(void) {{ return 0; }}", check=True)
 elif "--statements" in words:
     pathlib.Path(made).mkdir(exist_ok=True)
 else:
@@ -95,6 +97,7 @@ class Copy:
             self.root / "crates/crs_c/crsdesk.h": HEADER,
             self.root / "crates/crs_c/layout.c": LAYOUT,
             self.root / "crates/crs_c/heap.c": "",
+            self.root / "crates/crsdesk/system.c": "",
             self.root / "crates/crs_c/symbols.map": "CRSDESK_0.1 {\n    global: crsdesk_version;\n    local: *;\n};\n",
             self.root / "crates/crs_c/src/names.rt": 'give(b"0.1.0")',
             folder / "calls.c": CALLS,

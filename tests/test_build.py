@@ -210,6 +210,20 @@ def test_the_library_for_aarch64_is_made_beside_the_other(copy: Copy) -> None:
     assert copy.build("library", "--aarch64", status=2).splitlines()[-1] == wanted
 
 
+@pytest.mark.needs("aarch64-linux-gnu-gcc", "qemu-aarch64-static")
+def test_the_program_for_aarch64_is_made_beside_the_other(copy: Copy) -> None:
+    copy.build("program")
+    copy.asked()
+    copy.build("program", "--aarch64")
+    made = copy.root / "out/aarch64/bin/crsdesk"
+    subprocess.run(["qemu-aarch64-static", "-L", "/usr/aarch64-linux-gnu", made], check=True)
+    assert copy.asked() == ["crsdesk"] and copy.build("program", "--aarch64") == copy.build("program") == ""
+    (copy.root / "crates/crsdesk/system.c").write_text("not C")
+    log = copy.root / "crates/crsdesk/out/rlib/aarch64-unknown-linux-gnu/log"
+    wanted = f"crsdesk: the program was not linked. What the linker says is in {log}"
+    assert copy.build("program", "--aarch64", status=2).splitlines()[-1] == wanted
+
+
 def test_a_program_that_the_gate_built_is_run(copy: Copy) -> None:
     copy.program.parent.mkdir(parents=True)
     copy.program.write_text("#!/bin/sh\necho of the gate\n")

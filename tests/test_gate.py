@@ -21,7 +21,7 @@ def prove(copy: Copy, *words: str) -> tuple[int, list[str]]:
 def test_all_is_proved_and_the_library_built_of_it(copy: Copy) -> None:
     status, lines = prove(copy)
     assert (status, lines[-1]) == (0, "5 passed, 0 failed"), lines
-    assert {*copy.asked()} == {"crs_c"} and (copy.root / f"{PREFIX}.so").exists()
+    assert {*copy.asked()} - {"crsdesk"} == {"crs_c"} and (copy.root / f"{PREFIX}.so").exists()
     assert copy.run("canon")[1] == "a text\ncanon\n"
 
 
@@ -50,7 +50,7 @@ def test_it_proves_over_the_gate_where_other_runs_left_theirs(copy: Copy) -> Non
     copy.asked()
     status, lines = prove(copy)
     assert (status, lines[-1]) == (0, "5 passed, 0 failed"), lines
-    assert {*copy.asked()} == {"crs_c"} and stamp.read_text() == before
+    assert {*copy.asked()} - {"crsdesk"} == {"crs_c"} and stamp.read_text() == before
     status, lines = prove(copy)
     assert (status, lines[-1]) == (0, "5 passed, 0 failed"), lines
 
@@ -90,7 +90,7 @@ def test_a_release_of_other_sources_is_not_compared(copy: Copy) -> None:
     copy.source("side").write_text("more")
     status, lines = prove(copy)
     assert (status, lines[-1]) == (0, "7 passed, 0 failed")
-    assert "bin/crsdesk isn't compared: release/SOURCES tells another program" in lines
+    assert "bin/crsdesk for x86_64 isn't compared: release/SOURCES tells another program" in lines
 
 
 @pytest.mark.parametrize(

@@ -34,7 +34,11 @@ class Clone(NamedTuple):
     def make(self, **more: str) -> dict[str, bytes]:
         """The files of the release that is made there."""
         succeed([sys.executable, self.root / "tools/release.py"], env={**self.environment, **more}, cwd="/")
-        return {it.name: it.read_bytes() for it in (self.root / "release").iterdir()}
+        return self.files()
+
+    def files(self) -> dict[str, bytes]:
+        release = self.root / "release"
+        return {str(it.relative_to(release)): it.read_bytes() for it in release.rglob("*") if it.is_file()}
 
     def compare(self) -> tuple[int, str]:
         done = run([sys.executable, self.root / "tools/release.py", "--compare"], env=self.environment)
@@ -49,8 +53,12 @@ def clone(folder: pathlib.Path, program: pathlib.Path, prefix: pathlib.Path) -> 
     shutil.copy(program, made)
     for part in ("include", "lib"):
         shutil.copytree(prefix / part, root / "out/prefix" / part)
-    made.touch()
-    (root / "out/prefix/lib/libcrsdesk.so").touch()
+    # Those of x86-64 stand in for them: nothing here runs them.
+    shutil.copytree(root / "out/prefix/lib", root / "out/aarch64/lib")
+    (root / "out/aarch64/bin").mkdir()
+    shutil.copy(program, root / "out/aarch64/bin")
+    for file in (made, *root.glob("out/*/lib/libcrsdesk.so"), root / "out/aarch64/bin/crsdesk"):
+        file.touch()
     (kit / "bin").mkdir(parents=True)
     (kit / "WHAT").write_text("a kit")
     name = re.search(r"rattle-kit-\S+ logic [0-9a-f]+", (ROOT / "README.md").read_text(encoding="utf-8"))
@@ -67,26 +75,27 @@ def first(tmp_path_factory: pytest.TempPathFactory, program: pathlib.Path, prefi
 
 
 def files_of(made: Clone) -> dict[str, pathlib.Path]:
-    """The files of its release by their kinds."""
-    return {it.name.rpartition(".")[2]: it for it in (made.root / "release").iterdir()}
+    """The files of its release for x86-64 by their kinds."""
+    files = [it for it in (made.root / "release").iterdir() if "aarch64" not in it.name]
+    return {it.name.rpartition(".")[2]: it for it in files}
 
 
 @NEEDS
 def test_files(first: Clone) -> None:
-    version = build.version()
-    names = {it.name for it in files_of(first).values()}
-    (wheel,) = [it for it in names if it.endswith(".whl")]
-    (package,) = [it for it in names if it.endswith(".deb")]
-    assert names == {f"crsdesk-{version}-linux-x86_64.tar.xz", wheel, package, "SHA256SUMS", "SOURCES"}
+    version, files = build.version(), first.files()
+    wheel = files_of(first)["whl"].name
+    archives = {f"crsdesk-{version}-linux-{it}.tar.xz" for it in ("aarch64", "x86_64")}
+    others = {wheel, f"aarch64/{wheel.replace('x86_64', 'aarch64')}", files_of(first)["deb"].name}
+    assert {*files} == archives | others | {"SHA256SUMS", "SOURCES"}
     assert re.fullmatch(r"crsdesk-[\d.a-z]+-py3-none-manylinux_2_\d+_x86_64\.whl", wheel)
-    assert sum(it.stat().st_size for it in files_of(first).values()) < MOST
-    assert succeed(["sha256sum", "-c", "SHA256SUMS"], cwd=first.root / "release").count(": OK\n") == 3
+    assert sum(map(len, files.values())) < MOST
+    assert succeed(["sha256sum", "-c", "SHA256SUMS"], cwd=first.root / "release").count(": OK\n") == 5
 
 
 @NEEDS
 def test_equal_bytes(first: Clone, tmp_path: pathlib.Path, program: pathlib.Path, prefix: pathlib.Path) -> None:
     """Once more at another place of the world, and in another clone."""
-    files = {it.name: it.read_bytes() for it in files_of(first).values()}
+    files = first.files()
     assert first.make(TZ="Asia/Tokyo", LC_ALL="C", SOURCE_DATE_EPOCH="1") == files
     second = clone(tmp_path, program, prefix)
     umask = os.umask(0o077)
@@ -182,14 +191,16 @@ def test_debian_installs_it(first: Clone, tmp_path: pathlib.Path) -> None:
 
 @NEEDS
 def test_it_is_compared(first: Clone) -> None:
-    assert first.compare() == (0, "7 passed, 0 failed\n")
+    if not shutil.which("aarch64-linux-gnu-gcc"):
+        pytest.skip("aarch64-linux-gnu-gcc isn't there")
+    assert first.compare() == (0, "13 passed, 0 failed\n")
     made = first.root / "out/prefix/lib/libcrsdesk.a"
     before = made.read_bytes()
     made.write_bytes(before[:-1] + b"x")
     status, text = first.compare()
     made.write_bytes(before)
     archive = files_of(first)["xz"].name
-    wanted = f"release/{archive}: lib/libcrsdesk.a isn't what was built of these sources\n6 passed, 1 failed\n"
+    wanted = f"release/{archive}: lib/libcrsdesk.a isn't what was built of these sources\n12 passed, 1 failed\n"
     assert (status, text) == (1, wanted)
 
 

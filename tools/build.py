@@ -1,7 +1,7 @@
 #!/usr/bin/env python3
 """Proves and builds the program crsdesk, or the library for C.
 
-    build.py program
+    build.py program [--over-gate] [--aarch64]
     build.py library [--over-gate] [--aarch64] [FOLDER]
 
 Each crate that is needed is proved from its sources, over the statements of the crates below it: these were proved
@@ -19,9 +19,10 @@ library
 
 Both libraries show the calls of the header, and no other name, and the shared object each with the version that it came
 with (crates/crs_c/symbols.map). Before they are made, a C program compares the sizes and the fields of the header's
-structs with the library's own (crates/crs_c/layout.c). It takes a C compiler, cc, and ar, ld, objcopy, nm and strip; with
---aarch64, for Linux on that machine, aarch64-linux-gnu-gcc and its like, and qemu-aarch64 or qemu-aarch64-static (Debian:
-gcc-aarch64-linux-gnu and qemu-user-static), and the heap is that of crates/crs_c/heap.c.
+structs with the library's own (crates/crs_c/layout.c). It takes a C compiler, cc, and ar, ld, objcopy, nm and strip.
+With --aarch64, for Linux on that machine, it takes aarch64-linux-gnu-gcc and its like, and qemu-aarch64 or
+qemu-aarch64-static (Debian: gcc-aarch64-linux-gnu and qemu-user-static); the heap is that of crates/crs_c/heap.c, and the
+program, with crates/crsdesk/system.c, is out/aarch64/bin/crsdesk.
 With --over-gate the crates below are taken as rt ci has proved them and left them, so the gate proves them once, and
 the library's own check has one job, as each of the gate.
 
@@ -49,7 +50,8 @@ ROOT = pathlib.Path(__file__).resolve().parent.parent
 PROGRAM, LIBRARY = "crsdesk", "crs_c"
 FOLDER = ROOT / "crates" / LIBRARY
 HEADER, LAYOUT, SYMBOLS = FOLDER / "crsdesk.h", FOLDER / "layout.c", FOLDER / "symbols.map"
-HEAP = FOLDER / "heap.c"
+# What the toolchain has for x86-64 alone.
+HEAP, SYSTEM = FOLDER / "heap.c", ROOT / "crates" / PROGRAM / "system.c"
 PREFIX, PREFIX_OF_AARCH64 = ROOT / "out" / "prefix", ROOT / "out" / "aarch64"
 PARTS = ("src", "specs", "proofs")
 # The number of the interface: it rises where a program that was linked with the library before can't be run with it.
@@ -139,6 +141,8 @@ class Crate:
         """Has the library made for another machine."""
         self.target, self.kept = target, self.kept.with_name(target)
         self.made, self.log = self.folder / "out" / f"lib{self.name}-{target}.a", self.kept / "log"
+        if self.is_program:
+            self.made = PREFIX_OF_AARCH64 / "bin" / self.name
 
     def own(self) -> Iterator[str]:
         """The crate's files and folders: a folder changes with the names in it."""
@@ -152,6 +156,8 @@ class Crate:
         yield str(ROOT / "crates.txt")
         for crate in [*self.below, self]:
             yield from crate.own()
+        if self.target != TARGET:
+            yield from map(str, (HEAP, SYSTEM))
 
     @functools.cached_property
     def sum(self) -> str:
@@ -238,12 +244,15 @@ class Crate:
 
     def link(self) -> None:
         kit, made = toolchain(), f"{self.kept}/{self.name}"
-        words = ["--target", TARGET, "--toolchain", f"{kit}/toolchain", "-o", made, f"{self.kept}/main.o"]
-        words += [f"{kit}/c/libos_c.a", f"{kit}/c/liblibc_c.a"]
+        words = [kit / "bin" / "rattle-link", "--target", TARGET, "--toolchain", f"{kit}/toolchain", "-o", made]
+        words += [f"{self.kept}/main.o", f"{kit}/c/libos_c.a", f"{kit}/c/liblibc_c.a"]
+        if self.target != TARGET:
+            words = [tool("cc", self.target), "-O2", "-o", made, f"{self.kept}/main.o", SYSTEM, HEAP]
         with self.log.open("ab") as log:
-            done = subprocess.run([kit / "bin" / "rattle-link", *words], stdout=log, stderr=log, check=False)
+            done = subprocess.run([*map(str, words)], stdout=log, stderr=log, check=False)
         if done.returncode:
             raise Stop(f"the program was not linked. What the linker says is in {self.log}")
+        self.made.parent.mkdir(parents=True, exist_ok=True)
         os.replace(made, self.made)
 
 
@@ -428,24 +437,29 @@ def link(library: Crate, lib: pathlib.Path, scratch: pathlib.Path) -> None:
     os.link(shared, plain)
 
 
-def build_program() -> None:
+def build_program(is_over_gate: bool = False, target: str = TARGET) -> None:
     *below, program = needed([PROGRAM])
+    if target != TARGET:
+        program.aim(target)
+        # Its sum hasn't the C that is linked with it.
+        if not is_newer(program.made, program.sources()):
+            program.made.unlink(missing_ok=True)
     if not program.is_current():
-        prove([*below, program], "the program")
+        prove([*below, program], "the program", below if is_over_gate else ())
 
 
 def sources_of_library(target: str = TARGET) -> Iterator[str]:
     """The files and folders that the library is made of."""
-    yield from needed([LIBRARY])[-1].sources()
-    yield from map(str, (HEADER, LAYOUT, SYMBOLS))
-    if target != TARGET:
-        yield str(HEAP)
+    library = needed([LIBRARY])[-1]
+    library.target = target
+    yield from [*library.sources(), *map(str, (HEADER, LAYOUT, SYMBOLS))]
 
 
 def sum_of(what: str) -> str:
     """A sum of all that the program, or the library, is made of but the toolchain."""
     crate = needed([PROGRAM if what == "program" else LIBRARY])[-1]
-    more = [] if what == "program" else [it.read_bytes() for it in (HEADER, LAYOUT, SYMBOLS, HEAP)]
+    files = [HEAP, SYSTEM] if what == "program" else [HEAP, HEADER, LAYOUT, SYMBOLS]
+    more = [it.read_bytes() for it in files]
     return hashlib.sha256(repr((crate.sum, more)).encode()).hexdigest()
 
 
@@ -486,13 +500,13 @@ def main() -> int:
     parser = argparse.ArgumentParser(description=__doc__, formatter_class=argparse.RawDescriptionHelpFormatter)
     parser.add_argument("what", choices=("program", "library"))
     parser.add_argument("folder", nargs="?", type=pathlib.Path, metavar="FOLDER")
-    parser.add_argument("--aarch64", action="store_true", help="makes the library for that machine")
+    parser.add_argument("--aarch64", action="store_true", help="makes it for that machine")
     parser.add_argument("--over-gate", action="store_true", help="takes the crates below as rt ci has left them")
     given = parser.parse_args()
-    if given.what == "program":
-        return ended(given.what, build_program)
-    folder = given.folder or (PREFIX_OF_AARCH64 if given.aarch64 else PREFIX)
     target = AARCH64 if given.aarch64 else TARGET
+    if given.what == "program":
+        return ended(given.what, lambda: build_program(given.over_gate, target))
+    folder = given.folder or (PREFIX_OF_AARCH64 if given.aarch64 else PREFIX)
     return ended(given.what, lambda: build_library(folder.resolve(), given.over_gate, target))
 
 

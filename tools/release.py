@@ -9,7 +9,8 @@ FOLDER then has, and nothing else:
     crsdesk-VERSION-linux-x86_64.tar.xz     a prefix: the program, the libraries, their header, manual, completions, rules
     crsdesk-*-manylinux_*_x86_64.whl        the Python package with the library, and the program
     crsdesk_*_amd64.deb                     the program for Debian, as packaging/debian/crsdesk.install has it
-    aarch64/crsdesk-*-aarch64.whl           the Python package with the library for that machine, where that was built
+    crsdesk-VERSION-linux-aarch64.tar.xz    where program and library were built for aarch64 too: a prefix for it,
+    aarch64/crsdesk-*_aarch64.whl           and the Python package
     SHA256SUMS                              of these
     SOURCES                                 the sums of the sources, and what the files were made with
 
@@ -48,20 +49,20 @@ DEBIAN = ROOT / "packaging" / "debian"
 # What ./install makes and the archive hasn't.
 WITHOUT = ("share/doc/", "share/crsdesk/crsdesk-", "share/crsdesk/installed", "lib/crsdesk_sqlite.so")
 PROGRAM, SHARED, STATIC = "bin/crsdesk", "lib/libcrsdesk.so", "lib/libcrsdesk.a"
-OF_AARCH64 = "aarch64/lib/libcrsdesk.so"
 Files = dict[str, tuple[int, bytes]]
-# Where each was built, by which ends of paths it is found in the release, and what it was made of and with.
+OWN, AARCH64 = "x86_64", "aarch64"
+# Where each was built; by which ends of paths it is found in the release; and what it was made of and with.
 BUILT = {
-    PROGRAM: chosen.HERE["program"],
-    **{it: build.PREFIX / it for it in (SHARED, STATIC)},
-    OF_AARCH64: build.PREFIX_OF_AARCH64 / SHARED,
+    OWN: {PROGRAM: chosen.HERE["program"], **{it: build.PREFIX / it for it in (SHARED, STATIC)}},
+    AARCH64: {it: build.PREFIX_OF_AARCH64 / it for it in (PROGRAM, SHARED, STATIC)},
 }
 ENDS = {PROGRAM: ("bin/crsdesk", "scripts/crsdesk"), SHARED: (".so", f".so.{build.INTERFACE}"), STATIC: (".a",)}
-ENDS[OF_AARCH64] = ENDS[SHARED]
 MADE_OF = {
-    PROGRAM: ("program", "kit"),
-    **{it: ("library", "kit", "compiler") for it in (SHARED, STATIC)},
-    OF_AARCH64: ("library", "kit", "compiler-aarch64"),
+    OWN: {PROGRAM: ["program", "kit"], **dict.fromkeys((SHARED, STATIC), ["library", "kit", "compiler"])},
+    AARCH64: {
+        PROGRAM: ["program", "kit", "compiler-aarch64"],
+        **dict.fromkeys((SHARED, STATIC), ["library", "kit", "compiler-aarch64"]),
+    },
 }
 
 
@@ -100,6 +101,20 @@ def tar(files: Files, front: str, with_folders: bool = False) -> bytes:
     return lzma.compress(made.getvalue(), preset=9 | lzma.PRESET_EXTREME)
 
 
+def prefix_of(files: Files, machine: str) -> tuple[str, bytes]:
+    """The name and the bytes of the archive for a machine."""
+    name = f"crsdesk-{build.version()}-linux-{machine}"
+    return f"{name}.tar.xz", tar(files, f"{name}/")
+
+
+def is_built_for_aarch64(name: str) -> bool:
+    """Of the sources as they are."""
+    program = build.needed([build.PROGRAM])[-1]
+    program.target = build.AARCH64
+    sources = program.sources() if name == PROGRAM else build.sources_of_library(build.AARCH64)
+    return build.is_newer(BUILT[AARCH64][name], sources)
+
+
 def installed(folder: pathlib.Path) -> pathlib.Path:
     """A prefix into which ./install has put all that it has."""
     environment = {key: value for key, value in os.environ.items() if key not in ("DESTDIR", "CRSDESK_LIBRARY")}
@@ -118,7 +133,7 @@ def files_of(prefix: pathlib.Path) -> Files:
         for name, it in found.items()
         if not name.startswith(WITHOUT)
     }
-    files[PROGRAM] = 0o755, chosen.HERE["program"].read_bytes()
+    files[PROGRAM] = 0o755, BUILT[OWN][PROGRAM].read_bytes()
     files["share/doc/crsdesk/copyright"] = 0o644, (DEBIAN / "copyright").read_bytes()
     return files
 
@@ -128,20 +143,19 @@ def record(name: str, data: bytes) -> str:
     return f"{name},sha256={digest},{len(data)}\n"
 
 
-def wheel(base: pathlib.Path, machine: str, shared: bytes, program: bytes = b"") -> tuple[str, bytes]:
-    """The name and the bytes of a wheel as ./install makes it, with a machine's library and a program, for each Linux on which
-    both run."""
+def wheel(base: pathlib.Path, machine: str, files: Files) -> tuple[str, bytes]:
+    """The name and the bytes of a wheel as ./install makes it, with the library and the program for a machine, for each Linux
+    on which both run."""
     with zipfile.ZipFile(base) as inside:
         held = {it: inside.read(it) for it in inside.namelist()}
     (front,) = {it.partition(".dist-info/")[0] for it in held if ".dist-info/" in it}
-    held["crsdesk/libcrsdesk.so"] = shared
-    major, minor = glibc_of(program, shared)
+    held["crsdesk/libcrsdesk.so"] = files[SHARED][1]
+    major, minor = glibc_of(files[PROGRAM][1], files[SHARED][1])
     tag = f"py3-none-manylinux_{major}_{minor}_{machine}"
     about = f"{front}.dist-info/WHEEL"
     held[about] = re.sub(rb"(?m)^Tag: .*$", f"Tag: {tag}".encode(), held[about])
     script = f"{front}.data/scripts/crsdesk"
-    if program:
-        held[script] = program
+    held[script] = files[PROGRAM][1]
     listing = f"{front}.dist-info/RECORD"
     del held[listing]
     lines = "".join(record(name, data) for name, data in sorted(held.items()))
@@ -235,20 +249,18 @@ def make(folder: pathlib.Path) -> None:
         bases = list(prefix.glob("share/crsdesk/*.whl"))
         if len(bases) != 1:
             raise Stop("no release was made: ./install made no wheel")
-        files, machine = files_of(prefix), os.uname().machine
-        archive = f"crsdesk-{build.version()}-linux-{machine}"
-        packages = [
-            (f"{archive}.tar.xz", tar(files, f"{archive}/")),
-            wheel(bases[0], machine, files[SHARED][1], files[PROGRAM][1]),
-            deb(files),
-        ]
-        if build.is_newer(BUILT[OF_AARCH64], build.sources_of_library(build.AARCH64)):
-            own, data = wheel(bases[0], "aarch64", BUILT[OF_AARCH64].read_bytes())
-            packages.append((f"aarch64/{own}", data))
-    made = dict(packages)
+        files = files_of(prefix)
+        packages = dict([prefix_of(files, OWN), wheel(bases[0], OWN, files), deb(files)])
+        is_for_aarch64 = all(map(is_built_for_aarch64, (PROGRAM, SHARED)))
+        if is_for_aarch64:
+            for name in (PROGRAM, STATIC, SHARED, f"{SHARED}.{build.INTERFACE}"):
+                files[name] = files[name][0], (build.PREFIX_OF_AARCH64 / name).read_bytes()
+            own, data = wheel(bases[0], AARCH64, files)
+            packages.update([prefix_of(files, AARCH64), (f"{AARCH64}/{own}", data)])
+    made = packages
     sums = "".join(f"{hashlib.sha256(data).hexdigest()}  {it}\n" for it, data in sorted(made.items()))
     made["SHA256SUMS"] = sums.encode()
-    told = {key: value for key, value in made_with().items() if "aarch64" not in key or len(packages) > 3}
+    told = {key: value for key, value in made_with().items() if "aarch64" not in key or is_for_aarch64}
     made["SOURCES"] = "".join(f"{key} {value}\n" for key, value in told.items()).encode()
     for file in [it for it in folder.rglob("*") if it.is_file()]:
         file.unlink()
@@ -291,25 +303,28 @@ def compare() -> tuple[int, int]:
         print("nothing is compared: there is no release for this machine")
         return 0, 0
     told, now, counts = chosen.told_of_sources(), made_with(), [0, 0]
-    wanted: dict[str, bytes] = {}
-    # A release without it names no compiler for aarch64.
-    for name, words in [it for it in MADE_OF.items() if it[0] != OF_AARCH64 or it[1][-1] in told]:
-        if other := [it for it in words if told.get(it) != now.get(it)]:
-            print(f"{name} isn't compared: release/SOURCES tells another {other[0]}")
-        else:
-            wanted[name] = BUILT[name].read_bytes() if BUILT[name].exists() else b""
-    found = set[str]()
+    wanted: dict[tuple[str, str], bytes] = {}
+    # A release that has nothing for aarch64 names no compiler for it.
+    for machine in (OWN, AARCH64) if "compiler-aarch64" in told else (OWN,):
+        for name, words in MADE_OF[machine].items():
+            file = BUILT[machine][name]
+            if other := [it for it in words if told.get(it) != now.get(it)]:
+                print(f"{name} for {machine} isn't compared: release/SOURCES tells another {other[0]}")
+            else:
+                wanted[machine, name] = file.read_bytes() if file.exists() else b""
+    found = set[tuple[str, str]]()
     for file in sorted(chosen.RELEASE.rglob("*.*")):
+        machine = AARCH64 if AARCH64 in file.name else OWN
         for path, data in held_by(file):
-            for name in wanted:
-                if (name == OF_AARCH64) == (file.parent.name == "aarch64") and path.endswith(ENDS[name]):
-                    found.add(name)
-                    counts[data != wanted[name]] += 1
-                    if data != wanted[name]:
+            for key in ((machine, name) for name, ends in ENDS.items() if path.endswith(ends)):
+                if key in wanted:
+                    found.add(key)
+                    counts[data != wanted[key]] += 1
+                    if data != wanted[key]:
                         print(f"release/{file.name}: {path} isn't what was built of these sources")
-    for name in {*wanted} - found:
+    for machine, name in {*wanted} - found:
         counts[1] += 1
-        print(f"release/ has no {name}")
+        print(f"release/ has no {name} for {machine}")
     return counts[0], counts[1]
 
 
