@@ -6,6 +6,7 @@ import hashlib
 import io
 import os
 import pathlib
+import re
 import shutil
 import subprocess
 import sys
@@ -149,13 +150,10 @@ class Copy:
                 info.size, info.mode = len(data), 0o755
                 inside.addfile(info, io.BytesIO(data))
         (folder / "SHA256SUMS").write_text(f"{hashlib.sha256(archive.read_bytes()).hexdigest()}  {archive.name}\n")
-        told = "build.sum_of('program'), build.sum_of('library')"
-        if shutil.which("cc"):
-            told = "*release.made_with().values()"
-        words = [sys.executable, "-c", f"import build, release; print({told}, sep=chr(10))"]
-        sums = succeed(words, cwd=self.root / "tools", env=self.environment).splitlines()
-        keys = "program", "library", "kit", "compiler"
-        (folder / "SOURCES").write_text("".join(f"{key} {value}\n" for key, value in zip(keys, sums)))
+        told = "release.made_with()" if shutil.which("cc") else "build.sums()"
+        code = f"import build, release; print(*(' '.join(it) for it in {told}.items()), sep=chr(10))"
+        sources = succeed([sys.executable, "-c", code], cwd=self.root / "tools", env=self.environment)
+        (folder / "SOURCES").write_text(re.sub("(?m)^compiler-aarch64.*\n", "", sources))
         return archive
 
     def run(self, *words: str, **more: Any) -> tuple[int, str, str]:

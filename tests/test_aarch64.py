@@ -33,8 +33,7 @@ def built(tmp_path_factory: pytest.TempPathFactory) -> pathlib.Path:
     if all(map(release.is_built_for_aarch64, (release.PROGRAM, release.SHARED))):
         return build.PREFIX_OF_AARCH64
     archive = next(chosen.RELEASE.glob("*-linux-aarch64.tar.xz"), None)
-    told = chosen.told_of_sources()
-    if not archive or any(told.get(it) != build.sum_of(it) for it in chosen.PLACES):
+    if not archive or not build.sums().items() <= chosen.told_of_sources().items():
         pytest.skip("nothing for aarch64 is there: tools/build.py --aarch64 builds it")
     folder = tmp_path_factory.mktemp("aarch64") / "prefix"
     chosen.unpack(archive, folder)

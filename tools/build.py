@@ -455,12 +455,18 @@ def sources_of_library(target: str = TARGET) -> Iterator[str]:
     yield from [*library.sources(), *map(str, (HEADER, LAYOUT, SYMBOLS))]
 
 
-def sum_of(what: str) -> str:
-    """A sum of all that the program, or the library, is made of but the toolchain."""
-    crate = needed([PROGRAM if what == "program" else LIBRARY])[-1]
-    files = [HEAP, SYSTEM] if what == "program" else [HEAP, HEADER, LAYOUT, SYMBOLS]
-    more = [it.read_bytes() for it in files]
-    return hashlib.sha256(repr((crate.sum, more)).encode()).hexdigest()
+def sums() -> dict[str, str]:
+    """Sums of all that the program and the library are made of but the toolchain, on x86-64 and on aarch64."""
+    program, library = (needed([it])[-1].sum for it in (PROGRAM, LIBRARY))
+    calls_of = [HEADER, LAYOUT, SYMBOLS]
+    made_of = {
+        "program": (program, []),
+        "program-aarch64": (program, [HEAP, SYSTEM]),
+        "library": (library, calls_of),
+        "library-aarch64": (library, [*calls_of, HEAP]),
+    }
+    texts = {key: repr((sum, [it.read_bytes() for it in files])) for key, (sum, files) in made_of.items()}
+    return {key: hashlib.sha256(text.encode()).hexdigest() for key, text in texts.items()}
 
 
 def build_library(folder: pathlib.Path = PREFIX, is_over_gate: bool = False, target: str = TARGET) -> None:

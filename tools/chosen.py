@@ -70,12 +70,16 @@ def told_of_sources() -> dict[str, str]:
     return {line.partition(" ")[0]: line.partition(" ")[2] for line in lines}
 
 
+def is_of_sources(what: str) -> bool:
+    """Whether the release for this machine is of the sources as they are."""
+    key = what if os.uname().machine == "x86_64" else f"{what}-{os.uname().machine}"
+    return told_of_sources().get(key) == build.sums().get(key)
+
+
 def is_released(what: str, file: pathlib.Path) -> bool:
-    """Whether the release is of the sources as they are, by their sum, or since what was unpacked of it is newer."""
+    """Whether it is of the sources as they are, or what was unpacked of it is newer than all of them."""
     sources = build.needed([build.PROGRAM])[-1].sources() if what == "program" else build.sources_of_library()
-    if build.is_newer(file, [*sources, str(SOURCES), str(SUMS)]):
-        return True
-    return told_of_sources().get(what) == build.sum_of(what)
+    return build.is_newer(file, [*sources, str(SOURCES), str(SUMS)]) or is_of_sources(what)
 
 
 def extracted(file: pathlib.Path) -> bytes:
@@ -170,7 +174,7 @@ def show(what: str, scratch: pathlib.Path | None) -> None:
 def run(words: list[str]) -> NoReturn:
     """Becomes the released program."""
     file = archive()
-    if not file or told_of_sources().get("program") != build.sum_of("program"):
+    if not file or not is_of_sources("program"):
         raise Stop("release/ isn't of the sources as they are")
     data = next(data for name, _, data in files_in(file) if name == PLACES["program"])
     made = os.memfd_create("crsdesk")

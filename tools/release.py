@@ -60,8 +60,8 @@ ENDS = {PROGRAM: ("bin/crsdesk", "scripts/crsdesk"), SHARED: (".so", f".so.{buil
 MADE_OF = {
     OWN: {PROGRAM: ["program", "kit"], **dict.fromkeys((SHARED, STATIC), ["library", "kit", "compiler"])},
     AARCH64: {
-        PROGRAM: ["program", "kit", "compiler-aarch64"],
-        **dict.fromkeys((SHARED, STATIC), ["library", "kit", "compiler-aarch64"]),
+        PROGRAM: ["program-aarch64", "kit", "compiler-aarch64"],
+        **dict.fromkeys((SHARED, STATIC), ["library-aarch64", "kit", "compiler-aarch64"]),
     },
 }
 
@@ -230,8 +230,7 @@ def made_with() -> dict[str, str]:
     """What the files were made of and with, by the first words of the lines of SOURCES."""
     what = hashlib.sha256((build.toolchain() / "WHAT").read_bytes()).hexdigest()
     return {
-        "program": build.sum_of("program"),
-        "library": build.sum_of("library"),
+        **build.sums(),
         "kit": f"{build.run('rt', 'version').strip()} {what}",
         **{
             key: ", ".join(first_line(build.tool(it, target), "--version") for it in ("cc", "ld"))
