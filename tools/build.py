@@ -459,7 +459,7 @@ def sums() -> dict[str, str]:
     """Sums of all that the program and the library are made of but the toolchain, on x86-64 and on aarch64."""
     program, library = (needed([it])[-1].sum for it in (PROGRAM, LIBRARY))
     calls_of = [HEADER, LAYOUT, SYMBOLS]
-    made_of = {
+    made_of: dict[str, tuple[str, list[pathlib.Path]]] = {
         "program": (program, []),
         "program-aarch64": (program, [HEAP, SYSTEM]),
         "library": (library, calls_of),
