@@ -144,7 +144,7 @@ def test_names(prefix: pathlib.Path) -> None:
     told = run(["readelf", "-d", "-V", shared]).stdout
     assert re.findall(r"soname: \[(.*)\]", told) == [f"libcrsdesk.so.{build.INTERFACE}"], "its own name"
     assert re.findall(r"Name: (CRSDESK\S*)", told) == sorted(set(came.values())), "its versions"
-    version = [int(it) for it in build.version().split(".")]
+    version = [int(it) for it in build.version().partition("-")[0].split(".")]
     late = [it for it in came.values() if [int(part) for part in it[len("CRSDESK_") :].split(".")] > version[:2]]
     assert late == [], "versions after the library's"
 

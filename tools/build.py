@@ -372,7 +372,7 @@ def shown(shared: pathlib.Path, target: str = TARGET) -> set[str]:
 
 
 def version() -> str:
-    found = re.search(r'give\(b"([0-9.]+)"', (FOLDER / "src" / "names.rt").read_text(encoding="utf-8"))
+    found = re.search(r'give\(b"([0-9.]+(?:-dev)?)"', (FOLDER / "src" / "names.rt").read_text(encoding="utf-8"))
     return found[1] if found else ""
 
 
