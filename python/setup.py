@@ -33,7 +33,7 @@ class WithLibrary(build_py):
         super().run()
         library = pathlib.Path(os.environ.get("CRSDESK_LIBRARY", LIBRARY))
         if not library.is_file():
-            raise SystemExit(f"crsdesk: there is no shared object {library}: tools/build.py makes it")
+            raise SystemExit(f"crsdesk: there is no shared object {library}: tools/chosen.py tells where it is")
         self.copy_file(str(library), os.path.join(self.build_lib, "crsdesk", "libcrsdesk.so"))
 
 

@@ -7,12 +7,13 @@ import sys
 from typing import Any
 
 import pytest
+from copies import Copy
 from support import GATE, HERE, LIBRARY, PROGRAM, ROOT, found, need, succeed
 
 # The package is that of the sources, over the library that was built, here and in what is run, whose python3 is this one.
 # Python's own files leave nothing in the repository.
 sys.dont_write_bytecode = True
-sys.path[:0] = [str(ROOT / "python" / "src"), str(ROOT / "tools")]
+sys.path[:0] = [str(ROOT / "python" / "src")]
 os.environ |= {
     "CRSDESK_LIBRARY": str(LIBRARY),
     "PYTHONPATH": os.pathsep.join(filter(None, [str(ROOT / "python" / "src"), os.environ.get("PYTHONPATH")])),
@@ -30,7 +31,12 @@ def program() -> pathlib.Path:
 @pytest.fixture(scope="session")
 def library() -> pathlib.Path:
     """The shared object."""
-    return found(LIBRARY, "python3 tools/build.py library")
+    return found(LIBRARY, "python3 tools/chosen.py library")
+
+
+@pytest.fixture
+def copy(tmp_path: pathlib.Path) -> Copy:
+    return Copy(tmp_path)
 
 
 @pytest.fixture(scope="session")
@@ -42,6 +48,7 @@ def prefix(library: pathlib.Path) -> pathlib.Path:
 @pytest.fixture(scope="session")
 def refusing(tmp_path_factory: pytest.TempPathFactory) -> pathlib.Path:
     """What is preloaded to refuse growths of memory."""
+    need("cc")
     made = tmp_path_factory.mktemp("growths") / "refuse_growth.so"
     succeed(["cc", "-std=c99", "-shared", "-fPIC", "-O2", "-o", made, HERE / "refuse_growth.c"])
     return made
@@ -73,7 +80,7 @@ def pytest_runtest_setup(item: Any) -> None:
     for marker in item.iter_markers("needs"):
         need(*marker.args)
     if item.get_closest_marker("gate") and GATE not in os.environ:
-        pytest.skip("rt ci wasn't run before: ./test runs both")
+        pytest.skip("rt ci wasn't run before: .ci/run runs ./prove and then this")
 
 
 def pytest_terminal_summary(terminalreporter: Any, exitstatus: int) -> None:

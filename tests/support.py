@@ -14,11 +14,14 @@ import pytest
 HERE = pathlib.Path(__file__).resolve().parent
 ROOT = HERE.parent
 EXAMPLES = ROOT / "examples"
-PREFIX = ROOT / "out" / "prefix"
-LIBRARY = PREFIX / "lib" / "libcrsdesk.so"
-PROGRAM = ROOT / "crates" / "crsdesk" / "out" / "crsdesk"
+sys.path.insert(0, str(ROOT / "tools"))
+
+import chosen  # noqa: E402
+
+# As ./crsdesk takes them, but nothing is built.
+PROGRAM, LIBRARY = (chosen.place_of(it, builds=False) for it in ("program", "library"))
 SECONDS = 1800
-# ./test sets this variable: what rt ci has built must be there.
+# .ci/run sets this variable: what rt ci has built must be there.
 GATE = "CRSDESK_GATE"
 # What runs a program as another user, where that can be; else it is run as this one.
 NOBODY: Dict[str, Any] = {"user": 65534, "group": 65534, "extra_groups": []} if os.geteuid() == 0 else {}
@@ -69,7 +72,7 @@ def found(file: pathlib.Path, how: str) -> pathlib.Path:
 def left_by_gate(file: pathlib.Path) -> pathlib.Path:
     """A file that rt ci leaves; a test is skipped where it isn't there, and rt ci wasn't run before."""
     if not file.exists() and GATE not in os.environ:
-        pytest.skip(f"there is no {file.relative_to(ROOT)}: ./test has rt ci make it")
+        pytest.skip(f"there is no {file.relative_to(ROOT)}: ./prove has rt ci make it")
     return found(file, "rt ci")
 
 

@@ -1,121 +1,17 @@
-"""tools/build.py and ./crsdesk, over a toolchain that proves what has no word WRONG, and writes down what it was asked for."""
+"""tools/build.py and ./crsdesk, in a copy of a few crates with a toolchain of its own (copies.py)."""
 from __future__ import annotations
 
 import fcntl
 import os
-import pathlib
 import re
-import shutil
 import signal
 import subprocess
 import time
 
 import pytest
+from copies import HEADER, ROWS, Copy
 
-ROOT = pathlib.Path(__file__).resolve().parent.parent
-RT = """#!/bin/sh
-[ "$1" = version ] && echo "$KIT_NAME logic abc" || echo "{kit}/START-HERE.md"
-"""
-# Takes a source's word for what happens: HUNGRY is killed where it has more than one job, SLOW waits to be ended.
-RATTLE = """#!/usr/bin/env python3
-import os, pathlib, signal, subprocess, sys, time
-words = sys.argv
-name, jobs, made = (words[words.index(it) + 1] for it in ("--crate-name", "--jobs", "-o"))
-text = pathlib.Path(next(it for it in words if it.endswith(".rt"))).read_text()
-with open("{log}", "a") as log:
-    print(name, "jobs=" + jobs, "statements" * ("--statements" in words), *(it for it in words if "=" in it and ".rlib" in it and "{kit}" not in it), file=log)
-if "SLOW" in text:
-    time.sleep(60)
-if "CHANGES" in text:
-    pathlib.Path("specs/New.antt").write_text("")
-if "HUNGRY" in text and jobs != "1":
-    os.kill(os.getpid(), signal.SIGKILL)
-if "WRONG" in text:
-    print("not proved")
-    sys.exit(1)
-if "staticlib" in words:
-    os.chdir("{scratch}")
-    subprocess.run(["cc", "-fPIC", "-c", "calls.c"], check=True)
-    subprocess.run(["ar", "rcs", made, "calls.o"], check=True)
-elif "--statements" in words:
-    pathlib.Path(made).mkdir(exist_ok=True)
-else:
-    pathlib.Path(made).write_text("#!/bin/sh\\ncat; echo $*; exit 3\\n")
-"""
-LINK = """#!/bin/sh
-while [ "$1" != -o ]; do shift; done
-cp "$3" "$2" && chmod +x "$2"
-"""
-HEADER = "typedef struct crsdesk_part { int place; } crsdesk_part;\nint crsdesk_version(crsdesk_part *part);\n"
-LAYOUT = """#include <crsdesk.h>
-#include <stdio.h>
-int layout_part(void);
-int main(void) { return layout_part() == sizeof(crsdesk_part) ? 0 : puts("struct crsdesk_part") * 0 + 1; }
-"""
-CALLS = "int crsdesk_version(void *part) { return part != 0; }\nint layout_part(void) { return sizeof(int); }\n"
-ROWS = "low:\nmid: low\nside: low itoa\ncrs_c staticlib: mid\nother: low\ncrsdesk: mid side\n"
-
-
-class Copy:
-    """A repository of a few crates with the build of this one, and a toolchain of its own."""
-
-    def __init__(self, folder: pathlib.Path) -> None:
-        self.root, kit = folder / "repository", folder / "kit"
-        self.log = folder / "log"
-        self.environment = {**os.environ, "PATH": f"{kit}/bin:{os.environ['PATH']}", "KIT_NAME": "rattle-kit-1"}
-        names = {"kit": kit, "log": self.log, "scratch": folder}
-        self.program = self.root / "crates/crsdesk/out/crsdesk"
-        for path, text in {
-            self.root / "README.md": "Proved with `rattle-kit-1 logic abc`.\n",
-            self.root / "crates.txt": ROWS,
-            self.root / "crates/crs_c/crsdesk.h": HEADER,
-            self.root / "crates/crs_c/layout.c": LAYOUT,
-            self.root / "crates/crs_c/symbols.map": "CRSDESK_0.1 {\n    global: crsdesk_version;\n    local: *;\n};\n",
-            self.root / "crates/crs_c/src/names.rt": 'give(b"0.1.0")',
-            folder / "calls.c": CALLS,
-            folder / "empty.c": "",
-            kit / "WHAT": "a kit",
-            kit / "bin/rt": RT.format(**names),
-            kit / "bin/rattle": RATTLE.format(**names),
-            kit / "bin/rattle-link": LINK,
-        }.items():
-            path.parent.mkdir(parents=True, exist_ok=True)
-            path.write_text(text)
-        for file in (kit / "bin").iterdir():
-            file.chmod(0o755)
-        for line in ROWS.splitlines():
-            name = line.partition(":")[0].split()[0]
-            for part in ("src", "specs"):
-                (self.root / "crates" / name / part).mkdir(parents=True, exist_ok=True)
-            self.source(name).write_text("")
-        for own in ("tools/build.py", "crsdesk"):
-            (self.root / own).parent.mkdir(exist_ok=True)
-            shutil.copy(ROOT / own, self.root / own)
-        (kit / "c").mkdir()
-        subprocess.run(["cc", "-c", folder / "empty.c", "-o", folder / "empty.o"], check=True)
-        subprocess.run(["ar", "rcs", kit / "c/liblibc_c.a", folder / "empty.o"], check=True)
-
-    def source(self, name: str) -> pathlib.Path:
-        return self.root / "crates" / name / "src" / ("main.rt" if name == "crsdesk" else "lib.rt")
-
-    def build(self, *words: str, status: int = 0) -> str:
-        """What the build says, once what is asked for is there."""
-        done = subprocess.run(
-            [self.root / "tools/build.py", *words], env=self.environment, capture_output=True, text=True
-        )
-        assert (done.returncode, done.stdout) == (status, ""), done.stderr
-        return done.stderr
-
-    def asked(self) -> list[str]:
-        """What the prover was asked for since the last call, without the paths."""
-        text = self.log.read_text() if self.log.exists() else ""
-        self.log.write_text("")
-        return [line.split()[0] for line in text.splitlines()]
-
-
-@pytest.fixture
-def copy(tmp_path: pathlib.Path) -> Copy:
-    return Copy(tmp_path)
+pytestmark = pytest.mark.needs("cc", "ar")
 
 
 def test_first_call_proves_what_the_program_needs_and_says_how_far_it_is(copy: Copy) -> None:
@@ -293,6 +189,39 @@ def test_the_library_is_proved_by_one_job_over_what_the_gate_left(copy: Copy) ->
     assert copy.asked() == ["crs_c"]
     copy.source("low").write_text("more")
     assert "left nothing of low" in copy.build("library", "--over-gate", status=2)
+
+
+@pytest.mark.needs("aarch64-linux-gnu-gcc", "qemu-aarch64-static")
+def test_the_library_for_aarch64_is_made_beside_the_other(copy: Copy) -> None:
+    copy.build("library")
+    copy.asked()
+    copy.build("library", "--aarch64")
+    assert copy.asked() == ["crs_c"] and (copy.root / "crates/crs_c/out/libcrs_c.a").exists()
+    shared = copy.root / "out/aarch64/lib/libcrsdesk.so"
+    machine = subprocess.run(["readelf", "-h", shared], capture_output=True, text=True).stdout
+    assert re.search(r"Machine: +AArch64\n", machine)
+    assert copy.build("library", "--aarch64") == copy.build("library") == "" and copy.asked() == []
+    (copy.root / "crates/crs_c/heap.c").write_text("/* A line. */")
+    before = shared.stat().st_ctime_ns
+    assert copy.build("library", "--aarch64") == "" and copy.asked() == [] and shared.stat().st_ctime_ns > before
+    header = copy.root / "crates/crs_c/crsdesk.h"
+    header.write_text(HEADER.replace("int place;", "long place;"))
+    wanted = "crsdesk: the library was not made, since crsdesk.h isn't its header: struct crsdesk_part"
+    assert copy.build("library", "--aarch64", status=2).splitlines()[-1] == wanted
+
+
+@pytest.mark.needs("aarch64-linux-gnu-gcc", "qemu-aarch64-static")
+def test_the_program_for_aarch64_is_made_beside_the_other(copy: Copy) -> None:
+    copy.build("program")
+    copy.asked()
+    copy.build("program", "--aarch64")
+    made = copy.root / "out/aarch64/bin/crsdesk"
+    subprocess.run(["qemu-aarch64-static", "-L", "/usr/aarch64-linux-gnu", made], check=True)
+    assert copy.asked() == ["crsdesk"] and copy.build("program", "--aarch64") == copy.build("program") == ""
+    (copy.root / "crates/crsdesk/system.c").write_text("not C")
+    log = copy.root / "crates/crsdesk/out/rlib/aarch64-unknown-linux-gnu/log"
+    wanted = f"crsdesk: the program was not linked. What the linker says is in {log}"
+    assert copy.build("program", "--aarch64", status=2).splitlines()[-1] == wanted
 
 
 def test_a_program_that_the_gate_built_is_run(copy: Copy) -> None:

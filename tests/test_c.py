@@ -24,9 +24,8 @@ import build
 import c_rows
 import pytest
 import rows
-from build import toolchain
 from c_library import PAGE, Block
-from support import HERE, ROOT, run, succeed
+from support import HERE, ROOT, need, run, succeed
 
 MADE = build.FOLDER / "out" / "libcrs_c.a"
 ROWS = c_rows.all_rows()
@@ -73,6 +72,7 @@ def linked(
     source: pathlib.Path, kind: str, flags: List[str], prefix: pathlib.Path, folder: pathlib.Path, compiler: str = "cc"
 ) -> pathlib.Path:
     """The program of a C file with one of the two libraries."""
+    need("cc")
     made = folder / f"{source.stem}_{kind}"
     lib = prefix / "lib"
     libraries: List[object] = (
@@ -165,6 +165,7 @@ def test_calls(kind: str, prefix: pathlib.Path, tmp_path: pathlib.Path) -> None:
 def by_threads(tmp_path_factory: pytest.TempPathFactory) -> Tuple[str, List[str]]:
     """The first compiler whose thread sanitizer works here, and what runs a program at the addresses that it asks for:
     some that a kernel chooses are where the sanitizer keeps its own."""
+    need("cc")
     folder = tmp_path_factory.mktemp("threads")
     (folder / "idle.c").write_text("int main(void) { return 0; }\n", encoding="utf-8")
     fixed = ["setarch", "--addr-no-randomize"]
@@ -191,7 +192,7 @@ def whole(tmp_path_factory: pytest.TempPathFactory) -> pathlib.Path:
     """One object of the toolchain's two libraries."""
     if not MADE.exists():
         pytest.skip(f"there is no {MADE.relative_to(ROOT)}")
-    return build.joined(MADE, toolchain(), tmp_path_factory.mktemp("whole"))
+    return build.joined(MADE, build.heap(MADE, build.TARGET), tmp_path_factory.mktemp("whole"))
 
 
 @pytest.mark.parametrize("old, new, struct", [("", "", ""), *OTHER_LAYOUTS])
@@ -212,6 +213,7 @@ def test_version(kind: str, program: pathlib.Path, prefix: pathlib.Path, tmp_pat
     assert f"crsdesk {succeed([linked(file, kind, [], prefix, tmp_path)])}" == succeed([program, "--version"])
 
 
+@pytest.mark.needs("cc", "c++")
 @pytest.mark.parametrize(
     "compiler, ending, flags",
     [
@@ -227,6 +229,7 @@ def test_header(compiler: str, ending: str, flags: List[str], prefix: pathlib.Pa
     succeed([tmp_path / "bare"])
 
 
+@pytest.mark.needs("nm")
 def test_names(prefix: pathlib.Path) -> None:
     """The libraries show the calls of the header, and nothing else; the shared object with the versions of symbols.map."""
     lines = succeed(["nm", "-g", "--defined-only", prefix / "lib" / "libcrsdesk.a"]).splitlines()
@@ -235,12 +238,13 @@ def test_names(prefix: pathlib.Path) -> None:
     assert build.shown(prefix / "lib" / "libcrsdesk.so") == {f"{it}@@{came.get(it)}" for it in build.calls()}
 
 
+@pytest.mark.needs("readelf")
 def test_needs(prefix: pathlib.Path) -> None:
     told = succeed(["readelf", "-d", prefix / "lib" / "libcrsdesk.so"])
     assert re.findall(r"\(NEEDED\).*\[(.*)\]", told) == ["libc.so.6"]
 
 
-@pytest.mark.needs("pkg-config")
+@pytest.mark.needs("cc", "pkg-config")
 def test_pkg_config(prefix: pathlib.Path, tmp_path: pathlib.Path) -> None:
     environment = {**os.environ, "PKG_CONFIG_PATH": str(prefix / "lib" / "pkgconfig")}
     words = succeed(["pkg-config", "--cflags", "--libs", "crsdesk"], env=environment).split()

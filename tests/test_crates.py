@@ -19,6 +19,7 @@ def test_contracts_alone(crate: str) -> None:
             assert not another, f"{path.relative_to(ROOT)} cites a lemma of {owner}: {module}"
 
 
+@pytest.mark.needs("rt")
 @pytest.mark.parametrize("crate", sorted(it.parent.name for it in (ROOT / "crates").glob("*/src")))
 def test_layout(crate: str) -> None:
     """rt ci asks for it crate by crate, each before its proof; here a few seconds tell of all."""

@@ -79,8 +79,8 @@ def files_below(folder: pathlib.Path) -> Set[str]:
 
 
 def wanted_files(error: str) -> Set[str]:
-    """What an installation has; the extension is left out where SQLite's header isn't there, which it has reported."""
-    lacks = "skipped: lib/crsdesk_sqlite.so" in error
+    """What an installation has; the extension is left out where what it takes isn't there, which it has reported."""
+    lacks = "/crsdesk_sqlite.so, since" in error
     pages = {f"share/man/man3/{it.name}" for it in (ROOT / "man").glob("*.3")}
     wheel = set() if "skipped: the wheel" in error else {"the wheel"}
     return FILES - ({"lib/crsdesk_sqlite.so"} if lacks else set()) | wheel | pages | documents()
@@ -127,6 +127,7 @@ def test_links(prefix: pathlib.Path) -> None:
     assert "`MainTheorem` (`crates/crs_canon/specs/MainTheorem.antt`)," in readme, "a source's path"
 
 
+@pytest.mark.needs("nm", "strip")
 @pytest.mark.parametrize("path", ["bin/crsdesk", "lib/crsdesk_sqlite.so", "lib/libcrsdesk.so"])
 def test_it_is_stripped(path: str, prefix: pathlib.Path) -> None:
     if path == "lib/crsdesk_sqlite.so" and not (prefix / path).exists():
@@ -134,6 +135,7 @@ def test_it_is_stripped(path: str, prefix: pathlib.Path) -> None:
     assert run(["nm", prefix / path]).stdout == ""
 
 
+@pytest.mark.needs("nm", "readelf")
 def test_names(prefix: pathlib.Path) -> None:
     """The shared object shows its calls with the versions that they came with, of which none is later than the library's."""
     shared, came = prefix / "lib/libcrsdesk.so", build.versions()
@@ -142,7 +144,7 @@ def test_names(prefix: pathlib.Path) -> None:
     told = run(["readelf", "-d", "-V", shared]).stdout
     assert re.findall(r"soname: \[(.*)\]", told) == [f"libcrsdesk.so.{build.INTERFACE}"], "its own name"
     assert re.findall(r"Name: (CRSDESK\S*)", told) == sorted(set(came.values())), "its versions"
-    version = [int(it) for it in build.version().split(".")]
+    version = [int(it) for it in build.version().partition("-")[0].split(".")]
     late = [it for it in came.values() if [int(part) for part in it[len("CRSDESK_") :].split(".")] > version[:2]]
     assert late == [], "versions after the library's"
 
@@ -249,6 +251,7 @@ def test_pkg_config(prefix: pathlib.Path) -> None:
     assert f"crsdesk {done.stdout}" == run([prefix / "bin" / "crsdesk", "--version"]).stdout
 
 
+@pytest.mark.needs("cc")
 @pytest.mark.parametrize("name", ["libcrsdesk.a", "libcrsdesk.so"])
 def test_library(name: str, prefix: pathlib.Path, tmp_path: pathlib.Path) -> None:
     """The example in C against each library."""

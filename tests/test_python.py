@@ -8,6 +8,7 @@ import copy
 import doctest
 import io
 import os
+import functools
 import pathlib
 import pickle
 import random
@@ -183,12 +184,10 @@ def test_caret_is_under_the_place() -> None:
 
 def test_refusal_of_two_texts() -> None:
     for call in (same, difference, differences):
-        with pytest.raises(Refused) as caught:
-            call(HEIGHT, "x")
-        assert caught.value.which == "second" and str(caught.value).startswith("the second text: refused 7 ")
-        with pytest.raises(Refused) as caught:
-            call("x[", "y")
-        assert caught.value.which == "first" and caught.value.text == b"x["
+        second = refusal_of("x", functools.partial(call, HEIGHT))
+        assert second.which == "second" and str(second).startswith("the second text: refused 7 ")
+        first = refusal_of("x[", lambda text, call=call: call(text, "y"))
+        assert first.which == "first" and first.text == b"x["
 
 
 def test_refusal_goes_to_another_process() -> None:
@@ -405,6 +404,7 @@ def test_hints_of_files() -> None:
         assert not re.search(r"\bstr\b|hand over|TEXT", told), told
 
 
+@pytest.mark.needs("iconv")
 def test_what_the_hints_of_files_do(tmp_path: pathlib.Path) -> None:
     """The commands in the hints, run over a file, make a text that is read."""
     for text, part in FILE_HINTS[1:6]:

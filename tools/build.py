@@ -1,15 +1,16 @@
 #!/usr/bin/env python3
 """Proves and builds the program crsdesk, or the library for C.
 
-    build.py program
-    build.py library [--over-gate] [FOLDER]
+    build.py program [--over-gate] [--aarch64]
+    build.py library [--over-gate] [--aarch64] [FOLDER]
 
 Each crate that is needed is proved from its sources, over the statements of the crates below it: these were proved
 before, and rt run would load their proofs too, and prove one crate after the other. What is proved stays in
 out/rlib/statements of each crate, with a sum of all that it rests on. A call after an interrupt or a change goes on from
 there, and where nothing changed it does nothing. Other runs of the toolchain in these crates wait, and so does this one.
 
-The program is crates/crsdesk/out/crsdesk. FOLDER, which is out/prefix where none is given, has for the library
+The program is crates/crsdesk/out/crsdesk. FOLDER, which is out/prefix, or out/aarch64, where none is given, has for the
+library
 
     include/crsdesk.h           the header
     lib/libcrsdesk.a            the static library, with the C functions of the toolchain's heap in it
@@ -19,6 +20,9 @@ The program is crates/crsdesk/out/crsdesk. FOLDER, which is out/prefix where non
 Both libraries show the calls of the header, and no other name, and the shared object each with the version that it came
 with (crates/crs_c/symbols.map). Before they are made, a C program compares the sizes and the fields of the header's
 structs with the library's own (crates/crs_c/layout.c). It takes a C compiler, cc, and ar, ld, objcopy, nm and strip.
+With --aarch64, for Linux on that machine, it takes aarch64-linux-gnu-gcc and its like, and qemu-aarch64 or
+qemu-aarch64-static (Debian: gcc-aarch64-linux-gnu and qemu-user-static); the heap is that of crates/crs_c/heap.c, and the
+program, with crates/crsdesk/system.c, is out/aarch64/bin/crsdesk.
 With --over-gate the crates below are taken as rt ci has proved them and left them, so the gate proves them once, and
 the library's own check has one job, as each of the gate.
 
@@ -40,20 +44,22 @@ import subprocess
 import sys
 import tempfile
 import time
-from typing import Iterable, Iterator, Sequence
+from typing import Callable, Iterable, Iterator, Sequence
 
 ROOT = pathlib.Path(__file__).resolve().parent.parent
 PROGRAM, LIBRARY = "crsdesk", "crs_c"
 FOLDER = ROOT / "crates" / LIBRARY
 HEADER, LAYOUT, SYMBOLS = FOLDER / "crsdesk.h", FOLDER / "layout.c", FOLDER / "symbols.map"
-PREFIX = ROOT / "out" / "prefix"
+# What the toolchain has for x86-64 alone.
+HEAP, SYSTEM = FOLDER / "heap.c", ROOT / "crates" / PROGRAM / "system.c"
+PREFIX, PREFIX_OF_AARCH64 = ROOT / "out" / "prefix", ROOT / "out" / "aarch64"
 PARTS = ("src", "specs", "proofs")
 # The number of the interface: it rises where a program that was linked with the library before can't be run with it.
 INTERFACE = 0
 # The jobs of one check, and the memory that each may take.
 MOST_JOBS = 4
 JOB_BYTES = 1_500_000_000
-TARGET = "x86_64-unknown-linux-gnu"
+TARGET, AARCH64 = "x86_64-unknown-linux-gnu", "aarch64-unknown-linux-gnu"
 BESIDE = 5
 ANY_TOOLCHAIN = "CRSDESK_ANY_TOOLCHAIN"
 # Before any source was read: what is made is of the sources as they were then.
@@ -95,7 +101,7 @@ def run(*words: object) -> str:
 def toolchain() -> pathlib.Path:
     """The toolchain's folder, where its logic is that of the one that the README names."""
     if not shutil.which("rt"):
-        raise Stop('the Rattle toolchain isn\'t here: no command rt. README, "Two commands", says what is needed')
+        raise Stop('the Rattle toolchain isn\'t here: no command rt. README, "Three commands", says what is needed')
     wanted = re.search(r"rattle-kit-\S+ logic ([0-9a-f]+)", (ROOT / "README.md").read_text(encoding="utf-8"))
     found, page = (run("rt", it).strip() for it in ("version", "doc"))
     if not (wanted and found.endswith(f" logic {wanted[1]}") or os.environ.get(ANY_TOOLCHAIN)):
@@ -114,6 +120,8 @@ def is_newer(made: pathlib.Path, sources: Iterable[str]) -> bool:
 class Crate:
     """A crate that the program or the library needs."""
 
+    target = TARGET
+
     def __init__(self, name: str, libraries: list[str], below: list[Crate]) -> None:
         self.name = name
         self.folder = ROOT / "crates" / name
@@ -129,6 +137,13 @@ class Crate:
         self.log = self.kept / "log"
         self.jobs = 0
 
+    def aim(self, target: str) -> None:
+        """Has the library made for another machine."""
+        self.target, self.kept = target, self.kept.with_name(target)
+        self.made, self.log = self.folder / "out" / f"lib{self.name}-{target}.a", self.kept / "log"
+        if self.is_program:
+            self.made = PREFIX_OF_AARCH64 / "bin" / self.name
+
     def own(self) -> Iterator[str]:
         """The crate's files and folders: a folder changes with the names in it."""
         for part in PARTS:
@@ -141,6 +156,8 @@ class Crate:
         yield str(ROOT / "crates.txt")
         for crate in [*self.below, self]:
             yield from crate.own()
+        if self.target != TARGET:
+            yield from map(str, (HEAP, SYSTEM))
 
     @functools.cached_property
     def sum(self) -> str:
@@ -189,6 +206,7 @@ class Crate:
         if self.is_program or self.name == LIBRARY:
             words += ["--toolchain", f"{toolchain()}/toolchain", "--backend", "llvm"]
             words += ["--crate-type", "staticlib"] * (self.name == LIBRARY)
+            words += ["--target", self.target] * (self.target != TARGET)
         else:
             words += ["--statements"]
         with self.log.open("wb") as log:
@@ -226,12 +244,15 @@ class Crate:
 
     def link(self) -> None:
         kit, made = toolchain(), f"{self.kept}/{self.name}"
-        words = ["--target", TARGET, "--toolchain", f"{kit}/toolchain", "-o", made, f"{self.kept}/main.o"]
-        words += [f"{kit}/c/libos_c.a", f"{kit}/c/liblibc_c.a"]
+        words = [kit / "bin" / "rattle-link", "--target", TARGET, "--toolchain", f"{kit}/toolchain", "-o", made]
+        words += [f"{self.kept}/main.o", f"{kit}/c/libos_c.a", f"{kit}/c/liblibc_c.a"]
+        if self.target != TARGET:
+            words = [tool("cc", self.target), "-O2", "-o", made, f"{self.kept}/main.o", SYSTEM, HEAP]
         with self.log.open("ab") as log:
-            done = subprocess.run([kit / "bin" / "rattle-link", *words], stdout=log, stderr=log, check=False)
+            done = subprocess.run([*map(str, words)], stdout=log, stderr=log, check=False)
         if done.returncode:
             raise Stop(f"the program was not linked. What the linker says is in {self.log}")
+        self.made.parent.mkdir(parents=True, exist_ok=True)
         os.replace(made, self.made)
 
 
@@ -337,90 +358,138 @@ def versions() -> dict[str, str]:
     return {name: node for node, body in nodes for name in re.findall(r"\b(crsdesk_\w+);", body)}
 
 
-def shown(shared: pathlib.Path) -> set[str]:
+def tool(name: str, target: str) -> str:
+    """The C compiler, or one of its tools, that makes things for a machine."""
+    if target == TARGET:
+        return name
+    return f"aarch64-linux-gnu-{'gcc' if name == 'cc' else name}"
+
+
+def shown(shared: pathlib.Path, target: str = TARGET) -> set[str]:
     """The calls that a shared object shows, with their versions."""
-    lines = run("nm", "-D", "--defined-only", "--with-symbol-versions", shared).splitlines()
-    return {line.split()[2] for line in lines if line.split()[1] != "A"}
+    words = [tool("nm", target), "-D", "--defined-only", "--with-symbol-versions", shared]
+    return {line.split()[2] for line in run(*words).splitlines() if line.split()[1] != "A"}
 
 
 def version() -> str:
-    found = re.search(r'give\(b"([0-9.]+)"', (FOLDER / "src" / "names.rt").read_text(encoding="utf-8"))
+    found = re.search(r'give\(b"([0-9.]+(?:-dev)?)"', (FOLDER / "src" / "names.rt").read_text(encoding="utf-8"))
     return found[1] if found else ""
 
 
-def differences(include: pathlib.Path, whole: pathlib.Path, scratch: pathlib.Path) -> list[str]:
+def emulator(target: str) -> list[str]:
+    """What runs a program for a machine here."""
+    found = [it for it in ("qemu-aarch64-static", "qemu-aarch64") if shutil.which(it)]
+    if target != TARGET and not found:
+        raise Stop("nothing was built: no command qemu-aarch64-static, which runs what is made for aarch64")
+    return found[:1] * (target != TARGET)
+
+
+def differences(include: pathlib.Path, whole: pathlib.Path, scratch: pathlib.Path, target: str = TARGET) -> list[str]:
     """In which structs the header of this folder differs from the library, a line each."""
     program = scratch / "layout"
-    run("cc", "-std=c11", f"-I{include}", "-o", program, LAYOUT, whole)
-    done = subprocess.run([str(program)], stdout=subprocess.PIPE, stderr=subprocess.STDOUT, check=False)
+    own = ["-static"] * (target != TARGET)
+    run(tool("cc", target), "-std=c11", *own, f"-I{include}", "-o", program, LAYOUT, whole)
+    words = [*emulator(target), str(program)]
+    done = subprocess.run(words, stdout=subprocess.PIPE, stderr=subprocess.STDOUT, check=False)
     lines = done.stdout.decode(errors="replace").splitlines()
     return lines if done.returncode == 0 or lines else [f"{LAYOUT.name} ended with status {done.returncode}"]
 
 
-def joined(made: pathlib.Path, kit: pathlib.Path, scratch: pathlib.Path) -> pathlib.Path:
-    """One object of the toolchain's two libraries, which still shows all names."""
+def joined(made: pathlib.Path, heap: pathlib.Path, scratch: pathlib.Path, target: str = TARGET) -> pathlib.Path:
+    """One object of the library and its heap, which still shows all names."""
     whole = scratch / "crsdesk.o"
-    run("ld", "-r", "-o", whole, "--whole-archive", made, "--no-whole-archive", f"{kit}/c/liblibc_c.a")
+    run(tool("ld", target), "-r", "-o", whole, "--whole-archive", made, "--no-whole-archive", heap)
     return whole
 
 
-def link(made: pathlib.Path, lib: pathlib.Path, scratch: pathlib.Path) -> None:
-    """Both libraries, of the toolchain's two."""
-    names, came = calls(), versions()
+def heap(scratch: pathlib.Path, target: str) -> pathlib.Path:
+    """The C functions of the heap: the toolchain's where it has them."""
+    if target == TARGET:
+        return toolchain() / "c" / "liblibc_c.a"
+    run(tool("cc", target), "-std=c11", "-O2", "-fPIC", "-c", "-o", scratch / "heap.o", HEAP)
+    return scratch / "heap.o"
+
+
+def link(library: Crate, lib: pathlib.Path, scratch: pathlib.Path) -> None:
+    """Both libraries, of the prover's and the heap."""
+    target, names, came = library.target, calls(), versions()
     if set(names) != set(came):
         raise Stop(f"{SYMBOLS.name} and {HEADER.name} don't have the same calls: {sorted(set(names) ^ set(came))}")
-    whole, script = joined(made, toolchain(), scratch), scratch / "names"
-    if found := differences(FOLDER, whole, scratch):
+    whole, script = joined(library.made, heap(scratch, target), scratch, target), scratch / "names"
+    if found := differences(FOLDER, whole, scratch, target):
         raise Stop(f"the library was not made, since {HEADER.name} isn't its header: {'; '.join(found)}")
     script.write_text("".join(f"{it}\n" for it in names), encoding="utf-8")
-    run("objcopy", f"--keep-global-symbols={script}", whole)
+    run(tool("objcopy", target), f"--keep-global-symbols={script}", whole)
     static, plain, shared = (lib / f"libcrsdesk.{it}" for it in ("a", "so", f"so.{INTERFACE}"))
     for file in (static, plain, shared):
         file.unlink(missing_ok=True)
-    run("ar", "rcsD", static, whole)
+    run(tool("ar", target), "rcsD", static, whole)
     linker = [f"-Wl,-soname,{shared.name}", f"-Wl,--version-script={SYMBOLS}", "-Wl,-z,defs", "-Wl,-z,relro,-z,now"]
-    run("cc", "-shared", "-o", shared, *linker, "-Wl,--gc-sections", whole)
-    run("strip", "--strip-unneeded", shared)
+    run(tool("cc", target), "-shared", "-o", shared, *linker, "-Wl,--gc-sections", whole)
+    run(tool("strip", target), "--strip-unneeded", shared)
     wanted = {f"{name}@@{node}" for name, node in came.items()}
-    if shown(shared) != wanted:
-        raise Stop(f"the shared object doesn't have the names of {SYMBOLS.name}: {sorted(shown(shared) ^ wanted)}")
+    if shown(shared, target) != wanted:
+        raise Stop(
+            f"the shared object doesn't have the names of {SYMBOLS.name}: {sorted(shown(shared, target) ^ wanted)}"
+        )
     os.utime(shared, (BEGAN, BEGAN))
     # Not a symbolic link: the toolchain allows none in the repository.
     os.link(shared, plain)
 
 
-def build_program() -> None:
+def build_program(is_over_gate: bool = False, target: str = TARGET) -> None:
     *below, program = needed([PROGRAM])
+    if target != TARGET:
+        program.aim(target)
+        # Its sum hasn't the C that is linked with it.
+        if not is_newer(program.made, program.sources()):
+            program.made.unlink(missing_ok=True)
     if not program.is_current():
-        prove([*below, program], "the program")
+        prove([*below, program], "the program", below if is_over_gate else ())
 
 
-def build_library(folder: pathlib.Path, is_over_gate: bool) -> None:
-    *below, library = needed([LIBRARY])
-    if is_newer(folder / "lib" / "libcrsdesk.so", [*library.sources(), *map(str, (HEADER, LAYOUT, SYMBOLS))]):
+def sources_of_library(target: str = TARGET) -> Iterator[str]:
+    """The files and folders that the library is made of."""
+    library = needed([LIBRARY])[-1]
+    library.target = target
+    yield from [*library.sources(), *map(str, (HEADER, LAYOUT, SYMBOLS))]
+
+
+def sums() -> dict[str, str]:
+    """Sums of all that the program and the library are made of but the toolchain, on x86-64 and on aarch64."""
+    program, library = (needed([it])[-1].sum for it in (PROGRAM, LIBRARY))
+    calls_of = [HEADER, LAYOUT, SYMBOLS]
+    made_of: dict[str, tuple[str, list[pathlib.Path]]] = {
+        "program": (program, []),
+        "program-aarch64": (program, [HEAP, SYSTEM]),
+        "library": (library, calls_of),
+        "library-aarch64": (library, [*calls_of, HEAP]),
+    }
+    texts = {key: repr((sum, [it.read_bytes() for it in files])) for key, (sum, files) in made_of.items()}
+    return {key: hashlib.sha256(text.encode()).hexdigest() for key, text in texts.items()}
+
+
+def build_library(folder: pathlib.Path = PREFIX, is_over_gate: bool = False, target: str = TARGET) -> None:
+    if is_newer(folder / "lib" / "libcrsdesk.so", sources_of_library(target)):
         return
+    *below, library = needed([LIBRARY])
+    if target != TARGET:
+        library.aim(target)
     prove([*below, library], "the library", below if is_over_gate else ())
     for place in ("include", "lib/pkgconfig"):
         (folder / place).mkdir(parents=True, exist_ok=True)
     shutil.copyfile(HEADER, folder / "include" / HEADER.name)
     (folder / "lib" / "pkgconfig" / "crsdesk.pc").write_text(PC.format(version=version()), encoding="utf-8")
     with tempfile.TemporaryDirectory() as scratch:
-        link(library.made, folder / "lib", pathlib.Path(scratch))
+        link(library, folder / "lib", pathlib.Path(scratch))
 
 
-def main() -> int:
-    parser = argparse.ArgumentParser(description=__doc__, formatter_class=argparse.RawDescriptionHelpFormatter)
-    parser.add_argument("what", choices=("program", "library"))
-    parser.add_argument("folder", nargs="?", type=pathlib.Path, default=PREFIX, metavar="FOLDER")
-    parser.add_argument("--over-gate", action="store_true", help="takes the crates below as rt ci has left them")
-    given = parser.parse_args()
+def ended(what: str, call: Callable[[], None]) -> int:
+    """The status of a call that may build, whose faults are told in a line."""
     for number in (signal.SIGTERM, signal.SIGHUP):
         signal.signal(number, signal.default_int_handler)
     try:
-        if given.what == "program":
-            build_program()
-        else:
-            build_library(given.folder.resolve(), given.over_gate)
+        call()
     except Stop as why:
         say(str(why))
         return 2
@@ -428,9 +497,23 @@ def main() -> int:
         say("interrupted; the next call goes on from what is proved")
         return 130
     except OSError as error:
-        say(f"the {given.what} was not built: {error}")
+        say(f"the {what} was not built: {error}")
         return 2
     return 0
+
+
+def main() -> int:
+    parser = argparse.ArgumentParser(description=__doc__, formatter_class=argparse.RawDescriptionHelpFormatter)
+    parser.add_argument("what", choices=("program", "library"))
+    parser.add_argument("folder", nargs="?", type=pathlib.Path, metavar="FOLDER")
+    parser.add_argument("--aarch64", action="store_true", help="makes it for that machine")
+    parser.add_argument("--over-gate", action="store_true", help="takes the crates below as rt ci has left them")
+    given = parser.parse_args()
+    target = AARCH64 if given.aarch64 else TARGET
+    if given.what == "program":
+        return ended(given.what, lambda: build_program(given.over_gate, target))
+    folder = given.folder or (PREFIX_OF_AARCH64 if given.aarch64 else PREFIX)
+    return ended(given.what, lambda: build_library(folder.resolve(), given.over_gate, target))
 
 
 if __name__ == "__main__":

@@ -8,11 +8,12 @@ FILE, sql/out/crsdesk_sqlite.so where none is given, then needs the C library an
 takes a C compiler, cc, and SQLite's header sqlite3ext.h (Debian: libsqlite3-dev). The environment variables CPPFLAGS,
 CFLAGS and LDFLAGS have more words for the compiler and the linker.
 
-The status is 0 where it is there, 3 where SQLite's header isn't there, else 2, with a line on standard error.
+The status is 0 where it is there, 3 where the compiler or the header isn't, else 2, with a line on standard error.
 """
 import os
 import pathlib
 import shlex
+import shutil
 import subprocess
 import sys
 from typing import List
@@ -29,7 +30,9 @@ def asked(variable: str) -> List[str]:
 
 
 def has_header() -> bool:
-    """Whether the compiler finds SQLite's header."""
+    """Whether there is a compiler, and it finds SQLite's header."""
+    if not shutil.which("cc"):
+        return False
     words = ["cc", *asked("CPPFLAGS"), "-E", "-x", "c", "-o", "/dev/null", "-"]
     done = subprocess.run(words, input=b"#include <sqlite3ext.h>\n", capture_output=True, check=False)
     return done.returncode == 0
@@ -51,7 +54,10 @@ def main(words: List[str]) -> int:
     file = pathlib.Path(words[1]) if len(words) > 1 else SOURCES / "out" / "crsdesk_sqlite.so"
     try:
         if not has_header():
-            print("crsdesk: no header sqlite3ext.h (Debian: apt-get install libsqlite3-dev)", file=sys.stderr)
+            print(
+                "crsdesk: no cc, or no header sqlite3ext.h (Debian: apt-get install gcc libsqlite3-dev)",
+                file=sys.stderr,
+            )
             return NO_HEADER
         build(prefix, file, [])
     except (OSError, subprocess.CalledProcessError) as error:

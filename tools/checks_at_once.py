@@ -5,7 +5,7 @@ processors to use, where each check has four gigabytes of free memory, and at le
 Before and after each proof rt sums the files of the crate and of all below it, which takes no more than one processor for all
 checks: the one more is for these.
 
-./test hands the number to rt as RT_JOBS. rt by itself gives a check up to four jobs, which together take 30 % more processor
+./prove hands the number to rt as RT_JOBS. rt by itself gives a check up to four jobs, which together take 30 % more processor
 time than one, and has a crate as large as crs_value run alone.
 """
 from __future__ import annotations

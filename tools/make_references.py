@@ -13,6 +13,8 @@ import re
 import sys
 from typing import Dict, Iterator, List, NamedTuple, Optional, Tuple, Union
 
+import build
+
 ROOT = pathlib.Path(__file__).resolve().parent.parent
 PACKAGE = ROOT / "python" / "src" / "crsdesk"
 HEADER = ROOT / "crates" / "crs_c" / "crsdesk.h"
@@ -249,13 +251,6 @@ def wrapped(declaration: str) -> str:
     return "\n".join([*lines, line])
 
 
-def version() -> str:
-    text = (ROOT / "python" / "pyproject.toml").read_text(encoding="utf-8")
-    found = re.search(r'^version = "([^"]+)"', text, re.M)
-    assert found
-    return found[1]
-
-
 def manual_page(header: str) -> str:
     calls = list(calls_of(header))
     opening = without_marks(header[: header.index("*/") + 2])
@@ -263,7 +258,7 @@ def manual_page(header: str) -> str:
     opening = re.sub(r"\n\n    #include.*?\n\n", "\n\n", opening, flags=re.S).split("\n", 2)[2].strip()
     lines = [
         '.\\" Written by tools/make_references.py from crsdesk.h.',
-        f'.TH CRSDESK 3 "" "crsdesk {version()}" "Library calls"',
+        f'.TH CRSDESK 3 "" "crsdesk {build.version()}" "Library calls"',
         ".nh",
         ".SH NAME",
         ", ".join(call.name for call in calls) + " \\- compare and canonicalise coordinate reference systems (WKT2)",
