@@ -2,11 +2,18 @@
 use Rattle.std.proofs.Common.{arith, ◌≡◌, ℕ, List, MatchResult, Result, Ok, Err, false, inr, subst}
 use Rattle.crs_text.specs.inner.Prelude.{Item, kind_of_item, raw_of, SpellsNode}
 use Rattle.crs_text.specs.declared.items.ItemKind.TheVariants as kinds
+use Rattle.crs_shape.specs.declared.unit_kind.UnitKind.{UnitKind}
 use Rattle.crs_rules.specs.declared.uncounted.Uncounted.{Uncounted}
 use Rattle.crs_rules.specs.RulesFile.{FaultOfLine, Reads, is_idle, next}
 use Rattle.crs_rules.specs.declared.file.fault.RulesFault.{RulesFault}
 use Rattle.crs_rules.specs.declared.file.fault.RulesFault.TheVariants as faults
-use Rattle.crs_rules.specs.Statements.{FaultOfStatement, IsRefusedBy, Reading, States, with_item, with_word}
+use Rattle.crs_rules.specs.Statements.{FaultOfStatement, IsRefusedBy, Reading, States, is_meridian, kind_in, kind_named, meridian_named, with_item, with_word}
+
+pub word-kind : (item : Item) → kind_of_item item ≡ kinds.Word → kind_named (raw_of item) ≡ kind_in item
+word-kind item e = grind arith
+
+pub word-meridian : (k : UnitKind) (item : Item) → kind_of_item item ≡ kinds.Word → meridian_named k (raw_of item) ≡ is_meridian k item
+word-meridian k item e = grind arith
 
 pub word-item : (item : Item) (u : Uncounted) → kind_of_item item ≡ kinds.Word → with_word (raw_of item) u ≡ with_item item u
 word-item item u e = grind arith
