@@ -5,7 +5,7 @@ use Rattle.crs_shape.specs.declared.unit_kind.UnitKind.{UnitKind}
 use Rattle.crs_shape.specs.declared.unit_kind.UnitKind.TheVariants as kinds
 use Rattle.crs_shape.specs.declared.system_type.SystemType.{SystemType}
 use Rattle.crs_shape.specs.inner.Prelude.{asked_kind}
-use Rattle.crs_value.specs.inner.Prelude.{BaseParts, GeodeticParts, ProjectedParts, VerticalParts, NamedParts, IsNamed, IsAxisUnit, IsAxisMeridian, IsAxis, IsCompound, IsHorizontal, IsCrs, IsBase, IsGeodetic, IsProjected, IsVertical, HasOrders, HasUnits, IsSystem, SuitsAxis, AxisMeridianParts, AxisParts, SystemParts, UnitParts, CompoundParts, IsMeridian, IsUnit, IsUnitOf, MeridianParts, ConversionParts}
+use Rattle.crs_value.specs.inner.Prelude.{BaseParts, IsConversion, GeodeticParts, ProjectedParts, VerticalParts, NamedParts, IsNamed, IsAxisUnit, IsAxisMeridian, IsAxis, IsCompound, IsHorizontal, IsCrs, IsBase, IsGeodetic, IsProjected, IsVertical, HasOrders, HasUnits, IsSystem, SuitsAxis, AxisMeridianParts, AxisParts, SystemParts, UnitParts, CompoundParts, IsMeridian, IsUnit, IsUnitOf, MeridianParts, ConversionParts}
 use Rattle.crs_value.specs.Sound.{Each}
 use Rattle.crs_value.specs.declared.values.compound.Horizontal.{Horizontal}
 use Rattle.crs_value.specs.declared.values.compound.Horizontal.TheVariants as horizontals
@@ -104,38 +104,42 @@ base-with b y k l = record {
 }
 
 pub explicit-base-sound : (r : Meaning) (b : BaseParts) → IsBase b → IsBase (explicit_base r b)
-explicit-base-sound r b k = record {
+explicit-base-sound r b k =
+    base-with b _ k
+    (completed-meridians-sound _
+    (told-sound (IsUnitOf kinds.Angle) r.uncounted.meridian_units _ (bare-angle b.unit k.unit)) b.meridian k.meridian)
+
+pub geodetic-with : (g : GeodeticParts) (y : Option MeridianParts) → IsGeodetic g → IfSome y IsMeridian → IsGeodetic (record g { meridian = y })
+geodetic-with g y k l = record {
   name = k.name;
   dynamic = k.dynamic;
   frame = k.frame;
-  meridian = completed-meridians-sound _ (told-sound (IsUnitOf kinds.Angle) r.uncounted.meridian_units _ (bare-angle b.unit k.unit)) b.meridian k.meridian;
-  unit = k.unit;
-  identifiers = k.identifiers;
+  meridian = l;
+  system = k.system;
+  dimension = k.dimension;
+  tail = k.tail;
 }
 
 pub explicit-geodetic-sound : (r : Meaning) → IsSoundMeaning r → (g : GeodeticParts) → IsGeodetic g → IsGeodetic (explicit_geodetic r g)
-explicit-geodetic-sound r h g k = record {
-  name = k.name;
-  dynamic = k.dynamic;
-  frame = k.frame;
-  meridian =
-      completed-meridians-sound _
-      (told-sound (IsUnitOf kinds.Angle) r.uncounted.meridian_units _ (shared-sound kinds.Angle (system r g.system).axes (system-sound r h g.system k.system).axes))
-      g.meridian k.meridian;
-  system = k.system;
-  dimension = k.dimension;
-  tail = k.tail;
-}
+explicit-geodetic-sound r h g k =
+    geodetic-with g _ k
+    (completed-meridians-sound _
+    (told-sound (IsUnitOf kinds.Angle) r.uncounted.meridian_units _
+    (shared-sound kinds.Angle (system r g.system).axes (system-sound r h g.system k.system).axes)) g.meridian k.meridian)
+
+pub projected-base : (p : ProjectedParts) (b : BaseParts) → IsProjected p → IsBase b → IsProjected (record p { base = b })
+projected-base p b k l =
+    record { name = k.name; base = l; conversion = k.conversion; system = k.system; dimension = k.dimension; tail = k.tail }
+
+pub projected-conversion : (p : ProjectedParts) (c : ConversionParts) → IsProjected p → IsConversion c → IsProjected (record p { conversion = c })
+projected-conversion p c k l =
+    record { name = k.name; base = k.base; conversion = l; system = k.system; dimension = k.dimension; tail = k.tail }
 
 pub explicit-sound : (r : Meaning) → IsSoundMeaning r → (p : ProjectedParts) → IsProjected p → IsProjected (explicit r p)
-explicit-sound r h p k = record {
-  name = k.name;
-  base = explicit-base-sound r p.base k.base;
-  conversion = completed-conversion-sound r (missing_unit r p) (missing-sound r h p k) p.conversion k.conversion;
-  system = k.system;
-  dimension = k.dimension;
-  tail = k.tail;
-}
+explicit-sound r h p k =
+    projected-base _ _
+    (projected-conversion p _ k (completed-conversion-sound r (missing_unit r p) (missing-sound r h p k) p.conversion k.conversion))
+    (explicit-base-sound r p.base k.base)
 
 models-sound : (r : Meaning) → IsSoundMeaning r → (models : List NamedParts) → Each IsNamed models → Each IsNamed (geoid_models r models)
 models-sound r h models k =

@@ -3,9 +3,7 @@ use Rattle.std.proofs.Common.{◌≡◌, ◌↔◌, ◌<◌, ◌≤◌, ℕ, Boo
 use Rattle.std.specs.Str.{bytes_eq}
 use Rattle.std.proofs.lemmas.Bool.Decides.{same_from_decides}
 use Rattle.std.proofs.lemmas.Slice.Eq.{bytes_eq-Decides}
-use Rattle.crs_decimal.specs.inner.Prelude.{SameNumber, plain, Denotes, IsNormal, Value, exact}
-use Rattle.crs_decimal.specs.Fault.{IsFault}
-use Rattle.crs_decimal.specs.Spelling.{AreDigits, HasForm, IsInBounds, unsigned}
+use Rattle.crs_decimal.specs.inner.Prelude.{AreDigits, Denotes, HasForm, IsFault, IsInBounds, IsNormal, SameNumber, Value, exact, plain, unsigned}
 use Rattle.crs_decimal.specs.declared.fault.NumberFault.{NumberFault}
 use Rattle.crs_decimal.specs.declared.fault.NumberFault.TheVariants as faults
 use Rattle.crs_same.specs.SameParts.{one}

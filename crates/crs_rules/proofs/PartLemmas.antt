@@ -12,8 +12,6 @@ use Rattle.crs_value.specs.Sound.{Each}
 use Rattle.crs_rules.specs.Rewritten.{counted_name, conversion, counted, counted_frame, datum, dynamic, dynamics, ellipsoid, ensemble, extent, frame_or_ensemble, meridian, named, parameter, stemmed, tail, usage, bare, completed, completed_conversion, completed_meridian, told, first_unit_of, is_same_unit, one_of, shared, unit_of_kind, units_of, unity, with_unit_of}
 use Rattle.crs_rules.specs.Rules.{Meaning, NameAliasParts, RulesParts, UnitAliasParts, first_that, is_name_alias, is_unit_alias, meaning, name_for, unit_for, AreRules, IsNameAlias, IsUnitAlias}
 use Rattle.crs_value.specs.declared.values.frame.Frame.{Frame}
-use Rattle.crs_value.specs.declared.values.frame.Frame.TheVariants as frames
-use Rattle.crs_rules.proofs.PartLemmas.{IsSoundMeaning, choice, counted-name, unit-of, unit-sound}
 use Rattle.crs_rules.proofs.StemLemmas.{stem-sound}
 use Rattle.crs_value.specs.declared.values.frame.Frame.TheVariants as frames
 

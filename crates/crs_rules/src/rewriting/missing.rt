@@ -50,6 +50,23 @@ fn bare<'a>(unit: &Unit<'a>) -> BareUnit<'a>
     }
 }
 
+fn bare_part<'a>(unit: &Option<Unit<'a>>) -> Option<BareUnit<'a>>
+    ensures { result ≡ option_map bare unit.now }
+{
+    match unit {
+        None => None,
+        Some(unit) => Some(bare(unit)),
+    }
+}
+
+// The unit of angles of a base CRS.
+fn base_unit<'a>(value: &Base<'a>) -> Option<BareUnit<'a>>
+    ensures unit { result ≡ option_map bare value.now.unit }
+    ensures sound { IfSome result (IsUnitOf kinds.Angle) }
+{
+    bare_part(&value.unit)
+}
+
 // A unit as rules write it.
 fn written<'a>(unit: &Unit<'a>, rules: &'a Rules) -> BareUnit<'a>
     ensures { result ≡ bare ((meaning rules.now).unit unit.now) }
@@ -117,7 +134,8 @@ fn is_same_unit<'a>(first: &BareUnit<'a>, second: &BareUnit<'a>) -> bool
 
 // The first unit of this kind that an axis has.
 fn first_of<'a>(kind: UnitKind, axes: &[Axis<'a>], rules: &'a Rules) -> Option<BareUnit<'a>>
-    ensures { result ≡ first_unit_of (units_of kind (map (axis (meaning rules.now)) axes.now)) }
+    ensures unit { result ≡ first_unit_of (units_of kind (map (axis (meaning rules.now)) axes.now)) }
+    ensures sound { IfSome result (IsUnitOf kind) }
 {
     for axis in axes {
         if let Some(unit) = &axis.unit {
@@ -131,10 +149,10 @@ fn first_of<'a>(kind: UnitKind, axes: &[Axis<'a>], rules: &'a Rules) -> Option<B
 }
 
 // Whether the unit of an axis is this one, or of another kind.
-fn agrees<'a>(unit: &BareUnit<'a>, kind: UnitKind, axis: &Axis<'a>, rules: &'a Rules) -> bool
-    ensures { result ≡ list_all (is_same_unit unit.now) (with_unit_of kind (axis (meaning rules.now) axis.now).unit []) }
+fn agrees<'a>(unit: &BareUnit<'a>, kind: UnitKind, found: &Axis<'a>, rules: &'a Rules) -> bool
+    ensures { result ≡ list_all (is_same_unit unit.now) (with_unit_of kind (axis (meaning rules.now) found.now).unit []) }
 {
-    match &axis.unit {
+    match &found.unit {
         None => true,
         Some(other) => {
             let other = written(other, rules);
@@ -155,11 +173,12 @@ fn agree<'a>(unit: &BareUnit<'a>, kind: UnitKind, axes: &[Axis<'a>], rules: &'a 
 }
 
 // The unit of this kind that all axes have that have one of it, if there is one.
-fn shared<'a>(kind: UnitKind, system: &System<'a>, rules: &'a Rules) -> Option<BareUnit<'a>>
-    ensures { result ≡ shared kind (system (meaning rules.now) system.now).axes }
+fn shared<'a>(kind: UnitKind, value: &System<'a>, rules: &'a Rules) -> Option<BareUnit<'a>>
+    ensures unit { result ≡ shared kind (system (meaning rules.now) value.now).axes }
+    ensures sound { IfSome result (IsUnitOf kind) }
 {
-    let unit = first_of(kind, system.axes.as_slice(), rules)?;
-    if agree(&unit, kind, system.axes.as_slice(), rules) {
+    let unit = first_of(kind, value.axes.as_slice(), rules)?;
+    if agree(&unit, kind, value.axes.as_slice(), rules) {
         Some(unit)
     } else {
         None
@@ -242,23 +261,29 @@ fn complete<'a>(
 
 // ---- prime meridians
 
-// The unit of angles of a base CRS.
-fn base_unit<'a>(base: &Base<'a>) -> Option<BareUnit<'a>>
-    ensures unit { result ≡ option_map bare base.now.unit }
+// The unit of a prime meridian of a base CRS that leaves it out.
+fn told_base<'a>(value: &Base<'a>, rules: &'a Rules) -> Option<BareUnit<'a>>
+    ensures unit { result ≡ told rules.now.uncounted.meridian_units (option_map bare value.now.unit) }
     ensures sound { IfSome result (IsUnitOf kinds.Angle) }
 {
-    match &base.unit {
-        None => None,
-        Some(unit) => Some(bare(unit)),
+    if rules.uncounted.meridian_units {
+        base_unit(value)
+    } else {
+        None
     }
 }
 
-// The unit of angles of the axes of a system that are angles.
-fn axes_angle<'a>(system: &System<'a>, rules: &'a Rules) -> Option<BareUnit<'a>>
-    ensures unit { result ≡ shared kinds.Angle (system (meaning rules.now) system.now).axes }
+// The unit of a prime meridian of a geodetic CRS that leaves it out.
+fn told_axes<'a>(value: &System<'a>, rules: &'a Rules) -> Option<BareUnit<'a>>
+    ensures unit { result ≡ told rules.now.uncounted.meridian_units
+        (shared kinds.Angle (system (meaning rules.now) value.now).axes) }
     ensures sound { IfSome result (IsUnitOf kinds.Angle) }
 {
-    shared(UnitKind::Angle, system, rules)
+    if rules.uncounted.meridian_units {
+        shared(UnitKind::Angle, value, rules)
+    } else {
+        None
+    }
 }
 
 fn complete_meridian<'a>(alloc: Global, value: &mut Meridian<'a>, missing: &Option<BareUnit<'a>>)
@@ -286,10 +311,8 @@ fn complete_meridians<'a>(
 fn explicit_base<'a>(alloc: Global, value: &mut Base<'a>, rules: &'a Rules)
     ensures { value.new ≡ explicit_base (meaning rules.now) value.old }
 {
-    if rules.uncounted.meridian_units {
-        let missing = base_unit(value);
-        complete_meridians(alloc, &mut value.meridian, &missing);
-    }
+    let missing = told_base(value, rules);
+    complete_meridians(alloc, &mut value.meridian, &missing);
 }
 
 // ---- CRSs
@@ -298,9 +321,20 @@ fn explicit_base<'a>(alloc: Global, value: &mut Base<'a>, rules: &'a Rules)
 pub(super) fn explicit_geodetic<'a>(alloc: Global, value: &mut Geodetic<'a>, rules: &'a Rules)
     ensures { value.new ≡ explicit_geodetic (meaning rules.now) value.old }
 {
-    if rules.uncounted.meridian_units {
-        let missing = axes_angle(&value.system, rules);
-        complete_meridians(alloc, &mut value.meridian, &missing);
+    let missing = told_axes(&value.system, rules);
+    complete_meridians(alloc, &mut value.meridian, &missing);
+}
+
+// Gives the parameters of a projected CRS the units that they leave out.
+fn complete_parameters<'a>(alloc: Global, value: &mut Projected<'a>, rules: &'a Rules)
+    ensures { value.new ≡ record value.old {
+      conversion = completed_conversion (meaning rules.now) (missing_unit (meaning rules.now) value.old) value.old.conversion;
+    } }
+{
+    if rules.kinds.len() > 0 {
+        let angle = base_unit(&value.base);
+        let length = shared(UnitKind::Length, &value.system, rules);
+        complete(alloc, &mut value.conversion, angle, length, rules);
     }
 }
 
@@ -308,10 +342,6 @@ pub(super) fn explicit_geodetic<'a>(alloc: Global, value: &mut Geodetic<'a>, rul
 pub(super) fn explicit<'a>(alloc: Global, value: &mut Projected<'a>, rules: &'a Rules)
     ensures { value.new ≡ explicit (meaning rules.now) value.old }
 {
-    if rules.kinds.len() > 0 {
-        let angle = base_unit(&value.base);
-        let length = shared(UnitKind::Length, &value.system, rules);
-        complete(alloc, &mut value.conversion, angle, length, rules);
-    }
+    complete_parameters(alloc, value, rules);
     explicit_base(alloc, &mut value.base, rules);
 }

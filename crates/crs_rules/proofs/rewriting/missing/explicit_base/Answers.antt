@@ -1,6 +1,6 @@
 use Rattle.crs_rules.proofs.CrsLemmas.{base-with}
 use Rattle.crs_rules.proofs.PartLemmas.{completed-meridians-sound}
-use Rattle.crs_rules.proofs.rewriting.missing.complete_base.Goals as goal
+use Rattle.crs_rules.proofs.rewriting.missing.explicit_base.Goals as goal
 
 pub invariant_of-value : goal.invariant_of-value
 invariant_of-value c =
