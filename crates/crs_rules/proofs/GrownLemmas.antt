@@ -43,14 +43,15 @@ grown_on r s t g h = record {
 -- one more node of a set, or one that stood there
 pub grown_seen : (r q : Reading) (m : MemberParts) (new : Bool) (seen : List MemberParts) → q ≡ r → IsAdded q.seen m new seen
     → HasGrown r (record q { seen = seen })
-grown_seen r q m true seen e h = rw (← e) (record (grown_self q) { seen = (m ∷ [], h.1) })
+grown_seen r q m true seen e h = 
+    rw (← e) (let k = grown_self q in record { seen = (m ∷ [], h.1); names = k.names; units = k.units; kinds = k.kinds })
 grown_seen r q m false seen e h = rw (← e) (grown_same q (record q { seen = seen }) h.1 refl refl refl)
 
 -- one more name or unit
 grown_alias : (r : Reading) (k : Option UnitKind) (first m : MemberParts)
     → HasGrown r (record r { rules = with_alias k first m r.rules })
-grown_alias r None first m = record (grown_self r) { names = (_, refl) }
-grown_alias r (Some k) first m = record (grown_self r) { units = (_, refl) }
+grown_alias r None first m = let k = grown_self r in record { seen = k.seen; names = (_, refl); units = k.units; kinds = k.kinds }
+grown_alias r (Some o) first m = let k = grown_self r in record { seen = k.seen; names = k.names; units = (_, refl); kinds = k.kinds }
 
 -- the alias of a node that isn't the first of its set
 grown_on_join : (r : Reading) (first : Option MemberParts) (m : MemberParts) → HasGrown r (record r { rules = joined first m r.rules })
@@ -63,7 +64,7 @@ grown_joined r first m rules is = rw is (grown_on_join r first m)
 
 -- one more kind
 pub grown_kind : (r : Reading) (k : ParameterKindParts) → HasGrown r (record r { rules = record r.rules { kinds = r.rules.kinds ++ k ∷ [] } })
-grown_kind r k = record (grown_self r) { kinds = (k ∷ [], refl) }
+grown_kind r k = let g = grown_self r in record { seen = g.seen; names = g.names; units = g.units; kinds = (k ∷ [], refl) }
 
 -- another thing doesn't count
 pub grown_dropped : (r : Reading) (u : Uncounted) → HasGrown r (record r { rules = record r.rules { uncounted = u } })

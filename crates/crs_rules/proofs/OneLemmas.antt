@@ -141,7 +141,7 @@ drops-sharp = record {
 declares-one : DenotesOne → (k : UnitKind) (m n : MemberParts) (r s t : Reading) (item : Item) →
     Declares k m r item s → Declares k n r item t → s ≡ t
 declares-one law k m n r s t item p q =
-    p.adds ∙ (ap (λ x. with_kind k x r) (says-one law item m n p.says.0 q.says.0) ∙ sym q.adds)
+    p.adds ∙ (ap (λ (x : MemberParts). with_kind k x.name r) (says-one law item m n p.says.0 q.says.0) ∙ sym q.adds)
 
 sorts-sharp : DenotesOne → (k : UnitKind) → Sharp (Sorts k) (FaultOfSort k)
 sorts-sharp law k = record { one = one; fault = fault; apart = apart }
@@ -150,19 +150,19 @@ sorts-sharp law k = record { one = one; fault = fault; apart = apart }
     one r s t x (inl a) (inl b) = a.1 ∙ sym b.1
     one r s t x (inl a) (inr b) = absurd (true-false (is_meridian k x) a.0 b.0)
     one r s t x (inr a) (inl b) = absurd (true-false (is_meridian k x) b.0 a.0)
-    one r s t x (inr (no, m, a)) (inr (not, n, b)) = declares-one law k m n r s t x a b
+    one r s t x (inr (z, m, a)) (inr (y, n, b)) = declares-one law k m n r s t x a b
 
     fault : (r : Reading) (x : Item) (f g : RulesRefusal) → FaultOfSort k r x f → FaultOfSort k r x g → f ≡ g
-    fault r x f g (no, inl a) (not, inl b) = a.0 ∙ sym b.0
-    fault r x f g (no, inl a) (not, inr (n, says, b)) = absurd (a.1 n says)
-    fault r x f g (no, inr (m, says, a)) (not, inl b) = absurd (b.1 m says)
-    fault r x f g (no, inr (m, says, a)) (not, inr (n, other, b)) = a.0 ∙ sym b.0
+    fault r x f g (z, inl a) (y, inl b) = a.0 ∙ sym b.0
+    fault r x f g (z, inl a) (y, inr (n, says, b, c)) = absurd (a.1 n says)
+    fault r x f g (z, inr (m, says, a, d)) (y, inl b) = absurd (b.1 m says)
+    fault r x f g (z, inr (m, says, a, d)) (y, inr (n, other, b, c)) = a ∙ sym b
 
     apart : (r s : Reading) (x : Item) (f : RulesRefusal) → Sorts k r x s → ¬ (FaultOfSort k r x f)
-    apart r s x f (inl a) (no, b) = true-false (is_meridian k x) a.0 no
-    apart r s x f (inr (no, m, a)) (not, inl b) = b.1 m a.says
-    apart r s x f (inr (no, m, a)) (not, inr (n, says, b)) =
-        a.new (subst (λ o. OneIs (λ y. kind_node o ≡ y) r.seen) (says-one law x n m says.0 a.says.0) b.1)
+    apart r s x f (inl a) (z, b) = true-false (is_meridian k x) a.0 z
+    apart r s x f (inr (z, m, a)) (y, inl b) = b.1 m a.says
+    apart r s x f (inr (z, m, a)) (y, inr (n, says, b, c)) =
+        a.new (subst (λ (o : MemberParts). OneIs (λ y. kind_node o.name ≡ y) r.seen) (says-one law x n m says.0 a.says.0) c)
 
 kinds-sharp : DenotesOne → Sharp SortsAll FaultOfKind
 kinds-sharp law = record { one = one; fault = fault; apart = apart }
@@ -211,6 +211,7 @@ first-of (b ∷ bs) = b
 
 same-kind : (raw : List ℕ) → IsTrue (str_eq_ignore_ascii_case (codes "SAME") raw) →
     ¬ (IsTrue (str_eq_ignore_ascii_case (codes "KIND") raw))
+unfolding first-of
 same-kind raw p q =
     let a = (bytes_eq-Decides (str_to_ascii_lowercase (codes "SAME")) (str_to_ascii_lowercase raw)).0 p in
     let b = (bytes_eq-Decides (str_to_ascii_lowercase (codes "KIND")) (str_to_ascii_lowercase raw)).0 q in

@@ -2,6 +2,7 @@
 use Rattle.std.specs.Prelude.{◌≡◌, ◌⊎◌, ◌&&◌, ℕ, IsTrue, IsFalse, IfSome, List, [], ◌∷◌, ◌++◌, Bool, true, false, Option, Some, None, codes, if◌then◌else◌}
 use Rattle.std.specs.Str.{str_eq_ignore_ascii_case}
 use denote.Enum.Bare.{sameb}
+use Rattle.crs_decimal.specs.Numbers.{zero}
 use Rattle.crs_text.specs.Items.{Item, leaf, node, Siblings, End, More, arguments, place_of, raw_of}
 use Rattle.crs_text.specs.Tokens.{number, text, word}
 use Rattle.crs_shape.specs.declared.class.Class.TheVariants as class
@@ -172,14 +173,14 @@ is_meridian k (leaf word place raw) = meridian_named k raw
 is_meridian k (node place keyword square first others close) = false
 
 -- the name of parameters of a `KIND`, among the nodes that stood; no `SAME` has nodes of this class
-abbrev pub kind_node : MemberParts → MemberParts
-kind_node m = record { class = class.Conversion; name = m.name; factor = m.factor }
+abbrev pub kind_node : List ℕ → MemberParts
+kind_node name = record { class = class.Conversion; name = name; factor = zero }
 
--- numbers of parameters of a node's name are of this kind
-abbrev pub with_kind : UnitKind → MemberParts → Reading → Reading
-with_kind k m r = record r {
-  seen = r.seen ++ kind_node m ∷ [];
-  rules = record r.rules { kinds = r.rules.kinds ++ record { name = m.name; kind = k } ∷ [] };
+-- numbers of parameters of this name are of this kind
+abbrev pub with_kind : UnitKind → List ℕ → Reading → Reading
+with_kind k name r = record r {
+  seen = r.seen ++ kind_node name ∷ [];
+  rules = record r.rules { kinds = r.rules.kinds ++ record { name = name; kind = k } ∷ [] };
 }
 
 -- prime meridians may leave out their unit
@@ -193,8 +194,8 @@ SaysParameter item m = Says item m × (m.class ≡ class.Parameter)
 -- a node names parameters, which stood in no `KIND` before
 pub record Declares (k : UnitKind) (m : MemberParts) (r : Reading) (item : Item) (s : Reading) : Type 0 where
   pub says : SaysParameter item m
-  pub new : ¬ (OneIs (λ n. kind_node m ≡ n) r.seen)
-  pub adds : s ≡ with_kind k m r
+  pub new : ¬ (OneIs (λ n. kind_node m.name ≡ n) r.seen)
+  pub adds : s ≡ with_kind k m.name r
 
 -- an item of this kind: all prime meridians, or parameters
 abbrev pub Sorts : UnitKind → Reading → Item → Reading → Type 0
@@ -208,7 +209,7 @@ FaultOfSort k r item f =
     IsFalse (is_meridian k item) ×
     (((f ≡ refused_at 42 r.line item) × ((m : MemberParts) → ¬ (SaysParameter item m)))
     ⊎ ((m : MemberParts) × SaysParameter item m
-    × (f ≡ refused_at 44 r.line item) × OneIs (λ n. kind_node m ≡ n) r.seen))
+    × (f ≡ refused_at 44 r.line item) × OneIs (λ n. kind_node m.name ≡ n) r.seen))
 
 -- a kind, and what is of it
 abbrev pub SortsAll : Reading → Siblings → Reading → Type 0

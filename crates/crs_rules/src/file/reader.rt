@@ -4,6 +4,7 @@ ghost use Rattle.std.specs.Option.{option_copied};
 ghost use Rattle.crs_text.specs.Items.{HasId, IsNode, arguments};
 ghost use Rattle.crs_streams.specs.Lines.{AreLines};
 ghost use Rattle.crs_value.specs.Reading.{IsReading};
+ghost use Rattle.crs_value.specs.Sound.{IsText};
 ghost use Rattle.crs_value.specs.inner.Arguments.{Holds, ahead, item_at};
 ghost use Rattle.crs_rules.specs.RulesFile.{FaultOfLine, Reads, ReadsFile, RefusesFile, SpellsRules, is_idle, start};
 ghost use Rattle.crs_rules.specs.Statements.{Adds, AddsSet, Drops, FaultOfNode, FaultOfSet, FaultOfStatement};
@@ -18,6 +19,7 @@ use crate::file::member::{Member, kind_of, member_at};
 use crate::file::seen::Seen;
 use crate::file::words::{is_meridian, is_word, kind_in, with_item};
 use crate::{Rules, Uncounted};
+use crs_decimal::Decimal;
 use crs_shape::Class;
 use crs_streams::laws::lines_are_one;
 use crs_streams::{split_line, text_of};
@@ -98,13 +100,14 @@ fn parameter_at<'a>(items: &Items<'a>, id: ItemId) -> Option<Member<'a>>
 }
 
 // The name of parameters of a `KIND`, among the nodes that stood.
-fn kind_node<'a>(member: &Member<'a>) -> Member<'a>
-    ensures { result ≡ kind_node member.now }
+fn kind_node(name: &[u8]) -> Member<'_>
+    requires { IsText name.now }
+    ensures { result ≡ kind_node name.now }
 {
     Member {
         class: Class::Conversion,
-        name: member.name,
-        factor: member.factor,
+        name,
+        factor: Decimal::zero(),
     }
 }
 
@@ -336,7 +339,7 @@ impl RulesReader {
         let Some(member) = parameter_at(items, id) else {
             return Err(refused(self.line, items, id, NOT_HERE));
         };
-        match self.seen.add(alloc, &kind_node(&member)) {
+        match self.seen.add(alloc, &kind_node(member.name)) {
             Ok(true) => match self.rules.declare_kind(alloc, member.name, kind) {
                 Ok(()) => Ok(()),
                 Err(error) => Err(RulesFault::Memory(error)),
