@@ -43,7 +43,7 @@ grown_on r s t g h = record {
 -- one more node of a set, or one that stood there
 pub grown_seen : (r q : Reading) (m : MemberParts) (new : Bool) (seen : List MemberParts) → q ≡ r → IsAdded q.seen m new seen
     → HasGrown r (record q { seen = seen })
-grown_seen r q m true seen e h = 
+grown_seen r q m true seen e h =
     rw (← e) (let k = grown_self q in record { seen = (m ∷ [], h.1); names = k.names; units = k.units; kinds = k.kinds })
 grown_seen r q m false seen e h = rw (← e) (grown_same q (record q { seen = seen }) h.1 refl refl refl)
 

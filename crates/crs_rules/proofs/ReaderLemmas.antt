@@ -34,11 +34,15 @@ declared-as k r item m node name line seen more rules new e other says n d added
     let kinds : new ≡ record rules { kinds = rules.kinds ++ record { name = m.name; kind = k } ∷ [] } =
     new-is ∙ ap (λ (x : List ℕ). record rules { kinds = rules.kinds ++ record { name = x; kind = k } ∷ [] }) n in
     subst (λ q. Sorts k q item (record { line = line; seen = more; rules = new })) e
-    (inr (other, m, record {
-      says = says;
-      new = subst (λ x. ¬ (OneIs (λ y. x ≡ y) seen)) is added.0;
-      adds = λ i. record { line = line; seen = nodes i; rules = kinds i };
-    }))
+    (inr (
+      other,
+      m,
+      record {
+        says = says;
+        new = subst (λ x. ¬ (OneIs (λ y. x ≡ y) seen)) is added.0;
+        adds = λ i. record { line = line; seen = nodes i; rules = kinds i };
+      },
+    ))
 
 -- what a statement answers, its line answers
 pub statement-line : {A : Type 0} (r : Reading) (line : List ℕ) (item : Item) (q s : Reading) (result : Result A RulesFault)

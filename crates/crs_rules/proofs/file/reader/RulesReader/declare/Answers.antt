@@ -12,7 +12,7 @@ returns-in-Ok-clause-answer c =
     declared-as c.args.kind c.args.self.now (item_at c.args.items.now c.args.id) c.in-Some.member c.kind_node.result
     c.member.inside.name.now c.self.inside.line c.self.inside.seen c.add.new.self c.self.inside.rules c.declare_kind.new.self
     c.self.view_is c.requires.other c.in-Some.ensures (ap (λ (m : MemberParts). m.name) c.member.view_is) c.kind_node.ensures
-    c.in-Ok-true.ensures.added c.in-Ok.ensures.ok
+    (rw c.in-Ok-true.field-0-test at c.in-Ok-true.ensures.added) c.in-Ok.ensures.ok
 
 pub returns-in-Ok-clause-grown : goal.returns-in-Ok-clause-grown
 returns-in-Ok-clause-grown c =
