@@ -1074,7 +1074,7 @@ def test_rules_of_files(tmp_path: pathlib.Path) -> None:
     two.write_text('# again\nSAME[VDATUM["é"],VDATUM["E"]]', encoding="utf-8")
     said = raised(RulesRefused, lambda: Rules.from_file(one, two))
     assert said.split("\n") == [
-        f"{two}: line 2: refused 44 at 18: a node that stood in a set before",
+        f"{two}: line 2: refused 44 at 18: a node that stood in such a statement before",
         'SAME[VDATUM["é"],VDATUM["E"]]',
         " " * 17 + "^",
     ]
