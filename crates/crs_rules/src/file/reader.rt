@@ -327,24 +327,24 @@ impl RulesReader {
         &mut self,
         alloc: Global,
         items: &Items<'_>,
-        id: ItemId,
+        at: ItemId,
         kind: UnitKind,
     ) -> Result<(), RulesFault>
-        requires has { HasId items.now id }
-        requires other { IsFalse (is_meridian kind (item_at items.now id)) }
-        ensures answer { MatchResult result (λ _. Sorts kind self.old (item_at items.now id) self.new)
-            (IsRefusedBy (FaultOfSort kind self.old (item_at items.now id))) }
+        requires has { HasId items.now at }
+        requires other { IsFalse (is_meridian kind (item_at items.now at)) }
+        ensures answer { MatchResult result (λ _. Sorts kind self.old (item_at items.now at) self.new)
+            (IsRefusedBy (FaultOfSort kind self.old (item_at items.now at))) }
         ensures grown { HasGrown self.old self.new }
     {
-        let Some(member) = parameter_at(items, id) else {
-            return Err(refused(self.line, items, id, NOT_HERE));
+        let Some(member) = parameter_at(items, at) else {
+            return Err(refused(self.line, items, at, NOT_HERE));
         };
         match self.seen.add(alloc, &kind_node(member.name)) {
             Ok(true) => match self.rules.declare_kind(alloc, member.name, kind) {
                 Ok(()) => Ok(()),
                 Err(error) => Err(RulesFault::Memory(error)),
             },
-            Ok(false) => Err(refused(self.line, items, id, REPEATED)),
+            Ok(false) => Err(refused(self.line, items, at, REPEATED)),
             Err(error) => Err(RulesFault::Memory(error)),
         }
     }

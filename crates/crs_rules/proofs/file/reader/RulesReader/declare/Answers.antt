@@ -9,7 +9,7 @@ use Rattle.crs_rules.proofs.file.reader.RulesReader.declare.Goals as goal
 
 pub returns-in-Ok-clause-answer : goal.returns-in-Ok-clause-answer
 returns-in-Ok-clause-answer c =
-    declared-as c.args.kind c.args.self.now (item_at c.args.items.now c.args.id) c.in-Some.member c.kind_node.result
+    declared-as c.args.kind c.args.self.now (item_at c.args.items.now c.args.at) c.in-Some.member c.kind_node.result
     c.member.inside.name.now c.self.inside.line c.self.inside.seen c.add.new.self c.self.inside.rules c.declare_kind.new.self
     c.self.view_is c.requires.other c.in-Some.ensures (ap (λ (m : MemberParts). m.name) c.member.view_is) c.kind_node.ensures
     (rw c.in-Ok-true.field-0-test at c.in-Ok-true.ensures.added) c.in-Ok.ensures.ok
