@@ -1,5 +1,5 @@
 -- A CRS that is rewritten by rules is sound.
-use Rattle.std.proofs.Common.{◌≡◌, ◌≢◌, ℕ, suc, Bool, Option, Some, None, List, [], ◌∷◌, IfSome, IsNone, IsSome, IsSomeAnd, refl, sym, ap, ◌∙◌, map, length, inl, inr, true, false, if◌then◌else◌, Ordering, Less, Equal, Greater, subst, Err, Ok, OnErr, OnOk, Result, ◌&&◌}
+use Rattle.std.proofs.Common.{◌≡◌, ◌≢◌, ℕ, suc, Bool, Option, Some, None, List, [], ◌∷◌, IfSome, IsNone, IsSome, IsSomeAnd, refl, sym, ap, ◌∙◌, map, length, inl, inr, true, false, if◌then◌else◌, Ordering, Less, Equal, Greater}
 use Rattle.crs_shape.specs.declared.class.Class.TheVariants as class
 use Rattle.crs_shape.specs.declared.unit_kind.UnitKind.{UnitKind}
 use Rattle.crs_shape.specs.declared.unit_kind.UnitKind.TheVariants as kinds
@@ -12,12 +12,10 @@ use Rattle.crs_value.specs.declared.values.compound.Horizontal.TheVariants as ho
 use Rattle.crs_value.specs.declared.values.crs.Crs.{Crs}
 use Rattle.crs_value.specs.declared.values.crs.Crs.TheVariants as crs
 use Rattle.std.specs.Cmp.Lexicographic.{slice_cmp}
-use Rattle.std.specs.List.{list_all}
-use Rattle.std.specs.Option.{is_some, option_map}
 use Rattle.std.specs.Ordering.{nat_cmp, match_ordering}
 use Rattle.std.proofs.lemmas.List.{length-map, nil_from_length}
 use Rattle.crs_rules.specs.inner.Sinking.{IsOrderless, IsOrderlessAcross, IsOrderlessCrs}
-use Rattle.crs_rules.specs.Rewritten.{across, among, arranged, arranged_across, arranged_compound, arranged_crs, arranged_geodetic, arranged_projected, arranged_vertical, ascending, axis, axis_meridian, renamed, base, compound, geodetic, geoid_models, projected, rewritten, system, units, vertical, bare, completed_conversion, conversion, counted_name, explicit, explicit_base, explicit_geodetic, has_own_unit, is_idle, missing_unit, shared, tail, unit_of_kind}
+use Rattle.crs_rules.specs.Rewritten.{across, among, arranged, arranged_across, arranged_compound, arranged_crs, arranged_geodetic, arranged_projected, arranged_vertical, ascending, axis, axis_meridian, renamed, base, compound, geodetic, geoid_models, projected, rewritten, system, units, vertical, conversion, explicit, explicit_base, explicit_geodetic, missing_unit, tail}
 use Rattle.crs_rules.specs.Rules.{Meaning, RulesParts, meaning, AreRules}
 use Rattle.crs_rules.proofs.PartLemmas.{IsSoundMeaning, axis-unit, choice, counted-name, sound-meaning, unit-of, conversion-sound, counted-sound, dynamics-sound, each-map, frame-sound, meridian-sound, named-sound, none-stays, some-map, some-stays, tail-sound, bare-angle, completed-conversion-sound, completed-meridians-sound, told-sound, kind-sound, shared-sound, some-bare, some-weaker}
 

@@ -4,7 +4,7 @@ use Rattle.std.proofs.lemmas.List.{length-map}
 use Rattle.crs_decimal.specs.inner.Prelude.{Value}
 use Rattle.crs_shape.specs.inner.Prelude.{asked_kind}
 use Rattle.crs_shape.specs.declared.system_type.SystemType.{SystemType}
-use Rattle.crs_value.specs.inner.Prelude.{AxisParts, GeodeticParts, HasUnits, IsAxis, IsGeodetic, IsHorizontal, IsProjected, IsSystem, IsVertical, ProjectedParts, SuitsAxis, SystemParts, UnitParts, VerticalParts, CompoundParts}
+use Rattle.crs_value.specs.inner.Prelude.{AxisParts, GeodeticParts, HasUnits, IsAxis, IsGeodetic, IsHorizontal, IsProjected, IsSystem, IsVertical, ProjectedParts, SuitsAxis, SystemParts, UnitParts, VerticalParts}
 use Rattle.crs_shape.specs.declared.unit_kind.UnitKind.{UnitKind}
 use Rattle.crs_shape.specs.declared.unit_kind.UnitKind.TheVariants as kinds
 use Rattle.crs_value.specs.Sound.{Each}

@@ -1,5 +1,5 @@
 -- The unit of length that all axes have, and the units that parameters leave out: what is filled in stays.
-use Rattle.std.proofs.Common.{◌≡◌, ◌≢◌, ◌&&◌, ℕ, zero, suc, ◌+◌, Bool, true, false, Decides, Option, Some, None, List, [], ◌∷◌, IfSome, refl, subst, sym, ap, ◌∙◌, map, rules, if◌then◌else◌, arith, length, nat_eq}
+use Rattle.std.proofs.Common.{◌≡◌, ◌≢◌, ◌&&◌, ℕ, zero, suc, ◌+◌, Bool, true, false, Decides, Option, Some, None, List, [], ◌∷◌, IfSome, refl, subst, sym, ap, ◌∙◌, map, rules, if◌then◌else◌, arith, length}
 use Rattle.std.specs.Cmp.{first_so, second_so}
 use Rattle.std.specs.List.{list_all}
 use Rattle.std.specs.Option.{option_map}
@@ -12,11 +12,10 @@ use Rattle.crs_shape.specs.declared.unit_kind.UnitKind.{UnitKind}
 use Rattle.crs_shape.specs.declared.unit_kind.UnitKind.TheVariants as kinds
 use Rattle.crs_shape.specs.contracts.unit_kind.UnitKind.{the_type}
 use Rattle.crs_shape.specs.inner.Prelude.{asked_kind, kind_as}
-use Rattle.crs_text.specs.inner.Prelude.{item_text}
 use Rattle.crs_value.specs.Sound.{Each}
 use Rattle.crs_value.specs.inner.Prelude.{own_or, AxisParts, MeridianParts, ParameterParts, SystemParts, UnitParts}
 use Rattle.crs_value.specs.declared.values.level.Level.{Level}
-use Rattle.crs_normal.specs.inner.Prelude.{axes_from, axis_at, greenwich, is_at, is_zero, norm_given, norm_meridian, norm_axis, norm_parameter, norm_system, norm_unit, norm_units, set_idents, set_parameters, with_axis, item_parameter}
+use Rattle.crs_normal.specs.inner.Prelude.{axes_from, axis_at, greenwich, is_at, is_zero, norm_given, norm_meridian, norm_axis, norm_parameter, norm_system, norm_unit, norm_units, set_parameters, with_axis}
 use Rattle.crs_rules.specs.inner.LowerLaws.{SetLaws}
 use Rattle.crs_rules.specs.Rewritten.{ascending, among, axis, bare, completed, completed_meridian, counted, meridian, first_unit_of, is_same_unit, one_of, parameter, shared, units_of, with_unit_of, system, unit_of_kind, units}
 use Rattle.crs_rules.specs.Rules.{Meaning, factors_equal}
@@ -25,7 +24,7 @@ use Rattle.crs_rules.proofs.AgainLemmas.{any-axis, unit-again, each-fixed, kind-
 use Rattle.crs_rules.proofs.PartLemmas.{choice, one-has}
 use Rattle.crs_rules.proofs.ArrangedLemmas.{idents-kept}
 use Rattle.crs_rules.proofs.CrsLemmas.{among-cases, each-ascending}
-use Rattle.crs_rules.proofs.SteadyLemmas.{IsSteady, KeepsKinds}
+use Rattle.crs_rules.proofs.SteadyLemmas.{IsSteady}
 
 -- ---- tests
 

@@ -7,7 +7,7 @@ ghost use Rattle.crs_value.specs.Sound.{Each, IsText};
 ghost use Rattle.crs_shape.specs.declared.class.Class.TheVariants as classes;
 ghost use Rattle.crs_rules.specs.inner.Firsts.{AreFound, IsNoted, name_digest, place_of, unit_digest};
 ghost use Rattle.crs_rules.specs.Rules.{NameAliasParts, UnitAliasParts, first_name, first_that, is_name_alias, is_unit_alias};
-ghost use Rattle.crs_rules.specs.Rules.{IsNameAlias, IsUnitAlias, ParameterKindParts, declared_kind, is_declared, kind_or_plain};
+ghost use Rattle.crs_rules.specs.Rules.{IsNameAlias, IsUnitAlias, ParameterKindParts, declared_kind};
 
 use crs_decimal::Decimal;
 use crs_decimal::laws::{denotes_one, normal_is_one, plain_is_the_one};

@@ -1,5 +1,4 @@
-use Rattle.std.proofs.Common.{◌≡◌, ℕ, List, [], Option, ap, length, sym, ◌∙◌, refl, arith}
-use Rattle.std.specs.Option.{option_map}
+use Rattle.std.proofs.Common.{◌≡◌, [], ap, length, sym, arith}
 use Rattle.std.proofs.lemmas.List.{nil_from_length}
 use Rattle.crs_shape.specs.declared.unit_kind.UnitKind.TheVariants as kinds
 use Rattle.crs_value.specs.inner.Prelude.{ConversionParts, IsUnit, IsUnitOf}
