@@ -1292,7 +1292,7 @@ def test_omitted_units() -> None:
         if len(how) == 1:
             second = (EXAMPLES / "exports" / f"{how[0]}.wkt").read_text(encoding="utf-8")
         else:
-            second = first.replace(*how)
+            second = first.replace(how[0], how[1])
             assert second != first, (name, how)
         assert not same(first, second, "definition") and same(first, second, "definition", rules=rules) == wanted, (
             name,
