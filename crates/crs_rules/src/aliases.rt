@@ -251,8 +251,7 @@ fn kind_among(kinds: &[ParameterKind], name: &[u8]) -> UnitKind
     UnitKind::Plain
 }
 
-// The kind of the numbers of parameters of this name; the plain one where none is declared.
-pub(crate) fn declared_kind(kinds: &Aliases<ParameterKind>, name: &[u8]) -> UnitKind
+fn known_kind(kinds: &Aliases<ParameterKind>, name: &[u8]) -> UnitKind
     ensures { result ≡ declared_kind kinds.now name.now }
 {
     if kinds.aliases.len() <= FEW {
@@ -261,6 +260,75 @@ pub(crate) fn declared_kind(kinds: &Aliases<ParameterKind>, name: &[u8]) -> Unit
     match place(&kinds.firsts, name_digest(Class::Parameter, name)) {
         None => UnitKind::Plain,
         Some(first) => kind_among(rest_of(kinds.aliases.as_slice(), first), name),
+    }
+}
+
+// Kinds of parameters, behind a pointer: what holds rules in C has no room for another look-up.
+#[derive(Drop)]
+pub(crate) struct Kinds {
+    known: Option<Box<Aliases<ParameterKind>>>,
+}
+
+impl Model for Kinds {
+    ghost use Rattle.std.specs.Prelude.{List};
+    ghost use Rattle.crs_rules.specs.Rules.{ParameterKindParts};
+    ghost use Rattle.crs_rules.specs.inner.Firsts.{held};
+
+    ghost Value = { List ParameterKindParts };
+
+    ghost view = { λ kinds. held (λ known. known.value) kinds.known };
+}
+
+impl Kinds {
+    // No kinds. They take no memory.
+    pub(crate) fn new() -> Kinds
+        ensures { result ≡ [] }
+    {
+        Kinds { known: None }
+    }
+
+    pub(crate) fn len(&self) -> usize
+        ensures { result ≡ length self.now }
+    {
+        match &self.known {
+            None => 0,
+            Some(known) => known.len(),
+        }
+    }
+
+    // A further kind. Out of memory, all is as before.
+    pub(crate) fn push(&mut self, alloc: Global, kind: ParameterKind) -> Result<(), AllocError>
+        ensures ok { OnOk result (self.new ≡ self.old ++ kind ∷ []) }
+        ensures err { OnErr result (self.new ≡ self.old) }
+    {
+        match &mut self.known {
+            None => {
+                let mut known = Aliases::new(alloc);
+                known.push(kind)?;
+                self.known = Some(Box::new(alloc, known)?);
+                Ok(())
+            }
+            Some(known) => known.push(kind),
+        }
+    }
+
+    // Keeps the first `count` kinds, and forgets the rest.
+    pub(crate) fn truncate(&mut self, count: usize)
+        ensures { self.new ≡ take count self.old }
+    {
+        if let Some(known) = &mut self.known {
+            known.truncate(count);
+        }
+    }
+
+    // The kind of the numbers of parameters of this name; the plain one where none is declared.
+    pub(crate) fn of(&self, name: &[u8]) -> UnitKind
+        ensures { result ≡ declared_kind self.now name.now }
+    {
+        match &self.known {
+            None => UnitKind::Plain,
+            Some(known) => known_kind(known, name),
+        }
     }
 }
 

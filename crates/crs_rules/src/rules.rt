@@ -5,7 +5,7 @@ ghost use Rattle.crs_value.specs.Sound.{IsText};
 ghost use Rattle.crs_rules.specs.Rules.{no_rules, RulesParts, AreRules};
 ghost use Rattle.crs_rules.specs.inner.AnyOrder.{axes_in_any_order};
 
-use crate::aliases::{Aliases, NameAlias, ParameterKind, UnitAlias};
+use crate::aliases::{Aliases, Kinds, NameAlias, ParameterKind, UnitAlias};
 use crate::file::member::Member;
 use crate::uncounted::Uncounted;
 use crs_value::{Level, UnitKind};
@@ -18,7 +18,7 @@ pub struct Rules {
     pub(crate) names: Aliases<NameAlias>,
     pub(crate) units: Aliases<UnitAlias>,
     pub(crate) uncounted: Uncounted,
-    pub(crate) kinds: Aliases<ParameterKind>,
+    pub(crate) kinds: Kinds,
 }
 
 impl Model for Rules {
@@ -47,7 +47,7 @@ impl Rules {
             names: Aliases::new(alloc),
             units: Aliases::new(alloc),
             uncounted: Uncounted::default(),
-            kinds: Aliases::new(alloc),
+            kinds: Kinds::new(),
         }
     }
 
@@ -153,7 +153,7 @@ impl Rules {
         ensures err { OnErr result (self.new ≡ self.old) }
     {
         let name = Vec::from_slice(alloc, name)?;
-        self.kinds.push(ParameterKind { name, kind })?;
+        self.kinds.push(alloc, ParameterKind { name, kind })?;
         Ok(())
     }
 

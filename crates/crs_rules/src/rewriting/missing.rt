@@ -10,7 +10,7 @@ ghost use Rattle.crs_rules.specs.Rewritten.{axis, bare, completed, completed_con
 ghost use Rattle.crs_rules.specs.Rewritten.{is_same_unit, missing_unit, shared, system, told, unit_of_kind, units_of, unity, with_unit_of};
 ghost use Rattle.crs_rules.specs.Rules.{meaning};
 
-use crate::aliases::{declared_kind, first_name, unit_alias};
+use crate::aliases::{first_name, unit_alias};
 use crate::file::seen::same_factor;
 use crate::laws::rules_are_sound;
 use crate::rules::Rules;
@@ -223,8 +223,7 @@ impl<'a> Change<Parameter<'a>> for Completing<'a> {
         if value.unit.is_none() {
             let rules = self.rules;
             let name = first_name(&rules.names, Class::Parameter, value.name);
-            let kind = declared_kind(&rules.kinds, name);
-            fill(&mut value.unit, missing_unit(self, kind));
+            fill(&mut value.unit, missing_unit(self, rules.kinds.of(name)));
         }
     }
 }

@@ -2,4 +2,4 @@ use Rattle.crs_rules.proofs.rewriting.missing.CompletingChangeParameter.change.G
 
 pub returns-then-is_none : goal.returns-then-is_none
 returns-then-is_none c =
-    simp (c.fill.ensures, c.missing_unit.ensures, c.declared_kind-kind.ensures, c.first_name-name.ensures.name, ← c.rules.view_is, ← c.value.view_is)
+    simp (c.fill.ensures, c.missing_unit.ensures, c.of.ensures, c.first_name-name.ensures.name, ← c.rules.view_is, ← c.value.view_is)

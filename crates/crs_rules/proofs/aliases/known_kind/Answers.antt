@@ -3,7 +3,7 @@ use Rattle.crs_rules.specs.inner.Firsts.{place_of}
 use Rattle.crs_rules.specs.Rules.{is_declared, kind_or_plain}
 use Rattle.crs_rules.proofs.FirstsLemmas.{from-first, none-there}
 use Rattle.crs_rules.proofs.LookUpLemmas.{digest_of_kind, kinds-have}
-use Rattle.crs_rules.proofs.aliases.declared_kind.Goals as goal
+use Rattle.crs_rules.proofs.aliases.known_kind.Goals as goal
 
 pub returns-in-None : goal.returns-in-None
 returns-in-None c =
