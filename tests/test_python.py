@@ -1302,12 +1302,15 @@ def test_omitted_units() -> None:
         assert canon(form, "definition", rules) == form
 
 
-@pytest.mark.needs("projinfo=9.1")
+@pytest.mark.needs("projinfo")
 def test_omitted_units_are_those_of_the_registry() -> None:
     """The file is what the tool makes of PROJ's database, and has each parameter of EPSG's conversions, with its kind."""
     program, path = ROOT / "tools" / "make_rules.py", ROOT / "rules" / "omitted-units.rules"
     text = path.read_text(encoding="utf-8")
-    assert run([sys.executable, program, "--omitted-units"]).stdout == text
+    made = run([sys.executable, program, "--omitted-units"]).stdout
+    if made.split("\n")[0] != text.split("\n")[0]:
+        pytest.skip("PROJ's database has another version of the registry")
+    assert made == text
     told = {
         name: kind
         for kind, names in re.findall(r"^KIND\[(\w+)UNIT,(PARAMETER.*)\]$", text, re.M)

@@ -142,7 +142,8 @@ def kinds_of(database: sqlite3.Connection) -> Dict[str, List[str]]:
 
 
 def write_omitted_units(database: sqlite3.Connection) -> None:
-    print(OMITTED)
+    ((version,),) = database.execute("SELECT value FROM metadata WHERE key = 'EPSG.VERSION'")
+    print(f"# EPSG {version}\n{OMITTED}")
     for kind, names in sorted(kinds_of(database).items()):
         print(statement("PARAMETER", names, f"KIND[{kind.upper()}UNIT,"))
 
