@@ -15,13 +15,13 @@ static const char *why_refused(uint32_t number, char *name, size_t room)
 
     switch (number) {
     case 41:
-        return "neither SAME nor UNCOUNTED";
+        return "neither SAME, UNCOUNTED nor KIND";
     case 42:
         return "no node or word that may stand here";
     case 43:
         return "a node of another kind than the first of its set";
     case 44:
-        return "a node that stood in a set before";
+        return "a node that stood in such a statement before";
     default:
         if (crsdesk_refusal_name(number, name, room - 1, &length) != CRSDESK_OK)
             length = 0;

@@ -172,6 +172,10 @@ def pair_of_frames(number: int) -> bytes:
     return b'SAME[DATUM["a%d"],DATUM["b%d"]]' % (number, number)
 
 
+def kind_of_parameter(number: int) -> bytes:
+    return b'KIND[LENGTHUNIT,PARAMETER["a%d"]]' % number
+
+
 # Files, by what their last line is: read, or refused.
 RULES: Dict[str, Callable[[], bytes]] = {
     "rules-sets": lambda: lines(pair_of_frames),
@@ -183,6 +187,8 @@ RULES: Dict[str, Callable[[], bytes]] = {
     ),
     "rules-words": lambda: filled(b"UNCOUNTED[", b"anchor,", b"anchor]"),
     "rules-words-and-none": lambda: filled(b"UNCOUNTED[", b"anchor,", b"colour]"),
+    "rules-kinds": lambda: lines(kind_of_parameter),
+    "rules-kinds-and-a-repeated-name": lambda: lines(kind_of_parameter, b'KIND[ANGLEUNIT,PARAMETER["a0"]]'),
     "rules-blank-lines": lambda: filled(b"", b"\n", b"EQUAL[1]"),
     "rules-comments": lambda: filled(b"", b"#\xFF\n", b"EQUAL[1]"),
     "rules-long-name": lambda: filled(b'SAME[DATUM["', b"x", b'"],DATUM["D"]]'),

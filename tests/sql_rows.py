@@ -265,12 +265,12 @@ def of_rules(dialect: Dialect) -> Iterator[Statement]:
 def of_refused_rules(dialect: Dialect) -> Iterator[Statement]:
     """For each function a refused rules file is an error with line, number and place, and the next is read."""
     for rules, wanted in (
-        ('EQUAL[DATUM["a"],DATUM["b"]]', "line 1: refused 41 at 0: neither SAME nor UNCOUNTED"),
+        ('EQUAL[DATUM["a"],DATUM["b"]]', "line 1: refused 41 at 0: neither SAME, UNCOUNTED nor KIND"),
         ("# a\n\n UNCOUNTED[anchor,colour]", "line 3: refused 42 at 18: no node or word that may stand here"),
         ('SAME[DATUM["a"],VDATUM["b"]]', "line 1: refused 43 at 16: a node of another kind than the first of its set"),
         (
             'SAME[DATUM["a"],DATUM["b"]]\nSAME[DATUM["c"],TRF["b"]]',
-            "line 2: refused 44 at 16: a node that stood in a set before",
+            "line 2: refused 44 at 16: a node that stood in such a statement before",
         ),
         ('SAME[DATUM["a"]', "line 1: refused 7 at 15: UnexpectedEnd"),
     ):

@@ -171,11 +171,17 @@ def test_rules_that_are_refused_are_told_before_anything_is_read() -> None:
     odd = os.fsdecode(b"bytes\xff.rules")
     for names, told in (
         (["word.rules"], "word.rules, line 3: refused 42 at 10: no node or word that may stand here"),
-        (["statement.rules"], "statement.rules, line 1: refused 41 at 0: neither SAME nor UNCOUNTED"),
+        (["statement.rules"], "statement.rules, line 1: refused 41 at 0: neither SAME, UNCOUNTED nor KIND"),
         (["kinds.rules"], "kinds.rules, line 1: refused 43 at 16: a node of another kind than the first of its set"),
         (["open.rules"], "open.rules, line 2: refused 7 at 15: UnexpectedEnd"),
-        (["good.rules", "again.rules"], "again.rules, line 2: refused 44 at 16: a node that stood in a set before"),
-        (["good.rules", "good.rules"], "good.rules, line 1: refused 44 at 5: a node that stood in a set before"),
+        (
+            ["good.rules", "again.rules"],
+            "again.rules, line 2: refused 44 at 16: a node that stood in such a statement before",
+        ),
+        (
+            ["good.rules", "good.rules"],
+            "good.rules, line 1: refused 44 at 5: a node that stood in such a statement before",
+        ),
         ([odd], "$'bytes\\xFF.rules', line 1: refused 42 at 10: no node or word that may stand here"),
         (["missing.rules"], "missing.rules: No such file or directory"),
         (["."], ".: Is a directory"),

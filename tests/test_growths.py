@@ -31,7 +31,7 @@ NAMES = """
     writes-the-order-of-the-axis end-after-a-name-canon rd-new-and-nap-line canon-of-lines other-keywords
     vertical-of-two-dimensions-check check-of-lines check-of-no-line group-seven-lines group-nothing
     json-groups-of-missing-names group-under-rules same-5 different-meridian-unit refused-7
-    same-under-rules-on-standard-input canon-under-the-rules-of-two-files keyword-misspelt explain-of-a-file
+    same-under-rules-on-standard-input canon-under-the-rules-of-two-files form-with-units keyword-misspelt explain-of-a-file
     explain-two-with-many-differences explain-two-with-the-second-refused explain-under-rules json-different
     json-refused-shape unknown-command version
 """.split()

@@ -30,6 +30,7 @@ FILES = {
     "lib/crsdesk_sqlite.so",
     "share/crsdesk/installed",
     "share/crsdesk/rules/any-order.rules",
+    "share/crsdesk/rules/omitted-units.rules",
     "share/crsdesk/rules/producers.rules",
     "share/bash-completion/completions/crsdesk",
     "share/fish/vendor_completions.d/crsdesk.fish",

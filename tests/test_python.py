@@ -1091,7 +1091,7 @@ def test_rules_of_files(tmp_path: pathlib.Path) -> None:
     two.write_text('# again\nSAME[VDATUM["é"],VDATUM["E"]]', encoding="utf-8")
     said = raised(RulesRefused, lambda: Rules.from_file(one, two))
     assert said.split("\n") == [
-        f"{two}: line 2: refused 44 at 18: a node that stood in a set before",
+        f"{two}: line 2: refused 44 at 18: a node that stood in such a statement before",
         'SAME[VDATUM["é"],VDATUM["E"]]',
         " " * 17 + "^",
     ]
@@ -1127,6 +1127,8 @@ HOSTILE_RULES: Dict[str, Optional[Tuple[int, Optional[bytes]]]] = {
     "rules-units-of-one-name": None,
     "rules-words": None,
     "rules-words-and-none": (42, b"colour]"),
+    "rules-kinds": None,
+    "rules-kinds-and-a-repeated-name": (44, b'PARAMETER["a0"]]'),
     "rules-blank-lines": (41, b"EQUAL[1]"),
     "rules-comments": (41, b"EQUAL[1]"),
     "rules-long-name": None,
@@ -1285,6 +1287,58 @@ def test_rules_that_ship() -> None:
         for rules in (some, all_of_them):
             form = canon(second, "definition", rules)
             assert canon(form, "definition", rules) == form
+
+
+# Two texts of examples/exports, or a text and the one in which a piece was replaced by another, and whether they are the
+# same by definition under rules/omitted-units.rules.
+OMITTED: List[Tuple[str, Tuple[str, ...], bool]] = [
+    ("rd_projinfo_2019", ("rd_projinfo_2019_simplified",), True),
+    ("rd_projinfo_2019", ("rd_projinfo_2015_simplified",), True),
+    ("rd_projinfo_2019", ('SCALEUNIT["unity",1]', 'SCALEUNIT["ppm",1]'), False),
+    ("rd_projinfo_2019_simplified", ("155000", '155000,LENGTHUNIT["metre",1]'), True),
+    ("rd_projinfo_2019_simplified", ("155000", '155000,LENGTHUNIT["foot",0.3048]'), False),
+    ("rd_projinfo_2019_simplified", ("155000", '155000,UNIT["metre",1]'), False),
+    ("rd_projinfo_2019_simplified", ("False easting", "Easting"), False),
+]
+
+
+def test_omitted_units() -> None:
+    rules = Rules.from_file(ROOT / "rules" / "omitted-units.rules")
+    for name, how, wanted in OMITTED:
+        first = (EXAMPLES / "exports" / f"{name}.wkt").read_text(encoding="utf-8")
+        if len(how) == 1:
+            second = (EXAMPLES / "exports" / f"{how[0]}.wkt").read_text(encoding="utf-8")
+        else:
+            second = first.replace(how[0], how[1])
+            assert second != first, (name, how)
+        assert not same(first, second, "definition") and same(first, second, "definition", rules=rules) == wanted, (
+            name,
+            how,
+        )
+        form = canon(second, "definition", rules)
+        assert canon(form, "definition", rules) == form
+
+
+@pytest.mark.needs("projinfo")
+def test_omitted_units_are_those_of_the_registry() -> None:
+    """The file is what the tool makes of PROJ's database, and has each parameter of EPSG's conversions, with its kind."""
+    program, path = ROOT / "tools" / "make_rules.py", ROOT / "rules" / "omitted-units.rules"
+    text = path.read_text(encoding="utf-8")
+    made = run([sys.executable, program, "--omitted-units"]).stdout
+    if made.split("\n")[0] != text.split("\n")[0]:
+        pytest.skip("PROJ's database has another version of the registry")
+    assert made == text
+    told = {
+        name: kind
+        for kind, names in re.findall(r"^KIND\[(\w+)UNIT,(PARAMETER.*)\]$", text, re.M)
+        for name in re.findall(r'PARAMETER\["([^"]*)"\]', names)
+    }
+    with contextlib.closing(sqlite3.connect("file:/usr/share/proj/proj.db?mode=ro", uri=True)) as database:
+        names = database.execute("SELECT name FROM conversion_param WHERE auth_name = 'EPSG'").fetchall()
+    assert sorted(told) == sorted(name for name, in names)
+    for name, kind in told.items():
+        length = re.search(r"asting|orthing|eight|Geocentric", name)
+        assert kind == ("LENGTH" if length else "SCALE" if "cal" in name and "Spherical" not in name else "ANGLE"), name
 
 
 # A small database of PROJ's form: two datums with an alias in common, one that is another's name, and an ensemble.

@@ -2,6 +2,7 @@
 """Writes a rules file with the other names of datums, ellipsoids and prime meridians that your PROJ database has.
 
     make_rules.py [--database FILE] [--beside FILE].. [--only REGISTRY].. [--join] > aliases.rules
+    make_rules.py [--database FILE] --omitted-units > omitted-units.rules
 
 The database is proj.db of PROJ (pyproj.datadir.get_data_dir() says where; by default it is looked for in PROJ_DATA,
 /usr/share/proj and /usr/local/share/proj). Its names of geodetic and vertical datums, of ellipsoids and of prime meridians
@@ -13,8 +14,11 @@ its aliases go to the one name whose alias it is: then two datums of the registr
 D_Costa_Rica_2005 and EPSG's "Costa Rica 2005", as PROJ takes them where it reads WKT1. Left out too is what stands in the files
 given by --beside, since no name may stand in two sets; they are rules/producers.rules where none is given. How many sets
 there are, and how many aliases were left out, goes to standard error. The file says of two datums that they are one where
-the database says that they have one name: look at it before you rely on it. The status is 0, or 2 with a line on standard
-error.
+the database says that they have one name: look at it before you rely on it.
+
+With --omitted-units the file says instead of which kind the parameters of all conversions are, so that a text may leave out
+their units: that of the units in the database's conversions, the more frequent one where there are two. The status is 0, or
+2 with a line on standard error.
 """
 from __future__ import annotations
 
@@ -25,7 +29,7 @@ import re
 import sqlite3
 import sys
 import urllib.parse
-from collections import defaultdict
+from collections import Counter, defaultdict
 from typing import Dict, List, Set
 
 ROOT = pathlib.Path(__file__).resolve().parent.parent
@@ -37,6 +41,15 @@ TABLES = {
     "ELLIPSOID": "ellipsoid",
     "PRIMEM": "prime_meridian",
 }
+# What --omitted-units writes before the kinds of parameters.
+OMITTED = """\
+# The units that a simplified text leaves out (PROJ's WKT2:2019_SIMPLIFIED, and many written by hand), by tools/make_rules.py
+# from the EPSG registry in PROJ's database. A parameter without a unit gets, as an angle, that of the base CRS; as a length,
+# that of the axes; as a scale, unity. A unit that is written stays. Use it at level definition, without identifiers.
+# The longitude of a prime meridian is in the unit of the base CRS, or of the axes.
+KIND[ANGLEUNIT,PRIMEM]
+# Then a base's unit says nothing more.
+UNCOUNTED[baseUnit]"""
 NODE = re.compile(r'\b([A-Z]+)\["((?:[^"]|"")*)"')
 
 
@@ -108,24 +121,50 @@ def join(found: Dict[str, Set[str]]) -> int:
     return len(joined)
 
 
-def statement(keyword: str, names: List[str]) -> str:
+def statement(keyword: str, names: List[str], begin: str = "SAME[") -> str:
     nodes = (f'{keyword}["{name.replace(chr(34), chr(34) * 2)}"]' for name in names)
-    return f"SAME[{','.join(nodes)}]"
+    return f"{begin}{','.join(nodes)}]"
+
+
+def kinds_of(database: sqlite3.Connection) -> Dict[str, List[str]]:
+    """The names of parameters of conversions, by the kind of their units."""
+    counts: Dict[str, Counter[str]] = defaultdict(Counter)
+    for number in range(1, 8):
+        asked = f"""SELECT p.name, u.type FROM conversion_table
+            JOIN conversion_param p ON p.auth_name = param{number}_auth_name AND p.code = param{number}_code
+            JOIN unit_of_measure u ON u.auth_name = param{number}_uom_auth_name AND u.code = param{number}_uom_code"""
+        for name, kind in database.execute(asked):
+            counts[name][kind] += 1
+    found: Dict[str, List[str]] = defaultdict(list)
+    for name, kinds in sorted(counts.items()):
+        found[kinds.most_common(1)[0][0]].append(name)
+    return found
+
+
+def write_omitted_units(database: sqlite3.Connection) -> None:
+    ((version,),) = database.execute("SELECT value FROM metadata WHERE key = 'EPSG.VERSION'")
+    print(f"# EPSG {version}\n{OMITTED}")
+    for kind, names in sorted(kinds_of(database).items()):
+        print(statement("PARAMETER", names, f"KIND[{kind.upper()}UNIT,"))
 
 
 def main(words: List[str]) -> int:
     parser = argparse.ArgumentParser(
-        usage="make_rules.py [--database FILE] [--beside FILE].. [--only REGISTRY].. [--join]"
+        usage="make_rules.py [--database FILE] [--beside FILE].. [--only REGISTRY].. [--join] | --omitted-units"
     )
     parser.add_argument("--database", default=database_path())
     parser.add_argument("--beside", action="append")
     parser.add_argument("--only", action="append", default=[])
     parser.add_argument("--join", action="store_true")
+    parser.add_argument("--omitted-units", action="store_true")
     asked = parser.parse_args(words)
     try:
         taken = beside(asked.beside if asked.beside is not None else [str(ROOT / "rules" / "producers.rules")])
         address = f"file:{urllib.parse.quote(os.path.abspath(asked.database))}?mode=ro"
         database = sqlite3.connect(address, uri=True)
+        if asked.omitted_units:
+            write_omitted_units(database)
+            return 0
         print(f"# Other names of datums, ellipsoids and prime meridians, by tools/make_rules.py from {asked.database}")
         for key, value in database.execute("SELECT key, value FROM metadata WHERE key LIKE '%.VERSION' ORDER BY key"):
             print(f"# {key} {value}")

@@ -147,10 +147,11 @@ module _ (m : Meaning) (s : IsSteady m) (o : SetLaws) (level : Level) where
   all-renewed r k [] h = refl
   all-renewed r k (x ∷ xs) h = let e = h.0 k in let t = all-renewed r (k + 1) xs h.1 in λ i. e i ∷ t i
 
-  pub arranged-again : m.uncounted.axis_order ≡ true → (text : AxisParts → List ℕ) (t : SystemParts) →
-      ◌≡◌ {A = SystemParts} (arranged text (system m (norm_system level (arranged text (system m (norm_system level t))))))
-      (arranged text (system m (norm_system level t)))
-  arranged-again c text t =
+  -- axes in order of their texts, put in their one form and written again, are as they were
+  pub arranged-axes : m.uncounted.axis_order ≡ true → (text : AxisParts → List ℕ) (t : SystemParts) →
+      (system m (norm_system level (arranged text (system m (norm_system level t))))).axes
+      ≡ ascending text (map (axis m) (norm_system level t).axes)
+  arranged-axes c text t =
       let old : List AxisParts = (norm_system level t).axes in
       let xs : List AxisParts = map (axis m) old in
       let r : SystemParts = arranged text (system m (norm_system level t)) in
@@ -159,5 +160,12 @@ module _ (m : Meaning) (s : IsSteady m) (o : SetLaws) (level : Level) where
       any-axis level (λ y. Q (axis m y)) t (λ k y j. axis-renewed c t k j y r refl refl) in
       let q : Each Q r.axes = each-ascending text Q xs (mapped (axis m) Q old written) in
       let n : Orderless r.axes = each-ascending text (λ a. a.order ≡ None) xs (none-ordered m c old) in
+      simp (from-rest r n [] r.axes 1 refl refl, all-renewed r 1 r.axes q)
+
+  pub arranged-again : m.uncounted.axis_order ≡ true → (text : AxisParts → List ℕ) (t : SystemParts) →
+      ◌≡◌ {A = SystemParts} (arranged text (system m (norm_system level (arranged text (system m (norm_system level t))))))
+      (arranged text (system m (norm_system level t)))
+  arranged-again c text t =
+      let axes = arranged-axes c text t in
       let d = (idents-kept o level t.identifiers).0 in
-      simp (from-rest r n [] r.axes 1 refl refl, all-renewed r 1 r.axes q, ascending-twice text xs, d)
+      simp (axes, ascending-twice text (map (axis m) (norm_system level t).axes), d)

@@ -1,9 +1,11 @@
 -- A CRS that is rewritten by rules is sound.
 use Rattle.std.proofs.Common.{◌≡◌, ◌≢◌, ℕ, suc, Bool, Option, Some, None, List, [], ◌∷◌, IfSome, IsNone, IsSome, IsSomeAnd, refl, sym, ap, ◌∙◌, map, length, inl, inr, true, false, if◌then◌else◌, Ordering, Less, Equal, Greater}
 use Rattle.crs_shape.specs.declared.class.Class.TheVariants as class
+use Rattle.crs_shape.specs.declared.unit_kind.UnitKind.{UnitKind}
+use Rattle.crs_shape.specs.declared.unit_kind.UnitKind.TheVariants as kinds
 use Rattle.crs_shape.specs.declared.system_type.SystemType.{SystemType}
 use Rattle.crs_shape.specs.inner.Prelude.{asked_kind}
-use Rattle.crs_value.specs.inner.Prelude.{BaseParts, GeodeticParts, ProjectedParts, VerticalParts, NamedParts, IsNamed, IsAxisUnit, IsAxisMeridian, IsAxis, IsCompound, IsHorizontal, IsCrs, IsBase, IsGeodetic, IsProjected, IsVertical, HasOrders, HasUnits, IsSystem, SuitsAxis, AxisMeridianParts, AxisParts, SystemParts, UnitParts, CompoundParts}
+use Rattle.crs_value.specs.inner.Prelude.{BaseParts, IsConversion, GeodeticParts, ProjectedParts, VerticalParts, NamedParts, IsNamed, IsAxisUnit, IsAxisMeridian, IsAxis, IsCompound, IsHorizontal, IsCrs, IsBase, IsGeodetic, IsProjected, IsVertical, HasOrders, HasUnits, IsSystem, SuitsAxis, AxisMeridianParts, AxisParts, SystemParts, UnitParts, CompoundParts, IsMeridian, IsUnit, IsUnitOf, MeridianParts, ConversionParts}
 use Rattle.crs_value.specs.Sound.{Each}
 use Rattle.crs_value.specs.declared.values.compound.Horizontal.{Horizontal}
 use Rattle.crs_value.specs.declared.values.compound.Horizontal.TheVariants as horizontals
@@ -13,10 +15,9 @@ use Rattle.std.specs.Cmp.Lexicographic.{slice_cmp}
 use Rattle.std.specs.Ordering.{nat_cmp, match_ordering}
 use Rattle.std.proofs.lemmas.List.{length-map, nil_from_length}
 use Rattle.crs_rules.specs.inner.Sinking.{IsOrderless, IsOrderlessAcross, IsOrderlessCrs}
-use Rattle.crs_rules.specs.Rewritten.{across, among, arranged, arranged_across, arranged_compound, arranged_crs, arranged_geodetic, arranged_projected, arranged_vertical, ascending, axis, axis_meridian, renamed, base, compound, geodetic, geoid_models, projected, rewritten, system, units, vertical}
+use Rattle.crs_rules.specs.Rewritten.{across, among, arranged, arranged_across, arranged_compound, arranged_crs, arranged_geodetic, arranged_projected, arranged_vertical, ascending, axis, axis_meridian, renamed, base, compound, geodetic, geoid_models, projected, rewritten, system, units, vertical, conversion, explicit, explicit_base, explicit_geodetic, missing_unit, tail}
 use Rattle.crs_rules.specs.Rules.{Meaning, RulesParts, meaning, AreRules}
-use Rattle.crs_rules.proofs.PartLemmas.{IsSoundMeaning, axis-unit, choice, counted-name, sound-meaning, unit-of}
-use Rattle.crs_rules.proofs.PartLemmas.{conversion-sound, counted-sound, dynamics-sound, each-map, frame-sound, meridian-sound, named-sound, none-stays, some-map, some-stays, tail-sound}
+use Rattle.crs_rules.proofs.PartLemmas.{IsSoundMeaning, axis-unit, choice, counted-name, sound-meaning, unit-of, conversion-sound, counted-sound, dynamics-sound, each-map, frame-sound, meridian-sound, named-sound, none-stays, some-map, some-stays, tail-sound, bare-angle, completed-conversion-sound, completed-meridians-sound, told-sound, kind-sound, shared-sound, some-bare, some-weaker}
 
 -- ---- systems
 
@@ -83,6 +84,61 @@ base-sound r idle h b k =
 pub projected-sound : (r : Meaning) → IsSoundMeaning r → (p : ProjectedParts) → IsProjected p → IsProjected (projected r p)
 projected-sound r h p k = search (counted-name, base-sound, conversion-sound, system-sound, tail-sound)
 
+-- a projected CRS whose parameters have the units that they leave out
+pub missing-sound : (r : Meaning) → IsSoundMeaning r → (p : ProjectedParts) → IsProjected p → (k : UnitKind) →
+    IfSome (missing_unit r p k) IsUnit
+missing-sound r h p k =
+    let angle = some-bare p.base.unit (some-weaker (IsUnitOf kinds.Angle) IsUnit (λ u i. i.0) p.base.unit k.base.unit) in
+    kind-sound _ _ angle (some-weaker (IsUnitOf kinds.Length) IsUnit (λ u i. i.0) _ (shared-sound kinds.Length (system r p.system).axes (system-sound r h p.system k.system).axes))
+
+pub base-with : (b : BaseParts) (y : Option MeridianParts) → IsBase b → IfSome y IsMeridian → IsBase (record b { meridian = y })
+base-with b y k l = record {
+  name = k.name;
+  dynamic = k.dynamic;
+  frame = k.frame;
+  meridian = l;
+  unit = k.unit;
+  identifiers = k.identifiers;
+}
+
+pub explicit-base-sound : (r : Meaning) (b : BaseParts) → IsBase b → IsBase (explicit_base r b)
+explicit-base-sound r b k =
+    base-with b _ k
+    (completed-meridians-sound _
+    (told-sound (IsUnitOf kinds.Angle) r.uncounted.meridian_units _ (bare-angle b.unit k.unit)) b.meridian k.meridian)
+
+pub geodetic-with : (g : GeodeticParts) (y : Option MeridianParts) → IsGeodetic g → IfSome y IsMeridian → IsGeodetic (record g { meridian = y })
+geodetic-with g y k l = record {
+  name = k.name;
+  dynamic = k.dynamic;
+  frame = k.frame;
+  meridian = l;
+  system = k.system;
+  dimension = k.dimension;
+  tail = k.tail;
+}
+
+pub explicit-geodetic-sound : (r : Meaning) → IsSoundMeaning r → (g : GeodeticParts) → IsGeodetic g → IsGeodetic (explicit_geodetic r g)
+explicit-geodetic-sound r h g k =
+    geodetic-with g _ k
+    (completed-meridians-sound _
+    (told-sound (IsUnitOf kinds.Angle) r.uncounted.meridian_units _
+    (shared-sound kinds.Angle (system r g.system).axes (system-sound r h g.system k.system).axes)) g.meridian k.meridian)
+
+pub projected-base : (p : ProjectedParts) (b : BaseParts) → IsProjected p → IsBase b → IsProjected (record p { base = b })
+projected-base p b k l =
+    record { name = k.name; base = l; conversion = k.conversion; system = k.system; dimension = k.dimension; tail = k.tail }
+
+pub projected-conversion : (p : ProjectedParts) (c : ConversionParts) → IsProjected p → IsConversion c → IsProjected (record p { conversion = c })
+projected-conversion p c k l =
+    record { name = k.name; base = k.base; conversion = l; system = k.system; dimension = k.dimension; tail = k.tail }
+
+pub explicit-sound : (r : Meaning) → IsSoundMeaning r → (p : ProjectedParts) → IsProjected p → IsProjected (explicit r p)
+explicit-sound r h p k =
+    projected-base _ _
+    (projected-conversion p _ k (completed-conversion-sound r (missing_unit r p) (missing-sound r h p k) p.conversion k.conversion))
+    (explicit-base-sound r p.base k.base)
+
 models-sound : (r : Meaning) → IsSoundMeaning r → (models : List NamedParts) → Each IsNamed models → Each IsNamed (geoid_models r models)
 models-sound r h models k =
     choice (Each IsNamed) r.uncounted.geoid_models [] _ tt (each-map IsNamed _ models (named-sound r class.GeoidModel h) k)
@@ -92,15 +148,15 @@ vertical-sound r h v k =
     search (counted-name, dynamics-sound, frame-sound IsNone none-stays, system-sound, models-sound, tail-sound)
 
 pub across-sound : (r : Meaning) → IsSoundMeaning r → (x : Horizontal) → IsHorizontal x → IsHorizontal (across r x)
-across-sound r h (horizontals.Geodetic g) k = (geodetic-sound r h g k.0, k.1, k.2)
-across-sound r h (horizontals.Projected p) k = (projected-sound r h p k.0, k.1)
+across-sound r h (horizontals.Geodetic g) k = (geodetic-sound r h (explicit_geodetic r g) (explicit-geodetic-sound r h g k.0), k.1, k.2)
+across-sound r h (horizontals.Projected p) k = (projected-sound r h (explicit r p) (explicit-sound r h p k.0), k.1)
 
 pub compound-sound : (r : Meaning) → IsSoundMeaning r → (c : CompoundParts) → IsCompound c → IsCompound (compound r c)
 compound-sound r h c k = search (counted-name, across-sound, vertical-sound, tail-sound)
 
 pub renamed-sound : (r : Meaning) → IsSoundMeaning r → (x : Crs) → IsCrs x → IsCrs (renamed r x)
-renamed-sound r h (crs.Geodetic g) k = geodetic-sound r h g k
-renamed-sound r h (crs.Projected p) k = projected-sound r h p k
+renamed-sound r h (crs.Geodetic g) k = geodetic-sound r h (explicit_geodetic r g) (explicit-geodetic-sound r h g k)
+renamed-sound r h (crs.Projected p) k = projected-sound r h (explicit r p) (explicit-sound r h p k)
 renamed-sound r h (crs.Vertical v) k = vertical-sound r h v k
 renamed-sound r h (crs.Compound c) k = compound-sound r h c k
 

@@ -1,12 +1,13 @@
 -- The lines of a file, as far as they were read.
 use Rattle.std.proofs.Common.{◌≡◌, ◌≢◌, ◌<◌, ◌≤◌, arith, ◌+◌, ◌++◌, ◌∷◌, [], ℕ, List, inl, inr, refl, ap, ◌∙◌}
-use Rattle.crs_text.specs.inner.Prelude.{Siblings, End, More, arguments}
+use Rattle.crs_text.specs.inner.Prelude.{Item, Siblings, End, More, arguments}
+use Rattle.crs_shape.specs.declared.unit_kind.UnitKind.{UnitKind}
 use Rattle.crs_streams.specs.inner.Prelude.{AreLines, HasNoFeed}
 use Rattle.crs_rules.specs.declared.file.fault.RulesFault.{RulesFault}
 use Rattle.crs_rules.specs.declared.file.fault.RulesFault.TheVariants as faults
 use Rattle.crs_rules.specs.declared.file.fault.RulesRefusal.{RulesRefusal}
 use Rattle.crs_rules.specs.RulesFile.{FaultOfLine, Reads, ReadsFile, RefusesFile, next}
-use Rattle.crs_rules.specs.Statements.{AddsSet, Drops, FaultOver, IsRefusedBy, Joins, Over, Reading, listed}
+use Rattle.crs_rules.specs.Statements.{AddsSet, Drops, FaultOver, IsRefusedBy, Joins, Over, Reading, Sorts, SortsAll, listed}
 use Rattle.crs_rules.proofs.WalkLemmas.{over-keeps}
 
 -- the lines of some bytes lead from one reading to another
@@ -63,10 +64,20 @@ set-line r s (More x xs) (first, q, adds, over) =
     over-keeps (Joins first) (λ t. t.line ≡ r.line) (λ o t item e joins. ap (λ p. p.line) joins.1.adds ∙ e) q s (listed xs)
     (ap (λ p. p.line) adds.adds) over
 
+sort-line : (k : UnitKind) (r s : Reading) (item : Item) → Sorts k r item s → s.line ≡ r.line
+sort-line k r s item (inl (is, e)) = ap (λ p. p.line) e
+sort-line k r s item (inr (is, m, h)) = ap (λ p. p.line) h.adds
+
+kind-line : (r s : Reading) (items : Siblings) → SortsAll r items s → s.line ≡ r.line
+kind-line r s End h = absurd h
+kind-line r s (More x xs) (k, is, over) =
+    over-keeps (Sorts k) (λ t. t.line ≡ r.line) (λ o t item e sorts. sort-line k o t item sorts ∙ e) r s (listed xs) refl over
+
 pub reads-line : (r s : Reading) (line : List ℕ) → Reads r line s → s.line ≡ r.line + 1
 reads-line r s line (inl (idle, e)) = ap (λ q. q.line) e
 reads-line r s line (inr (busy, item, spells, inl (is, h))) = set-line (next r) s (arguments item) h
-reads-line r s line (inr (busy, item, spells, inr (is, h))) =
+reads-line r s line (inr (busy, item, spells, inr (inr (is, h)))) = kind-line (next r) s (arguments item) h
+reads-line r s line (inr (busy, item, spells, inr (inl (is, h)))) =
     over-keeps Drops (λ t. t.line ≡ r.line + 1) (λ o t word e drops. ap (λ p. p.line) drops.2 ∙ e) (next r) s (listed (arguments item)) refl h
 
 -- a line more, and fewer bytes

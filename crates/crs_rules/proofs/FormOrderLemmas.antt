@@ -5,20 +5,24 @@ use Rattle.crs_decimal.specs.inner.Prelude.{Value}
 use Rattle.crs_shape.specs.inner.Prelude.{asked_kind}
 use Rattle.crs_shape.specs.declared.system_type.SystemType.{SystemType}
 use Rattle.crs_value.specs.inner.Prelude.{AxisParts, GeodeticParts, HasUnits, IsAxis, IsGeodetic, IsHorizontal, IsProjected, IsSystem, IsVertical, ProjectedParts, SuitsAxis, SystemParts, UnitParts, VerticalParts}
+use Rattle.crs_shape.specs.declared.unit_kind.UnitKind.{UnitKind}
+use Rattle.crs_shape.specs.declared.unit_kind.UnitKind.TheVariants as kinds
 use Rattle.crs_value.specs.Sound.{Each}
 use Rattle.crs_value.specs.declared.values.compound.Horizontal.{Horizontal}
 use Rattle.crs_value.specs.declared.values.compound.Horizontal.TheVariants as horizontals
 use Rattle.crs_value.specs.declared.values.crs.Crs.{Crs}
 use Rattle.crs_value.specs.declared.values.crs.Crs.TheVariants as crs
 use Rattle.std.specs.Cmp.Lexicographic.{slice_cmp}
+use Rattle.std.specs.Option.{option_map}
 use Rattle.std.specs.Ordering.{nat_cmp, match_ordering}
 use Rattle.crs_rules.specs.FormOrder.{in_form_order, put, put_across, put_crs, put_geodetic, put_projected, put_vertical}
 use Rattle.crs_rules.specs.ReorderedAxes.{unordered}
 use Rattle.crs_rules.specs.inner.Sinking.{axes_across, axes_along, axes_up, IsOrderless, IsOrderlessAcross, IsOrderlessCrs}
-use Rattle.crs_rules.specs.Rewritten.{across, among, arranged, arranged_across, arranged_crs, ascending, axis, compound, geodetic, projected, renamed, system, vertical}
+use Rattle.crs_rules.specs.Rewritten.{across, among, arranged, arranged_across, arranged_crs, arranged_geodetic, arranged_projected, ascending, axis, bare, completed_conversion, completed_meridian, compound, explicit, explicit_base, explicit_geodetic, geodetic, projected, renamed, shared, system, told, unit_of_kind, vertical}
 use Rattle.crs_rules.specs.Rules.{Meaning}
 use Rattle.crs_rules.proofs.CrsLemmas.{ascending-length, each-ascending, filled, units-arranged}
 use Rattle.crs_rules.proofs.PartLemmas.{each-map}
+use Rattle.crs_rules.proofs.SharedLemmas.{shared-ascending}
 
 -- ---- a system whose axes have lost their orders is sound
 
@@ -126,15 +130,35 @@ module _ (text : AxisParts → List ℕ) (r : Meaning) where
         ap (λ (axes : List AxisParts). record (system r s) { axes = axes })
         (all-unordered (ascending under s.axes) ∙ map-ascending s.axes)
 
+    shared-stays : (kind : UnitKind) (s : SystemParts) → shared kind (system r (put under s)).axes ≡ shared kind (system r s).axes
+    shared-stays kind s = ap (λ (z : SystemParts). shared kind z.axes) (kept-system s) ∙ shared-ascending kind text (system r s).axes
+
+    kept-geodetic : (g : GeodeticParts) →
+        geodetic r (explicit_geodetic r (put_geodetic under g)) ≡ arranged_geodetic text (geodetic r (explicit_geodetic r g))
+    kept-geodetic g =
+        let e = shared-stays kinds.Angle g.system in
+        let k = kept-system g.system in
+        λ i. record (geodetic r (record g {
+          meridian = option_map (completed_meridian (told r.uncounted.meridian_units (e i))) g.meridian;
+        })) { system = k i }
+
+    kept-projected : (p : ProjectedParts) →
+        projected r (explicit r (put_projected under p)) ≡ arranged_projected text (projected r (explicit r p))
+    kept-projected p =
+        let e = shared-stays kinds.Length p.system in
+        let k = kept-system p.system in
+        λ i. record (projected r (record p {
+          base = explicit_base r p.base;
+          conversion = completed_conversion r (unit_of_kind (option_map bare p.base.unit) (e i)) p.conversion;
+        })) { system = k i }
+
     kept-across : (x : Horizontal) → across r (put_across under x) ≡ arranged_across text (across r x)
-    kept-across (horizontals.Geodetic g) =
-        ap (λ (s : SystemParts). horizontals.Geodetic (record (geodetic r g) { system = s })) (kept-system g.system)
-    kept-across (horizontals.Projected p) =
-        ap (λ (s : SystemParts). horizontals.Projected (record (projected r p) { system = s })) (kept-system p.system)
+    kept-across (horizontals.Geodetic g) = ap horizontals.Geodetic (kept-geodetic g)
+    kept-across (horizontals.Projected p) = ap horizontals.Projected (kept-projected p)
 
     kept : (x : Crs) → renamed r (put_crs under x) ≡ arranged_crs text (renamed r x)
-    kept (crs.Geodetic g) = ap (λ (s : SystemParts). crs.Geodetic (record (geodetic r g) { system = s })) (kept-system g.system)
-    kept (crs.Projected p) = ap (λ (s : SystemParts). crs.Projected (record (projected r p) { system = s })) (kept-system p.system)
+    kept (crs.Geodetic g) = ap crs.Geodetic (kept-geodetic g)
+    kept (crs.Projected p) = ap crs.Projected (kept-projected p)
     kept (crs.Vertical v) = ap (λ (s : SystemParts). crs.Vertical (record (vertical r v) { system = s })) (kept-system v.system)
     kept (crs.Compound d) =
         ap (λ (x : Horizontal). crs.Compound (record (compound r d) { horizontal = x; vertical = vertical r (put_vertical under d.vertical) }))

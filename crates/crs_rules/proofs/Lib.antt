@@ -6,6 +6,7 @@ pub mod FileLemmas
 pub mod FirstsLemmas
 pub mod FormOrderLemmas
 pub mod GrownLemmas
+pub mod LeftOutLemmas
 pub mod LookUpLemmas
 pub mod MatchLemmas
 pub mod MemberLemmas
@@ -19,6 +20,7 @@ pub mod ReaderLemmas
 pub mod ReorderedLemmas
 pub mod LineOrderLemmas
 pub mod SteadyFileLemmas
+pub mod SharedLemmas
 pub mod SortLemmas
 pub mod SteadyLemmas
 pub mod StemLemmas

@@ -6,13 +6,13 @@ use Rattle.crs_text.specs.inner.Prelude.{Item, leaf, node, Siblings, End, More, 
 use Rattle.crs_shape.specs.declared.unit_kind.UnitKind.{UnitKind}
 use Rattle.crs_value.specs.inner.Prelude.{OneIs, IsIn}
 use Rattle.crs_value.specs.Sound.{Each}
-use Rattle.crs_rules.specs.Rules.{no_rules, nothing, DifferInOrder, HaveSameMembers, NameAliasParts, UnitAliasParts}
+use Rattle.crs_rules.specs.Rules.{no_rules, nothing, DifferInOrder, HaveSameMembers, NameAliasParts, ParameterKindParts, UnitAliasParts}
 use Rattle.crs_rules.specs.ReorderedAxes.{IsReordered}
 use Rattle.crs_rules.specs.declared.uncounted.Uncounted.{Uncounted}
 use Rattle.crs_rules.specs.Members.{MemberParts, kind_of}
 use Rattle.crs_rules.specs.OrderOfLines.{AreLinesOf, AreReordered}
 use Rattle.crs_rules.specs.RulesFile.{Reads, ReadsFile, next, start}
-use Rattle.crs_rules.specs.Statements.{Adds, AddsSet, Drops, Joins, Over, Reading, States, joined, listed, with_alias, with_item, with_word}
+use Rattle.crs_rules.specs.Statements.{Adds, AddsSet, Drops, Joins, Over, Reading, Sorts, SortsAll, States, joined, kind_node, listed, with_alias, with_item, with_kind, with_meridians, with_word}
 use Rattle.crs_rules.proofs.OneLemmas.{LinesOne, some-one}
 
 -- ---- lists
@@ -87,6 +87,7 @@ each_word test a b c = record {
   base_units = test a.base_units b.base_units c.base_units;
   ensembles = test a.ensembles b.ensembles c.ensembles;
   axis_order = test a.axis_order b.axis_order c.axis_order;
+  meridian_units = test a.meridian_units b.meridian_units c.meridian_units;
 }
 
 abbrev either : Uncounted → Uncounted → Uncounted
@@ -141,16 +142,18 @@ record Addition : Type 0 where
   nodes : List MemberParts
   names : List NameAliasParts
   units : List UnitAliasParts
+  kinds : List ParameterKindParts
   words : Uncounted
 
 abbrev no_addition : Addition
-no_addition = record { nodes = []; names = []; units = []; words = nothing }
+no_addition = record { nodes = []; names = []; units = []; kinds = []; words = nothing }
 
 abbrev both : Addition → Addition → Addition
 both a b = record {
   nodes = a.nodes ++ b.nodes;
   names = a.names ++ b.names;
   units = a.units ++ b.units;
+  kinds = a.kinds ++ b.kinds;
   words = either b.words a.words;
 }
 
@@ -159,13 +162,18 @@ record HasAlso (added : Addition) (r s : Reading) : Type 0 where
   seen : s.seen ≡ r.seen ++ added.nodes
   names : s.rules.names ≡ r.rules.names ++ added.names
   units : s.rules.units ≡ r.rules.units ++ added.units
+  kinds : s.rules.kinds ≡ r.rules.kinds ++ added.kinds
   words : s.rules.uncounted ≡ either added.words r.rules.uncounted
+
+same : {A : Type 0} (xs : List A) → xs ≡ xs ++ []
+same xs = sym (append-nil xs)
 
 also-none : {r s : Reading} → s.seen ≡ r.seen → s.rules ≡ r.rules → HasAlso no_addition r s
 also-none {r = r} seen rules = record {
-  seen = seen ∙ sym (append-nil r.seen);
-  names = ap (λ k. k.names) rules ∙ sym (append-nil r.rules.names);
-  units = ap (λ k. k.units) rules ∙ sym (append-nil r.rules.units);
+  seen = seen ∙ same r.seen;
+  names = ap (λ k. k.names) rules ∙ same r.rules.names;
+  units = ap (λ k. k.units) rules ∙ same r.rules.units;
+  kinds = ap (λ k. k.kinds) rules ∙ same r.rules.kinds;
   words = ap (λ k. k.uncounted) rules;
 }
 
@@ -174,6 +182,7 @@ also-both {a = a} {b = b} {r = r} h k = record {
   seen = k.seen ∙ (ap (λ l. l ++ b.nodes) h.seen ∙ append_assoc r.seen a.nodes b.nodes);
   names = k.names ∙ (ap (λ l. l ++ b.names) h.names ∙ append_assoc r.rules.names a.names b.names);
   units = k.units ∙ (ap (λ l. l ++ b.units) h.units ∙ append_assoc r.rules.units a.units b.units);
+  kinds = k.kinds ∙ (ap (λ l. l ++ b.kinds) h.kinds ∙ append_assoc r.rules.kinds a.kinds b.kinds);
   words = k.words ∙ (ap (either b.words) h.words ∙ either-assoc b.words a.words r.rules.uncounted);
 }
 
@@ -242,12 +251,23 @@ adding-over Step f r s (x ∷ xs) (q, step, over) = adding-then (f r q x step) (
 
 -- ---- nodes of sets
 
+also-words : (w : Uncounted) (q : Reading)
+    → HasAlso (record no_addition { words = w }) q (record q { rules = record q.rules { uncounted = either w q.rules.uncounted } })
+also-words w q = record {
+  seen = same q.seen;
+  names = same q.rules.names;
+  units = same q.rules.units;
+  kinds = same q.rules.kinds;
+  words = refl;
+}
+
 -- a node, and what it adds to no rules
 abbrev addition : Option MemberParts → MemberParts → Addition
 addition first m = record {
   nodes = m ∷ [];
   names = (joined first m no_rules).names;
   units = (joined first m no_rules).units;
+  kinds = [];
   words = nothing;
 }
 
@@ -255,33 +275,28 @@ abbrev with_node : Option MemberParts → MemberParts → Reading → Reading
 with_node first m q = record q { seen = q.seen ++ m ∷ []; rules = joined first m q.rules }
 
 also-aliased : (k : Option UnitKind) (first m : MemberParts) (q : Reading) → let alone = with_alias k first m no_rules in
-    HasAlso (record { nodes = m ∷ []; names = alone.names; units = alone.units; words = nothing }) q
+    HasAlso (record { nodes = m ∷ []; names = alone.names; units = alone.units; kinds = []; words = nothing }) q
     (record q { seen = q.seen ++ m ∷ []; rules = with_alias k first m q.rules })
-also-aliased None first m q = record { seen = refl; names = refl; units = sym (append-nil q.rules.units); words = refl }
-also-aliased (Some k) first m q = record { seen = refl; names = sym (append-nil q.rules.names); units = refl; words = refl }
+also-aliased None first m q = record { seen = refl; names = refl; units = same q.rules.units; kinds = same q.rules.kinds; words = refl }
+also-aliased (Some k) first m q = record { seen = refl; names = same q.rules.names; units = refl; kinds = same q.rules.kinds; words = refl }
 
 also-node : (first : Option MemberParts) (m : MemberParts) (q : Reading) → HasAlso (addition first m) q (with_node first m q)
-also-node None m q = record {
-  seen = refl;
-  names = sym (append-nil q.rules.names);
-  units = sym (append-nil q.rules.units);
-  words = refl;
-}
+also-node None m q = record { seen = refl; names = same q.rules.names; units = same q.rules.units; kinds = same q.rules.kinds; words = refl }
 also-node (Some first) m q = also-aliased (kind_of first.class) first m q
+
+only-one : (seen : List MemberParts) (m : MemberParts) → ¬ (Stands seen m) → Apart seen (m ∷ [])
+only-one seen m new n (inl e) = subst (λ k. ¬ (Stands seen k)) (sym e) new
+only-one seen m new n (inr k) = absurd k
 
 node-adds : (first : Option MemberParts) (m : MemberParts) (r s : Reading) (item : Item) → Adds first m r item s
     → Adding (λ q t. Adds first m q item t) r s
 node-adds first m r s item h = record {
   added = addition first m;
-  apart = apart;
+  apart = only-one r.seen m h.new;
   also = subst (HasAlso (addition first m) r) (sym h.adds) (also-node first m r);
   again = λ q apart.
       (with_node first m q, record { says = h.says; class = h.class; new = apart m (inl refl); adds = refl }, also-node first m q);
 }
-  where
-    apart : (n : MemberParts) → Stands (m ∷ []) n → ¬ (Stands r.seen n)
-    apart n (inl e) = subst (λ k. ¬ (Stands r.seen k)) (sym e) h.new
-    apart n (inr k) = absurd k
 
 joins-adds : (first : MemberParts) (r s : Reading) (item : Item) → Joins first r item s → Adding (λ q t. Joins first q item t) r s
 joins-adds first r s item (m, adds) = adding-as (λ q t h. (m, h)) (node-adds (Some first) m r s item adds)
@@ -294,15 +309,6 @@ set-adds r s (More item items) (first, q, adds, over) =
 
 -- ---- words
 
-also-words : (w : Uncounted) (q : Reading)
-    → HasAlso (record no_addition { words = w }) q (record q { rules = record q.rules { uncounted = either w q.rules.uncounted } })
-also-words w q = record {
-  seen = sym (append-nil q.seen);
-  names = sym (append-nil q.rules.names);
-  units = sym (append-nil q.rules.units);
-  words = refl;
-}
-
 drops-adds : (r s : Reading) (item : Item) → Drops r item s → Adding (λ q t. Drops q item t) r s
 drops-adds r s item (u, names, is) =
     let w = names-item item r.rules.uncounted u names in
@@ -314,16 +320,45 @@ drops-adds r s item (u, names, is) =
       again = λ q apart. (_, (either w.0 q.rules.uncounted, w.1 q.rules.uncounted, refl), also-words w.0 q);
     }
 
+-- ---- kinds
+
+sort-adds : (k : UnitKind) (r s : Reading) (item : Item) → Sorts k r item s → Adding (λ q t. Sorts k q item t) r s
+sort-adds k r s item (inl (is, e)) = let w : Uncounted = record nothing { meridian_units = true } in record {
+  added = record no_addition { words = w };
+  apart = λ m h. absurd h;
+  also = subst (HasAlso (record no_addition { words = w }) r) (sym e) (also-words w r);
+  again = λ q apart. (with_meridians q, inl (is, refl), also-words w q);
+}
+sort-adds k r s item (inr (other, m, h)) = record {
+  added = added;
+  apart = only-one r.seen (kind_node m.name) h.new;
+  also = subst (HasAlso added r) (sym h.adds) (also r);
+  again = λ q apart.
+      (with_kind k m.name q, inr (other, m, record { says = h.says; new = apart (kind_node m.name) (inl refl); adds = refl }), also q);
+}
+  where
+    added : Addition
+    added = record no_addition { nodes = kind_node m.name ∷ []; kinds = record { name = m.name; kind = k } ∷ [] }
+
+    also : (q : Reading) → HasAlso added q (with_kind k m.name q)
+    also q = record { seen = refl; names = same q.rules.names; units = same q.rules.units; kinds = refl; words = refl }
+
+kind-adds : (r s : Reading) (items : Siblings) → SortsAll r items s → Adding (λ q t. SortsAll q items t) r s
+kind-adds r s End h = absurd h
+kind-adds r s (More item items) (k, is, over) =
+    adding-as (λ q t h. (k, is, h)) (adding-over (Sorts k) (sort-adds k) r s (listed items) over)
+
 -- ---- statements, lines
 
 statement-adds : (r s : Reading) (item : Item) → States r item s → Adding (λ q t. States q item t) r s
 statement-adds r s item (inl (says, h)) = adding-as (λ q t k. inl (says, k)) (set-adds r s (arguments item) h)
-statement-adds r s item (inr (says, h)) =
-    adding-as (λ q t k. inr (says, k)) (adding-over Drops drops-adds r s (listed (arguments item)) h)
+statement-adds r s item (inr (inl (says, h))) =
+    adding-as (λ q t k. inr (inl (says, k))) (adding-over Drops drops-adds r s (listed (arguments item)) h)
+statement-adds r s item (inr (inr (says, h))) = adding-as (λ q t k. inr (inr (says, k))) (kind-adds r s (arguments item) h)
 
 -- the line that a reading is at says nothing
 also-next : (added : Addition) (r s : Reading) → HasAlso added (next r) s → HasAlso added r s
-also-next added r s h = record { seen = h.seen; names = h.names; units = h.units; words = h.words }
+also-next added r s h = record { seen = h.seen; names = h.names; units = h.units; kinds = h.kinds; words = h.words }
 
 line-adds : (r s : Reading) (line : List ℕ) → Reads r line s → Adding (λ q t. Reads q line t) r s
 line-adds r s line (inl (idle, e)) = record {
@@ -355,16 +390,24 @@ record IsAlike (r s : Reading) : Type 0 where
   seen : Holds r.seen s.seen
   names : HoldBoth r.rules.names s.rules.names
   units : HoldBoth r.rules.units s.rules.units
+  kinds : HoldBoth r.rules.kinds s.rules.kinds
   uncounted : r.rules.uncounted ≡ s.rules.uncounted
 
 alike-self : (r : Reading) → IsAlike r r
-alike-self r = record { seen = λ m h. h; names = (λ a h. h, λ a h. h); units = (λ a h. h, λ a h. h); uncounted = refl }
+alike-self r = record {
+  seen = λ m h. h;
+  names = (λ a h. h, λ a h. h);
+  units = (λ a h. h, λ a h. h);
+  kinds = (λ a h. h, λ a h. h);
+  uncounted = refl;
+}
 
 alike-on : {r s t : Reading} → IsAlike r s → IsAlike s t → IsAlike r t
 alike-on h k = record {
   seen = λ m there. h.seen m (k.seen m there);
   names = (λ a there. h.names.0 a (k.names.0 a there), λ a there. k.names.1 a (h.names.1 a there));
   units = (λ a there. h.units.0 a (k.units.0 a there), λ a there. k.units.1 a (h.units.1 a there));
+  kinds = (λ a there. h.kinds.0 a (k.kinds.0 a there), λ a there. k.kinds.1 a (h.kinds.1 a there));
   uncounted = h.uncounted ∙ k.uncounted;
 }
 
@@ -380,6 +423,7 @@ alike-more added p q s t h j k = record {
   seen = rw (j.seen, k.seen) (holds-more p.seen q.seen added.nodes h.seen);
   names = both-more s.rules.names t.rules.names p.rules.names q.rules.names added.names j.names k.names h.names;
   units = both-more s.rules.units t.rules.units p.rules.units q.rules.units added.units j.units k.units h.units;
+  kinds = both-more s.rules.kinds t.rules.kinds p.rules.kinds q.rules.kinds added.kinds j.kinds k.kinds h.kinds;
   uncounted = j.words ∙ (ap (either added.words) h.uncounted ∙ sym k.words);
 }
 
@@ -398,6 +442,8 @@ alike-exchanged a b r q p o s h k l m = record {
       (m.names ∙ ap (λ x. x ++ a.names) l.names);
   units = both-exchanged p.rules.units s.rules.units r.rules.units a.units b.units (k.units ∙ ap (λ x. x ++ b.units) h.units)
       (m.units ∙ ap (λ x. x ++ a.units) l.units);
+  kinds = both-exchanged p.rules.kinds s.rules.kinds r.rules.kinds a.kinds b.kinds (k.kinds ∙ ap (λ x. x ++ b.kinds) h.kinds)
+      (m.kinds ∙ ap (λ x. x ++ a.kinds) l.kinds);
   uncounted = k.words ∙ (ap (either b.words) h.words ∙ (either-swap b.words a.words r.rules.uncounted
       ∙ sym (m.words ∙ ap (either a.words) l.words)));
 }
@@ -447,7 +493,7 @@ reordered r s (line ∷ lines) theirs (front, back, are, others) (q, step, over)
 
 -- the line that a reading is at says nothing
 alike-at : {r s : Reading} (line other : ℕ) → IsAlike r s → IsAlike (record r { line = line }) (record s { line = other })
-alike-at line other h = record { seen = h.seen; names = h.names; units = h.units; uncounted = h.uncounted }
+alike-at line other h = record { seen = h.seen; names = h.names; units = h.units; kinds = h.kinds; uncounted = h.uncounted }
 
 lines-of-files : LinesOne → (files lines : List (List ℕ)) (r q s : Reading) → IsAlike r q → AreLinesOf files lines
     → Over ReadsFile r files s → (t : Reading) × Over Reads q lines t × IsAlike s t
@@ -477,6 +523,7 @@ differ : (r s : Reading) → IsAlike r s → DifferInOrder r.rules s.rules
 differ r s h = record {
   names = same-members r.rules.names s.rules.names h.names.0 h.names.1;
   units = same-members r.rules.units s.rules.units h.units.0 h.units.1;
+  kinds = same-members r.rules.kinds s.rules.kinds h.kinds.0 h.kinds.1;
   uncounted = h.uncounted;
 }
 

@@ -9,7 +9,7 @@ use Rattle.crs_shape.specs.declared.class.Class.{Class}
 use Rattle.crs_shape.specs.contracts.class.Class as classes
 use Rattle.crs_shape.specs.contracts.unit_kind.UnitKind.{the_type}
 use Rattle.crs_value.specs.inner.Prelude.{is_same, UnitParts}
-use Rattle.crs_rules.specs.Rules.{NameAliasParts, UnitAliasParts, is_name_alias, is_unit_alias}
+use Rattle.crs_rules.specs.Rules.{NameAliasParts, UnitAliasParts, is_name_alias, is_unit_alias, ParameterKindParts, is_declared}
 
 pub record OfName (c : Class) (name : List ℕ) (a : NameAliasParts) : Type 0 where
   pub class : c ≡ a.class
@@ -19,6 +19,9 @@ pub of-name : (c : Class) (name : List ℕ) (a : NameAliasParts) → is_name_ali
 of-name c name a e =
     let h = and_parts (is_same c a.class) (bytes_eq name a.alias) e in
     record { class = sym (same_true classes.the_type (search rules) a.class c h.0); alias = (bytes_eq-Decides name a.alias).0 h.1 }
+
+pub of-declared : (name : List ℕ) (k : ParameterKindParts) → is_declared name k ≡ true → name ≡ k.name
+of-declared name k e = (bytes_eq-Decides name k.name).0 e
 
 pub record OfUnit (u : UnitParts) (a : UnitAliasParts) : Type 0 where
   pub kind : u.kind ≡ a.kind

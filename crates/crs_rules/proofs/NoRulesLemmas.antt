@@ -1,9 +1,9 @@
 -- No rules change nothing, so forms are canonical texts.
-use Rattle.std.proofs.Common.{◌≡◌, ◌↔◌, ◌∙◌, ℕ, Bool, true, false, List, [], ◌∷◌, map, refl, sym}
+use Rattle.std.proofs.Common.{◌≡◌, ◌↔◌, ◌∙◌, ℕ, Bool, true, false, List, [], ◌∷◌, map, ap, refl, sym}
 use Rattle.std.proofs.lemmas.Iterator.Adapters.{option_map_id}
 use Rattle.std.proofs.lemmas.List.{map-id}
 use Rattle.crs_shape.specs.declared.class.Class.{Class}
-use Rattle.crs_value.specs.inner.Prelude.{AxisParts}
+use Rattle.crs_value.specs.inner.Prelude.{AxisParts, GeodeticParts, ProjectedParts}
 use Rattle.crs_value.specs.declared.values.compound.Horizontal.{Horizontal}
 use Rattle.crs_value.specs.declared.values.compound.Horizontal.TheVariants as horizontals
 use Rattle.crs_value.specs.declared.values.crs.Crs.{Crs}
@@ -20,8 +20,9 @@ use Rattle.crs_rules.specs.ReorderedAxes.{unordered}
 use Rattle.crs_rules.specs.Rules.{Meaning, meaning, no_rules, nothing}
 use Rattle.crs_rules.specs.inner.AnyOrder.{axes_in_any_order}
 use Rattle.crs_rules.specs.inner.Sinking.{axes_across, axes_along, axes_up}
-use Rattle.crs_rules.specs.Rewritten.{across, ascending, axis, dynamic, ellipsoid, extent, frame_or_ensemble, meridian, parameter, renamed, rewritten, usage, AreTextsOfAxes, IsForm}
+use Rattle.crs_rules.specs.Rewritten.{across, ascending, axis, dynamic, ellipsoid, explicit, explicit_geodetic, extent, frame_or_ensemble, geodetic, meridian, parameter, projected, renamed, rewritten, usage, AreTextsOfAxes, IsForm}
 use Rattle.crs_rules.proofs.FormOrderLemmas.{kept-by}
+use Rattle.crs_rules.proofs.LeftOutLemmas.{geodetic-untold, projected-untold}
 
 abbrev ChangesNothing : {A : Type 0} → (A → A) → Type 0
 ChangesNothing {A} f = ◌≡◌ {A = A → A} (λ x. f x) (λ x. x)
@@ -57,13 +58,23 @@ ruleset parts_same = (meridian-same, dynamic-same, usage-same, parameter-same, f
 abbrev AxesStay : Bool → List AxisParts → Type 0
 AxesStay o axes = map (axis (plain o)) axes ≡ axes
 
+geodetic-same : (o : Bool) (g : GeodeticParts) → AxesStay o g.system.axes → geodetic (plain o) (explicit_geodetic (plain o) g) ≡ g
+geodetic-same o g e =
+    let same : geodetic (plain o) g ≡ g = simp (e, parts_same) in
+    ap (geodetic (plain o)) (geodetic-untold (plain o) refl g) ∙ same
+
+projected-same : (o : Bool) (p : ProjectedParts) → AxesStay o p.system.axes → projected (plain o) (explicit (plain o) p) ≡ p
+projected-same o p e =
+    let same : projected (plain o) p ≡ p = simp (e, parts_same) in
+    ap (projected (plain o)) (projected-untold (plain o) refl (λ n. refl) p) ∙ same
+
 across-same : (o : Bool) (h : Horizontal) → AxesStay o (axes_along h) → across (plain o) h ≡ h
-across-same o (horizontals.Geodetic g) e = simp (e, parts_same)
-across-same o (horizontals.Projected p) e = simp (e, parts_same)
+across-same o (horizontals.Geodetic g) e = ap horizontals.Geodetic (geodetic-same o g e)
+across-same o (horizontals.Projected p) e = ap horizontals.Projected (projected-same o p e)
 
 unchanged : (o : Bool) (x : Crs) → AxesStay o (axes_across x) → AxesStay o (axes_up x) → renamed (plain o) x ≡ x
-unchanged o (crs.Geodetic g) e h = simp (e, parts_same)
-unchanged o (crs.Projected p) e h = simp (e, parts_same)
+unchanged o (crs.Geodetic g) e h = ap crs.Geodetic (geodetic-same o g e)
+unchanged o (crs.Projected p) e h = ap crs.Projected (projected-same o p e)
 unchanged o (crs.Vertical v) e h = simp (h, parts_same)
 unchanged o (crs.Compound c) e h = let across = across-same o c.horizontal e in simp (across, h, parts_same)
 

@@ -1,16 +1,16 @@
 -- Bytes spell rules in one way at most, or are refused in one way at most, and never both.
-use Rattle.std.proofs.Common.{◌≡◌, ℕ, ◌++◌, ◌∷◌, [], List, Bool, IsTrue, IsFalse, Option, None, Some, inl, inr, sym, subst, ap, ◌∙◌, arith, length, codes}
+use Rattle.std.proofs.Common.{◌≡◌, ◌≢◌, ℕ, ◌++◌, ◌∷◌, [], List, Bool, IsTrue, IsFalse, Option, None, Some, inl, inr, sym, subst, ap, ◌∙◌, arith, length, codes}
 use Rattle.std.specs.Str.{str_eq_ignore_ascii_case, str_to_ascii_lowercase}
 use Rattle.std.proofs.lemmas.Slice.Eq.{bytes_eq-Decides}
 use Rattle.crs_decimal.specs.inner.Prelude.{Denotes, IsNormal, Value, exact}
 use Rattle.crs_text.specs.inner.Prelude.{Item, Siblings, End, More, arguments, raw_of, RefusesText, SpellsNode}
 use Rattle.crs_shape.specs.declared.unit_kind.UnitKind.{UnitKind}
+use Rattle.crs_value.specs.inner.Prelude.{OneIs}
 use Rattle.crs_streams.specs.inner.Prelude.{AreLines}
-use Rattle.crs_rules.specs.declared.uncounted.Uncounted.{Uncounted}
 use Rattle.crs_rules.specs.declared.file.fault.RulesRefusal.{RulesRefusal}
 use Rattle.crs_rules.specs.Members.{MemberParts, Says, SaysFactor, SaysName, kind_of}
 use Rattle.crs_rules.specs.RulesFile.{FaultOfLine, Reads, ReadsFile, RefusesFile, is_idle, next}
-use Rattle.crs_rules.specs.Statements.{Adds, AddsSet, Drops, FaultOfNode, FaultOfSet, FaultOfStatement, FaultOfWord, FaultOver, Joins, Over, Reading, States, joined, listed, with_item}
+use Rattle.crs_rules.specs.Statements.{Adds, AddsSet, Declares, Drops, FaultOfKind, FaultOfNode, FaultOfSet, FaultOfSort, FaultOfStatement, FaultOfWord, FaultOver, Joins, Over, Reading, Sorts, SortsAll, States, is_meridian, joined, kind_node, listed, with_item, with_kind}
 
 abbrev pub DenotesOne : Type 0
 DenotesOne = (bytes : List ℕ) (a b : Value) → IsNormal a → IsNormal b →
@@ -48,6 +48,12 @@ over-apart {Step = Step} h r s (x ∷ xs) f (q, step, more) (inr (p, other, rest
 
 pub some-one : {A : Type 0} (o : Option A) (a b : A) → o ≡ Some a → o ≡ Some b → a ≡ b
 some-one o a b p q = cc
+
+none-some : {A : Type 0} (o : Option A) (a : A) → o ≡ Some a → o ≡ None → ⊥
+none-some o a p q = cc
+
+true-false : (b : Bool) → IsTrue b → IsFalse b → ⊥
+true-false b p q = cc
 
 factor-one : DenotesOne → (o : Option UnitKind) (items : Siblings) (a b : Value) → SaysFactor o items a → SaysFactor o items b → a ≡ b
 factor-one law None items a b p q = p.1 ∙ sym q.1
@@ -129,28 +135,121 @@ drops-sharp = record {
   fault = λ r x f g p q. p.0 ∙ sym q.0;
   apart = λ r s x f p q. none-some (with_item x r.rules.uncounted) p.0 p.1 q.1;
 }
+
+-- ---- kinds
+
+declares-one : DenotesOne → (k : UnitKind) (m n : MemberParts) (r s t : Reading) (item : Item) →
+    Declares k m r item s → Declares k n r item t → s ≡ t
+declares-one law k m n r s t item p q =
+    p.adds ∙ (ap (λ (x : MemberParts). with_kind k x.name r) (says-one law item m n p.says.0 q.says.0) ∙ sym q.adds)
+
+sorts-sharp : DenotesOne → (k : UnitKind) → Sharp (Sorts k) (FaultOfSort k)
+sorts-sharp law k = record { one = one; fault = fault; apart = apart }
   where
-    none-some : (o : Option Uncounted) (u : Uncounted) → o ≡ Some u → o ≡ None → ⊥
-    none-some o u p q = cc
+    one : (r s t : Reading) (x : Item) → Sorts k r x s → Sorts k r x t → s ≡ t
+    one r s t x (inl a) (inl b) = a.1 ∙ sym b.1
+    one r s t x (inl a) (inr b) = absurd (true-false (is_meridian k x) a.0 b.0)
+    one r s t x (inr a) (inl b) = absurd (true-false (is_meridian k x) b.0 a.0)
+    one r s t x (inr (z, m, a)) (inr (y, n, b)) = declares-one law k m n r s t x a b
+
+    fault : (r : Reading) (x : Item) (f g : RulesRefusal) → FaultOfSort k r x f → FaultOfSort k r x g → f ≡ g
+    fault r x f g (z, inl a) (y, inl b) = a.0 ∙ sym b.0
+    fault r x f g (z, inl a) (y, inr (n, says, b, c)) = absurd (a.1 n says)
+    fault r x f g (z, inr (m, says, a, d)) (y, inl b) = absurd (b.1 m says)
+    fault r x f g (z, inr (m, says, a, d)) (y, inr (n, other, b, c)) = a ∙ sym b
+
+    apart : (r s : Reading) (x : Item) (f : RulesRefusal) → Sorts k r x s → ¬ (FaultOfSort k r x f)
+    apart r s x f (inl a) (z, b) = true-false (is_meridian k x) a.0 z
+    apart r s x f (inr (z, m, a)) (y, inl b) = b.1 m a.says
+    apart r s x f (inr (z, m, a)) (y, inr (n, says, b, c)) =
+        a.new (subst (λ (o : MemberParts). OneIs (λ y. kind_node o.name ≡ y) r.seen) (says-one law x n m says.0 a.says.0) c)
+
+kinds-sharp : DenotesOne → Sharp SortsAll FaultOfKind
+kinds-sharp law = record { one = one; fault = fault; apart = apart }
+  where
+    one : (r s t : Reading) (items : Siblings) → SortsAll r items s → SortsAll r items t → s ≡ t
+    one r s t End a b = absurd a
+    one r s t (More x xs) (k, is, a) (j, other, b) =
+        over-one (sorts-sharp law j) r s t (listed xs) (subst (λ o. Over (Sorts o) r (listed xs) s) (some-one _ k j is other) a) b
+
+    fault : (r : Reading) (items : Siblings) (f g : RulesRefusal) → FaultOfKind r items f → FaultOfKind r items g → f ≡ g
+    fault r End f g a b = absurd a
+    fault r (More x xs) f g (inl a) (inl b) = a.0 ∙ sym b.0
+    fault r (More x xs) f g (inl a) (inr (j, other, b)) = absurd (none-some _ j other a.1)
+    fault r (More x xs) f g (inr (k, is, a)) (inl b) = absurd (none-some _ k is b.1)
+    fault r (More x xs) f g (inr (k, is, a)) (inr (j, other, b)) =
+        over-fault (sorts-sharp law j) r (listed xs) f g
+        (subst (λ o. FaultOver (Sorts o) (FaultOfSort o) r (listed xs) f) (some-one _ k j is other) a) b
+
+    apart : (r s : Reading) (items : Siblings) (f : RulesRefusal) → SortsAll r items s → ¬ (FaultOfKind r items f)
+    apart r s End f a b = b
+    apart r s (More x xs) f (k, is, a) (inl b) = none-some _ k is b.1
+    apart r s (More x xs) f (k, is, a) (inr (j, other, b)) =
+        over-apart (sorts-sharp law j) r s (listed xs) f
+        (subst (λ o. Over (Sorts o) r (listed xs) s) (some-one _ k j is other) a) b
 
 -- ---- statements
 
-apart-words : (raw : List ℕ) → IsTrue (str_eq_ignore_ascii_case (codes "SAME") raw) →
-    ¬ (IsTrue (str_eq_ignore_ascii_case (codes "UNCOUNTED") raw))
-apart-words raw p q =
-    let a = (bytes_eq-Decides (str_to_ascii_lowercase (codes "SAME")) (str_to_ascii_lowercase raw)).0 p in
-    let b = (bytes_eq-Decides (str_to_ascii_lowercase (codes "UNCOUNTED")) (str_to_ascii_lowercase raw)).0 q in
-    let k : ◌≡◌ {A = ℕ} 4 9 = ap length (a ∙ sym b) in
-    omega (arith, k)
+apart-words : (first second raw : List ℕ) → length (str_to_ascii_lowercase first) ≢ length (str_to_ascii_lowercase second) →
+    IsTrue (str_eq_ignore_ascii_case first raw) → ¬ (IsTrue (str_eq_ignore_ascii_case second raw))
+apart-words first second raw other p q =
+    let a = (bytes_eq-Decides (str_to_ascii_lowercase first) (str_to_ascii_lowercase raw)).0 p in
+    let b = (bytes_eq-Decides (str_to_ascii_lowercase second) (str_to_ascii_lowercase raw)).0 q in
+    other (ap length (a ∙ sym b))
 
-true-false : (b : Bool) → IsTrue b → IsFalse b → ⊥
-true-false b p q = cc
+same-uncounted : (raw : List ℕ) → IsTrue (str_eq_ignore_ascii_case (codes "SAME") raw) →
+    ¬ (IsTrue (str_eq_ignore_ascii_case (codes "UNCOUNTED") raw))
+same-uncounted raw = apart-words (codes "SAME") (codes "UNCOUNTED") raw (λ (k : ◌≡◌ {A = ℕ} 4 9). omega (arith, k))
+
+uncounted-kind : (raw : List ℕ) → IsTrue (str_eq_ignore_ascii_case (codes "UNCOUNTED") raw) →
+    ¬ (IsTrue (str_eq_ignore_ascii_case (codes "KIND") raw))
+uncounted-kind raw = apart-words (codes "UNCOUNTED") (codes "KIND") raw (λ (k : ◌≡◌ {A = ℕ} 9 4). omega (arith, k))
+
+first-of : List ℕ → ℕ
+first-of [] = 0
+first-of (b ∷ bs) = b
+
+same-kind : (raw : List ℕ) → IsTrue (str_eq_ignore_ascii_case (codes "SAME") raw) →
+    ¬ (IsTrue (str_eq_ignore_ascii_case (codes "KIND") raw))
+unfolding first-of
+same-kind raw p q =
+    let a = (bytes_eq-Decides (str_to_ascii_lowercase (codes "SAME")) (str_to_ascii_lowercase raw)).0 p in
+    let b = (bytes_eq-Decides (str_to_ascii_lowercase (codes "KIND")) (str_to_ascii_lowercase raw)).0 q in
+    let k : ◌≡◌ {A = ℕ} 115 107 = ap first-of (a ∙ sym b) in
+    omega (arith, k)
 
 statements-sharp : DenotesOne → Sharp States FaultOfStatement
 statements-sharp law = record {
-  one = λ r s t x a b. grind (arith, apart-words (raw_of x), (set-sharp law).one r s t (arguments x), over-one drops-sharp r s t (listed (arguments x)));
-  fault = λ r x f g a b. grind (arith, apart-words (raw_of x), (set-sharp law).fault r (arguments x) f g, over-fault drops-sharp r (listed (arguments x)) f g);
-  apart = λ r s x f a b. grind (arith, apart-words (raw_of x), (set-sharp law).apart r s (arguments x) f, over-apart drops-sharp r s (listed (arguments x)) f);
+  one = λ r s t x a b.
+      grind (
+        arith,
+        same-uncounted (raw_of x),
+        uncounted-kind (raw_of x),
+        same-kind (raw_of x),
+        (set-sharp law).one r s t (arguments x),
+        over-one drops-sharp r s t (listed (arguments x)),
+        (kinds-sharp law).one r s t (arguments x),
+      );
+  fault = λ r x f g a b.
+      grind (
+        arith,
+        same-uncounted (raw_of x),
+        uncounted-kind (raw_of x),
+        same-kind (raw_of x),
+        (set-sharp law).fault r (arguments x) f g,
+        over-fault drops-sharp r (listed (arguments x)) f g,
+        (kinds-sharp law).fault r (arguments x) f g,
+      );
+  apart = λ r s x f a b.
+      grind (
+        arith,
+        same-uncounted (raw_of x),
+        uncounted-kind (raw_of x),
+        same-kind (raw_of x),
+        (set-sharp law).apart r s (arguments x) f,
+        over-apart drops-sharp r s (listed (arguments x)) f,
+        (kinds-sharp law).apart r s (arguments x) f,
+      );
 }
 
 -- ---- lines

@@ -6,7 +6,7 @@ use Rattle.crs_value.specs.Sound.{Each}
 use Rattle.crs_value.specs.inner.Prelude.{UnitParts}
 use Rattle.crs_value.specs.declared.values.level.Level.{Level}
 use Rattle.crs_writer.specs.inner.Prelude.{IsCanonicalText}
-use Rattle.crs_rules.specs.Rules.{DifferInOrder, HaveSameMembers, NameAliasParts, RulesParts, UnitAliasParts, first_name, first_that, first_unit, is_name_alias, is_unit_alias, meaning, name_for, unit_for}
+use Rattle.crs_rules.specs.Rules.{DifferInOrder, HaveSameMembers, NameAliasParts, RulesParts, UnitAliasParts, first_name, first_that, first_unit, is_name_alias, is_unit_alias, meaning, name_for, unit_for, ParameterKindParts, declared_kind, is_declared, kind_or_plain}
 use Rattle.crs_rules.specs.Rewritten.{rewritten, IsForm}
 
 pub each-in : {A : Type 0} (P : A → Type 0) (x : A) (xs : List A) → Each P xs → IsIn x xs → P x
@@ -41,12 +41,14 @@ same-found test of xs ys h clear (inr a) (inl b) =
     cc (b.2, each-in (λ x. test x ≡ false) _ xs a.0 (each-in (λ y. IsIn y xs) _ ys h.1 b.1))
 same-found test of xs ys h clear (inr a) (inr b) = rw (a.1, b.1)
 
--- for each name one other name is written, and for each unit one name and factor
+-- for each name one other name is written, for each unit one name and factor, and each name has one kind
 pub record AreClear (r : RulesParts) : Type 0 where
   pub names : (c : Class) (name : List ℕ) (a b : NameAliasParts) → IsIn a r.names → IsIn b r.names →
       is_name_alias c name a ≡ true → is_name_alias c name b ≡ true → a.name ≡ b.name
   pub units : (u : UnitParts) (a b : UnitAliasParts) → IsIn a r.units → IsIn b r.units →
       is_unit_alias u a ≡ true → is_unit_alias u b ≡ true → (a.name ≡ b.name) × (a.factor ≡ b.factor)
+  pub kinds : (name : List ℕ) (a b : ParameterKindParts) → IsIn a r.kinds → IsIn b r.kinds →
+      is_declared name a ≡ true → is_declared name b ≡ true → a.kind ≡ b.kind
 
 same-meaning : (r s : RulesParts) → DifferInOrder r s → AreClear r → meaning r ≡ meaning s
 same-meaning r s d h =
@@ -57,7 +59,10 @@ same-meaning r s d h =
     same-found (is_unit_alias u) (unit_for u) r.units s.units d.units
     (λ a b i j p q. let k = h.units u a b i j p q in λ z. record u { name = k.0 z; factor = k.1 z })
     (sought (is_unit_alias u) r.units) (sought (is_unit_alias u) s.units) in
-    λ z. record { name = λ c n. name c n z; unit = λ u. unit u z; uncounted = d.uncounted z }
+    let kind : (n : List ℕ) → declared_kind r.kinds n ≡ declared_kind s.kinds n = λ n.
+    same-found (is_declared n) kind_or_plain r.kinds s.kinds d.kinds
+    (h.kinds n) (sought (is_declared n) r.kinds) (sought (is_declared n) s.kinds) in
+    λ z. record { name = λ c n. name c n z; unit = λ u. unit u z; uncounted = d.uncounted z; kind = λ n. kind n z }
 
 pub same-form : (r s : RulesParts) → DifferInOrder r s → AreClear r → (level : Level) (text bytes : List ℕ) →
     IsForm r level text bytes → IsForm s level text bytes

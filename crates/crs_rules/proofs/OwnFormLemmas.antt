@@ -64,7 +64,7 @@ module _ (level : Level) (b : FormLaws level) (o : SetLaws) where
       let s : Spells bytes v = rw (spelled-norm u g.value bytes l g g.spells) at g.spells in
       let z : Crs = rewritten f.axis_text m v in
       let same : SameCrs level z v =
-      rw (rewritten-stays m (steady r t) o level (sound-meaning r h) f.axis_text x (norm-sound x k) (twice u l))
+      rw (rewritten-stays m (steady r t) o level (sound-meaning r h) f.axis_text x (norm-sound x k) (twice x k) (twice u l))
       at (b.one_form z (crs-sound f.axis_text r h v (norm-sound u l))) in
       let form : IsCanonicalText level z bytes = search (g.normal, s, same) in
       search (own-text u bytes l g.normal s, s, f.are_axis_texts, form)

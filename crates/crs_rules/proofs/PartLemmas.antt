@@ -1,12 +1,16 @@
 -- Names, units and parts of CRSs that are written by rules are accepted.
-use Rattle.std.proofs.Common.{◌≡◌, ℕ, Bool, true, false, Option, Some, None, List, [], ◌∷◌, IfSome, refl, if◌then◌else◌, arith, ◌≢◌, IsSome, IsNone, map}
+use Rattle.std.proofs.Common.{◌≡◌, ℕ, Bool, true, false, Option, Some, None, List, [], ◌∷◌, IfSome, refl, if◌then◌else◌, arith, ◌≢◌, IsSome, IsNone, map, ◌==◌, inl, codes, rules}
 use Rattle.crs_shape.specs.declared.class.Class.{Class}
 use Rattle.crs_shape.specs.declared.unit_kind.UnitKind.{UnitKind}
-use Rattle.crs_value.specs.inner.Prelude.{IsText, IsUnit, IsUnitOf, IsAxisUnit, UnitParts, ConversionParts, ParameterParts, DynamicParts, datum_of, NamedParts, IsNamed, IsConversion, IsParameter, IsDynamic, IsDatum, IsEllipsoid, IsEnsemble, IsMeridian, IsDynamicOf, IsExtent, IsTail, IsUsage, DatumParts, EllipsoidParts, EnsembleParts, ExtentParts, MeridianParts, SaysSome, TailParts, UsageParts}
-use Rattle.crs_value.specs.Sound.{Each}
-use Rattle.crs_rules.specs.Rewritten.{counted_name, conversion, counted, counted_frame, datum, dynamic, dynamics, ellipsoid, ensemble, extent, frame_or_ensemble, meridian, named, parameter, stemmed, tail, usage}
-use Rattle.crs_rules.specs.Rules.{Meaning, NameAliasParts, RulesParts, UnitAliasParts, first_that, is_name_alias, is_unit_alias, meaning, name_for, unit_for, AreRules, IsNameAlias, IsUnitAlias}
+use Rattle.crs_value.specs.inner.Prelude.{IsText, IsUnit, IsUnitOf, IsAxisUnit, UnitParts, ConversionParts, ParameterParts, DynamicParts, datum_of, NamedParts, IsNamed, IsConversion, IsParameter, IsDynamic, IsDatum, IsEllipsoid, IsEnsemble, IsMeridian, IsDynamicOf, IsExtent, IsTail, IsUsage, DatumParts, EllipsoidParts, EnsembleParts, ExtentParts, MeridianParts, SaysSome, TailParts, UsageParts, AxisParts, IsAxis, own_or}
+use Rattle.std.specs.List.{list_all}
 use Rattle.std.specs.Option.{option_map}
+use denote.Enum.Bare.{sameb, same_true}
+use Rattle.crs_shape.specs.contracts.unit_kind.UnitKind.{the_type}
+use Rattle.crs_shape.specs.declared.unit_kind.UnitKind.TheVariants as kinds
+use Rattle.crs_value.specs.Sound.{Each}
+use Rattle.crs_rules.specs.Rewritten.{counted_name, conversion, counted, counted_frame, datum, dynamic, dynamics, ellipsoid, ensemble, extent, frame_or_ensemble, meridian, named, parameter, stemmed, tail, usage, bare, completed, completed_conversion, completed_meridian, told, first_unit_of, is_same_unit, one_of, shared, unit_of_kind, units_of, unity, with_unit_of}
+use Rattle.crs_rules.specs.Rules.{Meaning, NameAliasParts, RulesParts, UnitAliasParts, first_that, is_name_alias, is_unit_alias, meaning, name_for, unit_for, AreRules, IsNameAlias, IsUnitAlias}
 use Rattle.crs_value.specs.declared.values.frame.Frame.{Frame}
 use Rattle.crs_rules.proofs.StemLemmas.{stem-sound}
 use Rattle.crs_value.specs.declared.values.frame.Frame.TheVariants as frames
@@ -156,6 +160,104 @@ tail-sound r h t k = search (each-map, some-map, usage-sound)
 
 pub parameter-sound : (r : Meaning) → IsSoundMeaning r → (p : ParameterParts) → IsParameter p → IsParameter (parameter r p)
 parameter-sound r h p k = search (h.name, some-map, unit-sound)
+
+-- ---- units that are left out
+
+pub unity-sound : IsUnit unity
+unfolding lib.Utf8.encode
+unity-sound = record {
+  name = ((codes "unity", refl), (codes "unity", (refl, refl)));
+  factor = search rules;
+  above_zero = search rules;
+  identifiers = tt;
+}
+
+pub bare-sound : (u : UnitParts) → IsUnit u → IsUnit (bare u)
+bare-sound u k = record { name = k.name; factor = k.factor; above_zero = k.above_zero; identifiers = tt }
+
+pub some-bare : (o : Option UnitParts) → IfSome o IsUnit → IfSome (option_map bare o) IsUnit
+some-bare o k = some-map IsUnit bare o bare-sound k
+
+pub some-weaker : {A : Type 0} (P Q : A → Type 0) → ((x : A) → P x → Q x) → (o : Option A) → IfSome o P → IfSome o Q
+some-weaker P Q f None k = search arith
+some-weaker P Q f (Some x) k = f x k
+
+with-sound : (kind : UnitKind) (o : Option UnitParts) (us : List UnitParts) → IfSome o IsUnit → Each (IsUnitOf kind) us →
+    Each (IsUnitOf kind) (with_unit_of kind o us)
+with-sound kind None us h k = k
+with-sound kind (Some u) us h k = by (sameb the_type u.kind kind) refl
+  where
+    by : (b : Bool) → sameb the_type u.kind kind ≡ b → Each (IsUnitOf kind) (if b then bare u ∷ us else us)
+    by true e = ((bare-sound u h, inl (same_true the_type (search rules) u.kind kind e)), k)
+    by false e = k
+
+units-of-sound : (kind : UnitKind) (axes : List AxisParts) → Each IsAxis axes → Each (IsUnitOf kind) (units_of kind axes)
+units-of-sound kind [] k = tt
+units-of-sound kind (a ∷ axes) k =
+    with-sound kind a.unit _ (some-weaker IsAxisUnit IsUnit (λ u i. i.0) a.unit k.0.unit) (units-of-sound kind axes k.1)
+
+-- what each of some units has, the one unit has
+pub one-has : (P : UnitParts → Type 0) (us : List UnitParts) → Each P us → IfSome (one_of (first_unit_of us) us) P
+one-has P [] k = search arith
+one-has P (u ∷ us) k =
+    choice (λ o. IfSome o P) (list_all (is_same_unit u) (u ∷ us)) (Some u) None k.0 (search arith)
+
+pub shared-sound : (kind : UnitKind) (axes : List AxisParts) → Each IsAxis axes → IfSome (shared kind axes) (IsUnitOf kind)
+shared-sound kind axes k = one-has (IsUnitOf kind) (units_of kind axes) (units-of-sound kind axes k)
+
+pub told-sound : (P : UnitParts → Type 0) (is : Bool) (o : Option UnitParts) → IfSome o P → IfSome (told is o) P
+told-sound P is o k = choice (λ x. IfSome x P) is o None k (search arith)
+
+pub bare-angle : (o : Option UnitParts) → IfSome o (IsUnitOf kinds.Angle) → IfSome (option_map bare o) (IsUnitOf kinds.Angle)
+bare-angle o k = some-map (IsUnitOf kinds.Angle) bare o (λ u i. (bare-sound u i.0, i.1)) k
+
+-- a prime meridian with the unit that it leaves out
+pub completed-meridian-sound : (missing : Option UnitParts) → IfSome missing (IsUnitOf kinds.Angle) → (m : MeridianParts) →
+    IsMeridian m → IsMeridian (completed_meridian missing m)
+completed-meridian-sound missing h m k = record {
+  name = k.name;
+  longitude = k.longitude;
+  unit = choice (λ o. IfSome o (IsUnitOf kinds.Angle)) (m.longitude.digits == 0) m.unit (own_or m.unit missing) k.unit (own m.unit k.unit);
+  identifiers = k.identifiers;
+}
+  where
+    own : (o : Option UnitParts) → IfSome o (IsUnitOf kinds.Angle) → IfSome (own_or o missing) (IsUnitOf kinds.Angle)
+    own None l = h
+    own (Some u) l = l
+
+pub completed-meridians-sound : (missing : Option UnitParts) → IfSome missing (IsUnitOf kinds.Angle) → (o : Option MeridianParts) →
+    IfSome o IsMeridian → IfSome (option_map (completed_meridian missing) o) IsMeridian
+completed-meridians-sound missing h o k = some-map IsMeridian (completed_meridian missing) o (completed-meridian-sound missing h) k
+
+pub kind-sound : (angle length : Option UnitParts) → IfSome angle IsUnit → IfSome length IsUnit → (k : UnitKind) →
+    IfSome (unit_of_kind angle length k) IsUnit
+kind-sound angle length a l kinds.Plain = search arith
+kind-sound angle length a l kinds.Angle = a
+kind-sound angle length a l kinds.Length = l
+kind-sound angle length a l kinds.Scale = unity-sound
+
+own-sound : (o s : Option UnitParts) → IfSome o IsUnit → IfSome s IsUnit → IfSome (own_or o s) IsUnit
+own-sound None s k l = l
+own-sound (Some u) s k l = k
+
+pub completed-sound : (r : Meaning) (missing : UnitKind → Option UnitParts) → ((k : UnitKind) → IfSome (missing k) IsUnit) →
+    (p : ParameterParts) → IsParameter p → IsParameter (completed r missing p)
+completed-sound r missing m p k = record {
+  name = k.name;
+  value = k.value;
+  unit = own-sound p.unit _ k.unit (m _);
+  identifiers = k.identifiers;
+}
+
+pub completed-conversion-sound : (r : Meaning) (missing : UnitKind → Option UnitParts) →
+    ((k : UnitKind) → IfSome (missing k) IsUnit) →
+    (c : ConversionParts) → IsConversion c → IsConversion (completed_conversion r missing c)
+completed-conversion-sound r missing m c k = record {
+  name = k.name;
+  method = k.method;
+  parameters = each-map IsParameter (completed r missing) c.parameters (completed-sound r missing m) k.parameters;
+  identifiers = k.identifiers;
+}
 
 pub conversion-sound : (r : Meaning) → IsSoundMeaning r → (c : ConversionParts) → IsConversion c → IsConversion (conversion r c)
 conversion-sound r h c k = search (counted-name, named-sound, each-map, parameter-sound)

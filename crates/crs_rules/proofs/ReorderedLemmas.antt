@@ -20,12 +20,13 @@ use Rattle.crs_value.specs.declared.values.level.Level.TheVariants as levels
 use Rattle.crs_normal.specs.inner.Prelude.{norm_axis_alone, norm_crs, norm_horizontal, norm_vertical, norm_axis, norm_axis_meridians, norm_system, norm_units}
 use Rattle.crs_rules.specs.inner.LowerLaws.{SetLaws}
 use Rattle.crs_rules.specs.ReorderedAxes.{AreAxesReordered, IsAcrossReordered, IsCrsReordered, IsReordered, IsVerticalReordered, unordered}
-use Rattle.crs_rules.specs.Rewritten.{across, among, arranged, arranged_across, arranged_compound, arranged_crs, arranged_geodetic, arranged_projected, arranged_vertical, ascending, axis, axis_meridian, compound, geodetic, projected, renamed, system, units, vertical}
+use Rattle.crs_rules.specs.Rewritten.{across, among, arranged, arranged_across, arranged_compound, arranged_crs, arranged_geodetic, arranged_projected, arranged_vertical, ascending, axis, axis_meridian, compound, explicit, explicit_geodetic, geodetic, projected, renamed, shared, system, units, vertical}
 use Rattle.crs_rules.specs.Rules.{Meaning}
 use Rattle.crs_rules.proofs.AgainLemmas.{any-axis, kind-twice, plain-kind}
 use Rattle.crs_rules.proofs.PartLemmas.{IsSoundMeaning}
 use Rattle.crs_rules.proofs.ArrangedLemmas.{Before, before-among, idents-kept, in-front, unit-kept}
 use Rattle.crs_rules.proofs.CrsLemmas.{axis-sound, each-both}
+use Rattle.crs_rules.proofs.SharedLemmas.{shared-ascending}
 use Rattle.crs_rules.proofs.SteadyLemmas.{KeepsKinds}
 
 -- ---- axes that have one text are equal: then the order in which they are put among others is nothing
@@ -158,13 +159,22 @@ module _ (m : Meaning) (s : KeepsKinds m) (h : IsSoundMeaning m) (o : SetLaws) (
         rw (reordered-ascend text IsWritten written-tells (map (axis m) xs) (map (axis m) ys) o (are-written s k) (are-written t l))
         (ap (λ z. arranged text (system m z)) r.others)
 
+    shared-one : (kind : UnitKind) (s t : SystemParts) → IsSystem (norm_system level s) → IsSystem (norm_system level t) →
+        AreAxesReordered (norm_system level s) (norm_system level t) →
+        shared kind (system m (norm_system level s)).axes ≡ shared kind (system m (norm_system level t)).axes
+    shared-one kind s t k l r =
+        sym (shared-ascending kind text (system m (norm_system level s)).axes)
+        ∙ (ap (λ (z : SystemParts). shared kind z.axes) (system-one s t k l r) ∙ shared-ascending kind text (system m (norm_system level t)).axes)
+
     across-one : (x y : Horizontal) → IsHorizontal (norm_horizontal level x) → IsHorizontal (norm_horizontal level y) →
         IsAcrossReordered (norm_horizontal level x) (norm_horizontal level y) →
         arranged_across text (across m (norm_horizontal level x)) ≡ arranged_across text (across m (norm_horizontal level y))
     across-one (horizontals.Geodetic g) (horizontals.Geodetic k) a b r =
-        rw (system-one g.system k.system a.0.system b.0.system r.system) (ap (λ z. horizontals.Geodetic (arranged_geodetic text (geodetic m z))) r.others)
+        rw (system-one g.system k.system a.0.system b.0.system r.system, shared-one kinds.Angle g.system k.system a.0.system b.0.system r.system)
+        (ap (λ z. horizontals.Geodetic (arranged_geodetic text (geodetic m (explicit_geodetic m z)))) r.others)
     across-one (horizontals.Projected p) (horizontals.Projected q) a b r =
-        rw (system-one p.system q.system a.0.system b.0.system r.system) (ap (λ z. horizontals.Projected (arranged_projected text (projected m z))) r.others)
+        rw (system-one p.system q.system a.0.system b.0.system r.system, shared-one kinds.Length p.system q.system a.0.system b.0.system r.system)
+        (ap (λ z. horizontals.Projected (arranged_projected text (projected m (explicit m z)))) r.others)
     across-one x y a b r = absurd r
 
     vertical-one : (v w : VerticalParts) → IsVertical (norm_vertical level v) → IsVertical (norm_vertical level w) →
@@ -176,9 +186,11 @@ module _ (m : Meaning) (s : KeepsKinds m) (h : IsSoundMeaning m) (o : SetLaws) (
     pub crs-one : (x y : Crs) → IsCrs (norm_crs level x) → IsCrs (norm_crs level y) → IsCrsReordered (norm_crs level x) (norm_crs level y) →
         arranged_crs text (renamed m (norm_crs level x)) ≡ arranged_crs text (renamed m (norm_crs level y))
     crs-one (crs.Geodetic g) (crs.Geodetic k) a b r =
-        rw (system-one g.system k.system a.system b.system r.system) (ap (λ z. crs.Geodetic (arranged_geodetic text (geodetic m z))) r.others)
+        rw (system-one g.system k.system a.system b.system r.system, shared-one kinds.Angle g.system k.system a.system b.system r.system)
+        (ap (λ z. crs.Geodetic (arranged_geodetic text (geodetic m (explicit_geodetic m z)))) r.others)
     crs-one (crs.Projected p) (crs.Projected q) a b r =
-        rw (system-one p.system q.system a.system b.system r.system) (ap (λ z. crs.Projected (arranged_projected text (projected m z))) r.others)
+        rw (system-one p.system q.system a.system b.system r.system, shared-one kinds.Length p.system q.system a.system b.system r.system)
+        (ap (λ z. crs.Projected (arranged_projected text (projected m (explicit m z)))) r.others)
     crs-one (crs.Vertical v) (crs.Vertical w) a b r = ap crs.Vertical (vertical-one v w a b r)
     crs-one (crs.Compound d) (crs.Compound e) a b r =
         rw (

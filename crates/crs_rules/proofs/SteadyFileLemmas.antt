@@ -1,5 +1,5 @@
 -- Rules that are read are steady: nothing chains, since no node stands in two sets.
-use Rattle.std.proofs.Common.{◌⊎◌, ◌≡◌, ◌≢◌, ℕ, ◌++◌, ◌∷◌, [], List, true, Option, None, Some, inl, inr, refl, sym, subst, ap, rules}
+use Rattle.std.proofs.Common.{◌⊎◌, ◌≡◌, ◌≢◌, ℕ, ◌++◌, ◌∷◌, [], List, true, Option, None, Some, inl, inr, refl, sym, subst, ap, rules, ◌∙◌}
 use Rattle.crs_decimal.specs.inner.Prelude.{Denotes, plain, IsNormal, Value, exact, zero}
 use Rattle.crs_text.specs.inner.Prelude.{Item, Siblings, End, More, arguments}
 use Rattle.crs_shape.specs.declared.class.Class.{Class}
@@ -9,10 +9,10 @@ use Rattle.crs_shape.specs.declared.unit_kind.UnitKind.TheVariants as kind
 use Rattle.crs_shape.specs.contracts.class.Class as classes
 use Rattle.crs_shape.specs.contracts.unit_kind.UnitKind.{the_type}
 use Rattle.crs_value.specs.inner.Prelude.{is_same}
-use Rattle.crs_rules.specs.Rules.{NameAliasParts, RulesParts, UnitAliasParts, is_name_alias, is_unit_alias, AreSteady, NamesAgree, UnitsAgree, unit_written}
+use Rattle.crs_rules.specs.Rules.{NameAliasParts, ParameterKindParts, RulesParts, UnitAliasParts, is_name_alias, is_unit_alias, AreSteady, NamesAgree, UnitsAgree, unit_written}
 use Rattle.crs_rules.specs.Members.{MemberParts, Says, SaysFactor, SaysName, kind_of}
 use Rattle.crs_rules.specs.RulesFile.{Reads, ReadsFile, SpellsRules, next, start}
-use Rattle.crs_rules.specs.Statements.{Adds, AddsSet, Drops, Joins, Over, Reading, listed, with_alias}
+use Rattle.crs_rules.specs.Statements.{Adds, AddsSet, Drops, Joins, Over, Reading, Sorts, SortsAll, kind_node, listed, with_alias}
 use Rattle.crs_rules.proofs.OneLemmas.{DenotesOne, some-one}
 use Rattle.crs_rules.proofs.LineOrderLemmas.{Stands, each-of, stands-back, stands-front, stands-last}
 use Rattle.crs_rules.proofs.WalkLemmas.{over-keeps}
@@ -101,6 +101,9 @@ unit_m a = record { class = class_of a.kind; name = a.alias; factor = a.alias_fa
 abbrev unit_f : UnitAliasParts → MemberParts
 unit_f a = record { class = class_of a.kind; name = a.name; factor = a.factor }
 
+abbrev node_of : ParameterKindParts → MemberParts
+node_of k = kind_node k.name
+
 abbrev AreNormal : List MemberParts → Type 0
 AreNormal seen = (n : MemberParts) → Stands seen n → IsNormal n.factor
 
@@ -110,13 +113,38 @@ normal-on seen n normal one k stands = elim (stands-last seen n k stands) [
   | inr e ↦ subst (λ o. IsNormal o.factor) (sym e) one
 ]
 
-record Kept (seen : List MemberParts) (names : List NameAliasParts) (units : List UnitAliasParts) : Type 0 where
+-- the name of each declared kind stands, and has one kind
+record AreKinds (seen : List MemberParts) (kinds : List ParameterKindParts) : Type 0 where
+  stand : (k : ParameterKindParts) → Stands kinds k → Stands seen (node_of k)
+  agree : (k j : ParameterKindParts) → Stands kinds k → Stands kinds j → k.name ≡ j.name → k.kind ≡ j.kind
+
+kinds-seen : {seen : List MemberParts} {kinds : List ParameterKindParts} (n : MemberParts) → AreKinds seen kinds → AreKinds (seen ++ n ∷ []) kinds
+kinds-seen n h = record { stand = λ k there. stands-front _ (n ∷ []) _ (h.stand k there); agree = h.agree }
+
+kinds-on : {seen : List MemberParts} {kinds : List ParameterKindParts} (k : ParameterKindParts) → AreKinds seen kinds →
+    ¬ (Stands seen (node_of k)) → AreKinds (seen ++ node_of k ∷ []) (kinds ++ k ∷ [])
+kinds-on {seen = seen} {kinds = kinds} k h new = record {
+  stand = λ j there. elim (stands-last kinds k j there) [
+    | inl old ↦ (kinds-seen (node_of k) h).stand j old
+    | inr e ↦ rw e (stands-back seen (node_of k ∷ []) (node_of k) (inl refl))
+  ];
+  agree = λ j i there here. agree j i (stands-last kinds k j there) (stands-last kinds k i here);
+}
+  where
+    agree : (j i : ParameterKindParts) → Stands kinds j ⊎ (j ≡ k) → Stands kinds i ⊎ (i ≡ k) → j.name ≡ i.name → j.kind ≡ i.kind
+    agree j i (inl a) (inl b) e = h.agree j i a b e
+    agree j i (inl a) (inr b) e = absurd (new (subst (Stands seen) (ap kind_node (e ∙ ap (λ o. o.name) b)) (h.stand j a)))
+    agree j i (inr a) (inl b) e = absurd (new (subst (Stands seen) (ap kind_node (sym e ∙ ap (λ o. o.name) a)) (h.stand i b)))
+    agree j i (inr a) (inr b) e = ap (λ o. o.kind) (a ∙ sym b)
+
+record Kept (seen : List MemberParts) (names : List NameAliasParts) (units : List UnitAliasParts) (kinds : List ParameterKindParts) : Type 0 where
   names_firm : Firm name_m name_f seen names
   units_firm : Firm unit_m unit_f seen units
   normal : AreNormal seen
+  kinds_agree : AreKinds seen kinds
 
 abbrev IsKept : Reading → Type 0
-IsKept r = Kept r.seen r.rules.names r.rules.units
+IsKept r = Kept r.seen r.rules.names r.rules.units r.rules.kinds
 
 -- a node that begins a set stands, and counts as no other
 record Begun (first : MemberParts) (r : Reading) : Type 0 where
@@ -124,6 +152,7 @@ record Begun (first : MemberParts) (r : Reading) : Type 0 where
   names : Begins name_m name_f first r.seen r.rules.names
   units : Begins unit_m unit_f first r.seen r.rules.units
   normal : AreNormal r.seen
+  kinds : AreKinds r.seen r.rules.kinds
 
 -- ---- what a node says has a normal factor
 
@@ -164,6 +193,7 @@ begun first r s item h adds = subst (Begun first) (sym adds.adds) (record {
   names = begins-first first h.names_firm adds.new;
   units = begins-first first h.units_firm adds.new;
   normal = normal-on r.seen first h.normal (fits-normal (kind_of first.class) first.factor (fits item first adds.says));
+  kinds = kinds-seen first h.kinds_agree;
 })
 
 with-kind : (o : Option UnitKind) (first m : MemberParts) (r : Reading) → kind_of first.class ≡ o → kind_of m.class ≡ o → Begun first r →
@@ -176,6 +206,7 @@ with-kind None first m r fo mo h new same mf ff = record {
       (λ i. record { class = same i; name = first.name; factor = sym ff i }) h.names h.stands new;
   units = begins-seen m h.units;
   normal = normal-on r.seen m h.normal (fits-normal None m.factor mf);
+  kinds = kinds-seen m h.kinds;
 }
 with-kind (Some k) first m r fo mo h new same mf ff =
     let mk = class-kind m.class k mo in
@@ -186,6 +217,7 @@ with-kind (Some k) first m r fo mo h new same mf ff =
           (λ i. record { class = mk i; name = m.name; factor = m.factor })
           (λ i. record { class = fk i; name = first.name; factor = first.factor }) h.units h.stands new;
       normal = normal-on r.seen m h.normal mf;
+      kinds = kinds-seen m h.kinds;
     }
 
 joins : (first : MemberParts) → Fits (kind_of first.class) first.factor → (r s : Reading) (item : Item) → Begun first r →
@@ -200,21 +232,42 @@ kept-set : (r s : Reading) (items : Siblings) → IsKept r → AddsSet r items s
 kept-set r s End h adds = absurd adds
 kept-set r s (More x xs) h (first, q, adds, over) =
     let k = over-keeps (Joins first) (Begun first) (joins first (fits x first adds.says)) q s (listed xs) (begun first r q x h adds) over in
-    record { names_firm = k.names.firm; units_firm = k.units.firm; normal = k.normal }
+    record { names_firm = k.names.firm; units_firm = k.units.firm; normal = k.normal; kinds_agree = k.kinds }
 
 kept-drop : (r s : Reading) (item : Item) → IsKept r → Drops r item s → IsKept s
 kept-drop r s item h (u, is, e) = subst IsKept (sym e) h
 
+kept-sort : (k : UnitKind) (r s : Reading) (item : Item) → IsKept r → Sorts k r item s → IsKept s
+kept-sort k r s item h (inl (is, e)) = subst IsKept (sym e) h
+kept-sort k r s item h (inr (other, m, declares)) = let n : MemberParts = kind_node m.name in
+    subst IsKept (sym declares.adds) (record {
+      names_firm = firm-seen n h.names_firm;
+      units_firm = firm-seen n h.units_firm;
+      normal = normal-on r.seen n h.normal refl;
+      kinds_agree = kinds-on (record { name = m.name; kind = k }) h.kinds_agree declares.new;
+    })
+
+kept-kind : (r s : Reading) (items : Siblings) → IsKept r → SortsAll r items s → IsKept s
+kept-kind r s End h sorts = absurd sorts
+kept-kind r s (More x xs) h (k, is, over) = over-keeps (Sorts k) IsKept (kept-sort k) r s (listed xs) h over
+
 kept-line : (r s : Reading) (line : List ℕ) → IsKept r → Reads r line s → IsKept s
 kept-line r s line h (inl (idle, e)) = subst IsKept (sym e) h
 kept-line r s line h (inr (busy, item, spells, inl (is, adds))) = kept-set (next r) s (arguments item) h adds
-kept-line r s line h (inr (busy, item, spells, inr (is, drops))) = over-keeps Drops IsKept kept-drop (next r) s (listed (arguments item)) h drops
+kept-line r s line h (inr (busy, item, spells, inr (inl (is, drops)))) =
+    over-keeps Drops IsKept kept-drop (next r) s (listed (arguments item)) h drops
+kept-line r s line h (inr (busy, item, spells, inr (inr (is, sorts)))) = kept-kind (next r) s (arguments item) h sorts
 
 kept-file : (r s : Reading) (bytes : List ℕ) → IsKept r → ReadsFile r bytes s → IsKept s
 kept-file r s bytes h (lines, are, over) = over-keeps Reads IsKept kept-line (record r { line = 0 }) s lines h over
 
 kept-start : IsKept start
-kept-start = record { names_firm = firm-none name_m name_f; units_firm = firm-none unit_m unit_f; normal = λ n h. absurd h }
+kept-start = record {
+  names_firm = firm-none name_m name_f;
+  units_firm = firm-none unit_m unit_f;
+  normal = λ n h. absurd h;
+  kinds_agree = record { stand = λ k h. absurd h; agree = λ k j h. absurd h };
+}
 
 -- ---- what is kept is steady
 
@@ -263,6 +316,8 @@ steady-of one law r h =
       names = each-of _ r.rules.names (λ a k. each-of _ r.rules.names (λ b l. names-agree a b (h.names_firm.agree a b k l)));
       units = each-of _ r.rules.units
           (λ a k. each-of _ r.rules.units (λ b l. units-agree one law a b (normal a k) (normal b l) (h.units_firm.agree a b k l)));
+      kinds = each-of _ r.rules.kinds
+          (λ a k. each-of _ r.rules.kinds (λ b l t. h.kinds_agree.agree a b k l ((bytes_eq-Decides a.name b.name).0 t)));
     }
 
 pub steady : DenotesOne → PlainDenotes → (files : List (List ℕ)) (s : Reading) → Over ReadsFile start files s → AreSteady s.rules

@@ -5,8 +5,8 @@ use Rattle.crs_normal.specs.inner.Prelude.{IsIn}
 use Rattle.crs_value.specs.NamedValues.{IdentParts}
 use Rattle.crs_value.specs.inner.Prelude.{UnitParts}
 use Rattle.crs_value.specs.Sound.{Each}
-use Rattle.crs_rules.specs.Rules.{Meaning, NameAliasParts, RulesParts, UnitAliasParts, first_name, first_that, first_unit, is_name_alias, is_unit_alias, meaning, unit_for, AreSteady, NamesAgree, UnitsAgree}
-use Rattle.crs_rules.proofs.MatchLemmas.{of-name, of-unit}
+use Rattle.crs_rules.specs.Rules.{Meaning, NameAliasParts, RulesParts, UnitAliasParts, first_name, first_that, first_unit, is_name_alias, is_unit_alias, meaning, unit_for, AreSteady, NamesAgree, UnitsAgree, KindsAgree}
+use Rattle.crs_rules.proofs.MatchLemmas.{of-name, of-unit, of-declared}
 use Rattle.crs_rules.proofs.OrderLemmas.{AreClear, Sought, each-in, sought}
 
 -- units keep their kind and their identifiers
@@ -38,6 +38,7 @@ clear r h = record {
       let k = of-name c name a p in (agree NamesAgree r.names h.names a b i j).clear (rw (k.class, k.alias) at q);
   units = λ u a b i j p q.
       let k = of-unit u a p in (agree UnitsAgree r.units h.units a b i j).clear (rw (k.kind, k.alias, k.factor) at q);
+  kinds = λ n a b i j p q. agree KindsAgree r.kinds h.kinds a b i j (rw (of-declared n a p) at q);
 }
 
 -- ---- what is written stays

@@ -1,4 +1,4 @@
--- The nodes of a `SAME`: each has a class and a name, and a unit its factor.
+-- The nodes of statements: each has a class and a name, and a unit its factor.
 use Rattle.std.specs.Prelude.{◌≡◌, ℕ, List, [], ◌∷◌, Option, Some, None, find, if◌then◌else◌}
 use Rattle.crs_decimal.specs.Numbers.{Value, zero}
 use Rattle.crs_text.specs.Items.{Item, Siblings, End, More, arguments, keyword_in, kind_of_item, raw_of, IsNumberOf}

@@ -1,9 +1,15 @@
 -- A CRS under rules, part by part. It is taken as its canonical text has it: defaults are written out.
-use Rattle.std.specs.Prelude.{ℕ, ◌||◌, ◌&&◌, ◌==◌, Bool, true, List, [], ◌∷◌, Option, Some, None, map, if◌then◌else◌}
+use Rattle.std.specs.Prelude.{ℕ, ◌||◌, ◌&&◌, ◌==◌, Bool, true, List, [], ◌∷◌, Option, Some, None, codes, map, if◌then◌else◌}
 use Rattle.std.specs.List.{list_all}
 use Rattle.std.specs.Option.{is_some, option_map}
 use Rattle.std.specs.Cmp.Lexicographic.{slice_cmp}
 use Rattle.std.specs.Ordering.{nat_cmp, match_ordering}
+use Rattle.std.specs.Str.{bytes_eq}
+use denote.Enum.Bare.{sameb}
+use Rattle.crs_same.specs.SameParts.{one, own_or}
+use Rattle.crs_shape.specs.declared.unit_kind.UnitKind.{UnitKind}
+use Rattle.crs_shape.specs.declared.unit_kind.UnitKind.TheVariants as kinds
+use Rattle.crs_shape.specs.contracts.unit_kind.UnitKind.{the_type}
 use Rattle.crs_shape.specs.declared.class.Class.{Class}
 use Rattle.crs_value.specs.CompoundValues.{CompoundParts}
 use Rattle.crs_value.specs.Values.{ConversionParts, ParameterParts, DynamicParts, AxisMeridianParts, AxisParts, DatumParts, EllipsoidParts, EnsembleParts, ExtentParts, MeridianParts, SystemParts, TailParts, UnitParts, UsageParts}
@@ -13,7 +19,7 @@ use Rattle.crs_value.specs.NamedValues.{NamedParts}
 use Rattle.crs_value.specs.declared.values.compound.Horizontal.{Horizontal}
 use Rattle.crs_value.specs.declared.values.crs.Crs.{Crs}
 use Rattle.crs_value.specs.declared.values.frame.Frame.{Frame}
-use Rattle.crs_rules.specs.Rules.{Meaning, without_ensemble, RulesParts, meaning}
+use Rattle.crs_rules.specs.Rules.{Meaning, factors_equal, without_ensemble, RulesParts, meaning}
 use Rattle.crs_value.specs.Sound.{IsAxis}
 use Rattle.crs_value.specs.Spells.{Spells}
 use Rattle.crs_value.specs.declared.values.level.Level.{Level}
@@ -151,9 +157,103 @@ conversion r c = record c {
   parameters = map (parameter r) c.parameters;
 }
 
+-- ---- units that are left out: where the kind of a parameter's number is known, a missing unit is that of the base CRS
+-- for an angle, that of the axes for a length, and unity for a scale; a prime meridian's is that of the base or the axes
+
+-- a unit without its identifiers
+abbrev pub bare : UnitParts → UnitParts
+bare u = record u { identifiers = [] }
+
+-- the unit of a scale that says none
+abbrev pub unity : UnitParts
+unity = record { kind = kinds.Scale; name = codes "unity"; factor = one; identifiers = [] }
+
+-- whether two units are the same, but for their identifiers
+abbrev pub is_same_unit : UnitParts → UnitParts → Bool
+is_same_unit u v = sameb the_type u.kind v.kind && (bytes_eq u.name v.name && factors_equal u.factor v.factor)
+
+-- the unit of an axis before these others, if it is of this kind; without its identifiers
+abbrev pub with_unit_of : UnitKind → Option UnitParts → List UnitParts → List UnitParts
+with_unit_of kind None others = others
+with_unit_of kind (Some u) others = if sameb the_type u.kind kind then bare u ∷ others else others
+
+-- the units of this kind that axes have
+abbrev pub units_of : UnitKind → List AxisParts → List UnitParts
+units_of kind [] = []
+units_of kind (a ∷ axes) = with_unit_of kind a.unit (units_of kind axes)
+
+-- the first of some units, if there is one
+abbrev pub first_unit_of : List UnitParts → Option UnitParts
+first_unit_of [] = None
+first_unit_of (u ∷ us) = Some u
+
+-- this unit, if it is each of these
+abbrev pub one_of : Option UnitParts → List UnitParts → Option UnitParts
+one_of None us = None
+one_of (Some u) us = if list_all (is_same_unit u) us then Some u else None
+
+-- the unit of this kind that all axes have that have one of it, if there is one
+abbrev pub shared : UnitKind → List AxisParts → Option UnitParts
+shared kind axes = one_of (first_unit_of (units_of kind axes)) (units_of kind axes)
+
+-- the unit of a number of this kind that says none, by the units of angles and lengths
+abbrev pub unit_of_kind : Option UnitParts → Option UnitParts → UnitKind → Option UnitParts
+unit_of_kind angle length kinds.Plain = None
+unit_of_kind angle length kinds.Angle = angle
+unit_of_kind angle length kinds.Length = length
+unit_of_kind angle length kinds.Scale = Some unity
+
+-- the unit of a number of this kind that says none in a projected CRS, whose axes have the units that are written
+abbrev pub missing_unit : Meaning → ProjectedParts → UnitKind → Option UnitParts
+missing_unit r p =
+    unit_of_kind (option_map bare p.base.unit) (shared kinds.Length (system r p.system).axes)
+
+-- a parameter with its own unit or, where it has none, the one of its kind, by the name that is written for its name
+abbrev pub completed : Meaning → (UnitKind → Option UnitParts) → ParameterParts → ParameterParts
+completed r missing p =
+    record p { unit = own_or p.unit (missing (r.kind (r.name class.Parameter p.name))) }
+
+-- a conversion whose parameters have these units where they have none
+abbrev pub completed_conversion : Meaning → (UnitKind → Option UnitParts) → ConversionParts → ConversionParts
+completed_conversion r missing c = record c { parameters = map (completed r missing) c.parameters }
+
+-- a unit, where rules tell it
+abbrev pub told : Bool → Option UnitParts → Option UnitParts
+told is unit = if is then unit else None
+
+-- a prime meridian with its own unit or, where it has none and isn't at 0, this one
+abbrev pub completed_meridian : Option UnitParts → MeridianParts → MeridianParts
+completed_meridian missing m =
+    record m { unit = if m.longitude.digits == 0 then m.unit else own_or m.unit missing }
+
+-- a base CRS whose prime meridian has the unit that it leaves out, which is the base's
+abbrev pub explicit_base : Meaning → BaseParts → BaseParts
+explicit_base r b = record b {
+  meridian =
+      option_map (completed_meridian (told r.uncounted.meridian_units (option_map bare b.unit)))
+      b.meridian;
+}
+
+-- a geodetic or geographic CRS whose prime meridian has the unit that it leaves out, which is that of the axes that are
+-- angles
+abbrev pub explicit_geodetic : Meaning → GeodeticParts → GeodeticParts
+explicit_geodetic r g = record g {
+  meridian =
+      option_map
+      (completed_meridian (told r.uncounted.meridian_units (shared kinds.Angle (system r g.system).axes)))
+      g.meridian;
+}
+
+-- a projected CRS whose parameters and whose prime meridian have the units that they leave out
+abbrev pub explicit : Meaning → ProjectedParts → ProjectedParts
+explicit r p = record p {
+  base = explicit_base r p.base;
+  conversion = completed_conversion r (missing_unit r p) p.conversion;
+}
+
 -- ---- CRSs
 
--- a geodetic or geographic CRS
+-- a geodetic or geographic CRS that leaves out no more units
 abbrev pub geodetic : Meaning → GeodeticParts → GeodeticParts
 geodetic r g = record g {
   name = counted_name r.uncounted.crs_names g.name;
@@ -183,7 +283,7 @@ base r idle b = record b {
   unit = counted (r.uncounted.base_units && idle) (units r b.unit);
 }
 
--- a projected CRS
+-- a projected CRS that leaves out no more units
 abbrev pub projected : Meaning → ProjectedParts → ProjectedParts
 projected r p = record p {
   name = counted_name r.uncounted.crs_names p.name;
@@ -210,8 +310,8 @@ vertical r v = record v {
 
 -- the horizontal part of a compound CRS
 abbrev pub across : Meaning → Horizontal → Horizontal
-across r (horizontal.Geodetic g) = horizontal.Geodetic (geodetic r g)
-across r (horizontal.Projected p) = horizontal.Projected (projected r p)
+across r (horizontal.Geodetic g) = horizontal.Geodetic (geodetic r (explicit_geodetic r g))
+across r (horizontal.Projected p) = horizontal.Projected (projected r (explicit r p))
 
 -- a compound CRS
 abbrev pub compound : Meaning → CompoundParts → CompoundParts
@@ -224,10 +324,24 @@ compound r c = record c {
 
 -- a CRS, but for the order of its axes
 abbrev pub renamed : Meaning → Crs → Crs
-renamed r (crs.Geodetic g) = crs.Geodetic (geodetic r g)
-renamed r (crs.Projected p) = crs.Projected (projected r p)
+renamed r (crs.Geodetic g) = crs.Geodetic (geodetic r (explicit_geodetic r g))
+renamed r (crs.Projected p) = crs.Projected (projected r (explicit r p))
 renamed r (crs.Vertical v) = crs.Vertical (vertical r v)
 renamed r (crs.Compound c) = crs.Compound (compound r c)
+
+-- ---- with the units that are left out
+
+-- the horizontal part of a compound CRS with the units that it leaves out
+abbrev pub explicit_across : Meaning → Horizontal → Horizontal
+explicit_across r (horizontal.Geodetic g) = horizontal.Geodetic (explicit_geodetic r g)
+explicit_across r (horizontal.Projected p) = horizontal.Projected (explicit r p)
+
+-- a CRS with the units that it leaves out
+abbrev pub explicit_crs : Meaning → Crs → Crs
+explicit_crs r (crs.Geodetic g) = crs.Geodetic (explicit_geodetic r g)
+explicit_crs r (crs.Projected p) = crs.Projected (explicit r p)
+explicit_crs r (crs.Vertical v) = crs.Vertical v
+explicit_crs r (crs.Compound c) = crs.Compound (record c { horizontal = explicit_across r c.horizontal })
 
 -- ---- the order of axes
 

@@ -1,11 +1,15 @@
--- Rules, as callers see them: which names and units count as others, and what doesn't count.
+-- Rules, as callers see them: which names and units count as others, what doesn't count, and of which kinds the numbers
+-- of parameters are.
+use mathlib.Core.Bool.{beq}
 use Rattle.std.specs.Prelude.{ℕ, ◌&&◌, ◌-◌, Bool, List, [], ◌∷◌, Option, Some, None, codes, length, if◌then◌else◌, nat_eq, take, false, ◌≡◌, true}
 use Rattle.std.specs.List.{ends_with}
+use Rattle.std.specs.Ordering.{int_eq}
 use Rattle.std.specs.Str.{bytes_eq}
 use denote.Enum.Bare.{sameb}
 use Rattle.crs_decimal.specs.Numbers.{plain, Value, IsNormal}
 use Rattle.crs_shape.specs.declared.class.Class.{Class}
 use Rattle.crs_shape.specs.declared.unit_kind.UnitKind.{UnitKind}
+use Rattle.crs_shape.specs.declared.unit_kind.UnitKind.TheVariants as kinds
 use Rattle.crs_shape.specs.contracts.unit_kind.UnitKind.{the_type}
 use Rattle.crs_value.specs.Reading.{is_same}
 use Rattle.crs_value.specs.Values.{UnitParts}
@@ -28,11 +32,21 @@ pub record UnitAliasParts : Type 0 where
   pub name : List ℕ
   pub factor : Value
 
--- rules: the names and the units that count as others, and what doesn't count
+-- a name of parameters whose numbers are of a kind
+pub record ParameterKindParts : Type 0 where
+  pub name : List ℕ
+  pub kind : UnitKind
+
+-- rules: the names and the units that count as others, what doesn't count, and the kinds of parameters
 pub record RulesParts : Type 0 where
   pub names : List NameAliasParts
   pub units : List UnitAliasParts
   pub uncounted : Uncounted
+  pub kinds : List ParameterKindParts
+
+-- whether two factors are equal: both are in their normal form
+abbrev pub factors_equal : Value → Value → Bool
+factors_equal a b = beq a.negative b.negative && (nat_eq a.digits b.digits && int_eq a.power b.power)
 
 -- the first of some that passes a test, if one does
 abbrev pub first_that : {A : Type 0} → (A → Bool) → List A → Option A
@@ -67,16 +81,35 @@ unit_for u (Some a) = record u { name = a.name; factor = a.factor }
 abbrev pub first_unit : List UnitAliasParts → UnitParts → UnitParts
 first_unit aliases u = unit_for u (first_that (is_unit_alias u) aliases)
 
+-- whether a declared kind is that of this name
+abbrev pub is_declared : List ℕ → ParameterKindParts → Bool
+is_declared name k = bytes_eq name k.name
+
+-- a declared kind, or else the plain one, which says nothing
+abbrev pub kind_or_plain : Option ParameterKindParts → UnitKind
+kind_or_plain None = kinds.Plain
+kind_or_plain (Some k) = k.kind
+
+-- the kind of the numbers of parameters of this name
+abbrev pub declared_kind : List ParameterKindParts → List ℕ → UnitKind
+declared_kind declared name = kind_or_plain (first_that (is_declared name) declared)
+
 -- what rules do: which name is written for a name of a node of a class, and which unit for a unit;
--- and what doesn't count
+-- what doesn't count; and of which kind the numbers of parameters of a name are
 pub record Meaning : Type 0 where
   pub name : Class → List ℕ → List ℕ
   pub unit : UnitParts → UnitParts
   pub uncounted : Uncounted
+  pub kind : List ℕ → UnitKind
 
 -- what these rules do
 abbrev pub meaning : RulesParts → Meaning
-meaning r = record { name = first_name r.names; unit = first_unit r.units; uncounted = r.uncounted }
+meaning r = record {
+  name = first_name r.names;
+  unit = first_unit r.units;
+  uncounted = r.uncounted;
+  kind = declared_kind r.kinds;
+}
 
 -- a name without one ` ensemble` at its end
 abbrev pub without_ensemble : List ℕ → List ℕ
@@ -97,11 +130,12 @@ nothing = record {
   base_units = false;
   ensembles = false;
   axis_order = false;
+  meridian_units = false;
 }
 
--- rules by which nothing counts as another, and everything counts
+-- rules by which nothing counts as another, everything counts, and no kinds are known
 abbrev pub no_rules : RulesParts
-no_rules = record { names = []; units = []; uncounted = nothing }
+no_rules = record { names = []; units = []; uncounted = nothing; kinds = [] }
 
 -- ---- what is asked of rules: what they write is accepted
 
@@ -143,10 +177,15 @@ pub record UnitsAgree (a b : UnitAliasParts) : Type 0 where
   pub steady : is_unit_alias (unit_written a) b ≡ false
   pub clear : is_unit_alias (unit_that_counts a) b ≡ true → (a.name ≡ b.name) × (a.factor ≡ b.factor)
 
--- nothing chains, and the order of aliases says nothing: each alias agrees with each
+-- two declared kinds: if both are of one name, they are one
+abbrev pub KindsAgree : ParameterKindParts → ParameterKindParts → Type 0
+KindsAgree a b = is_declared a.name b ≡ true → a.kind ≡ b.kind
+
+-- nothing chains, and the order of aliases and kinds says nothing: each agrees with each
 pub record AreSteady (r : RulesParts) : Type 0 where
   pub names : Each (λ a. Each (NamesAgree a) r.names) r.names
   pub units : Each (λ a. Each (UnitsAgree a) r.units) r.units
+  pub kinds : Each (λ a. Each (KindsAgree a) r.kinds) r.kinds
 
 -- ---- rules in another order
 
@@ -154,8 +193,9 @@ pub record AreSteady (r : RulesParts) : Type 0 where
 abbrev pub HaveSameMembers : {A : Type 0} → List A → List A → Type 0
 HaveSameMembers xs ys = Each (λ x. IsIn x ys) xs × Each (λ y. IsIn y xs) ys
 
--- the rules differ in the order and the repeats of their aliases alone
+-- the rules differ in the order and the repeats of their aliases and kinds alone
 pub record DifferInOrder (r s : RulesParts) : Type 0 where
   pub names : HaveSameMembers r.names s.names
   pub units : HaveSameMembers r.units s.units
   pub uncounted : r.uncounted ≡ s.uncounted
+  pub kinds : HaveSameMembers r.kinds s.kinds

@@ -44,10 +44,10 @@ RefusesFile r bytes f =
 -- what the number of a refused line means, in words; of 1 to 8 the name of a text's refusal
 abbrev pub meaning_of : ℕ → List ℕ
 meaning_of n =
-    if n == 41 then codes "neither SAME nor UNCOUNTED"
+    if n == 41 then codes "neither SAME, UNCOUNTED nor KIND"
     else (if n == 42 then codes "no node or word that may stand here"
     else (if n == 43 then codes "a node of another kind than the first of its set"
-    else (if n == 44 then codes "a node that stood in a set before"
+    else (if n == 44 then codes "a node that stood in such a statement before"
     else (if is_refusal n then name_of n else []))))
 
 -- before the first file

@@ -1,9 +1,14 @@
 -- The statements of a rules file: what each adds to those before it, or why it is refused.
-use Rattle.std.specs.Prelude.{◌≡◌, ◌⊎◌, ℕ, IsTrue, IsFalse, IfSome, List, [], ◌∷◌, ◌++◌, Bool, true, Option, Some, None, codes, if◌then◌else◌}
+use Rattle.std.specs.Prelude.{◌≡◌, ◌⊎◌, ◌&&◌, ℕ, IsTrue, IsFalse, IfSome, List, [], ◌∷◌, ◌++◌, Bool, true, false, Option, Some, None, codes, if◌then◌else◌}
 use Rattle.std.specs.Str.{str_eq_ignore_ascii_case}
+use denote.Enum.Bare.{sameb}
+use Rattle.crs_decimal.specs.Numbers.{zero}
 use Rattle.crs_text.specs.Items.{Item, leaf, node, Siblings, End, More, arguments, place_of, raw_of}
 use Rattle.crs_text.specs.Tokens.{number, text, word}
+use Rattle.crs_shape.specs.declared.class.Class.TheVariants as class
 use Rattle.crs_shape.specs.declared.unit_kind.UnitKind.{UnitKind}
+use Rattle.crs_shape.specs.declared.unit_kind.UnitKind.TheVariants as kind
+use Rattle.crs_shape.specs.contracts.unit_kind.UnitKind.{the_type}
 use Rattle.crs_value.specs.Reading.{OneIs}
 use Rattle.crs_rules.specs.Rules.{RulesParts}
 use Rattle.crs_rules.specs.declared.uncounted.Uncounted.{Uncounted}
@@ -12,7 +17,7 @@ use Rattle.crs_rules.specs.declared.file.fault.RulesFault.TheVariants as faults
 use Rattle.crs_rules.specs.declared.file.fault.RulesRefusal.{RulesRefusal}
 use Rattle.crs_rules.specs.Members.{MemberParts, Says, kind_of}
 
--- what is known of a file before a statement: the number of its line, the nodes of all sets so far, and the rules
+-- what is known of a file before a statement: the number of its line, the nodes that stood so far, and the rules
 pub record Reading : Type 0 where
   pub line : ℕ
   pub seen : List MemberParts
@@ -140,6 +145,84 @@ Drops r item s =
 abbrev pub FaultOfWord : Reading → Item → RulesRefusal → Type 0
 FaultOfWord r item f = (f ≡ refused_at 42 r.line item) × (with_item item r.rules.uncounted ≡ None)
 
+-- ---- KIND
+
+-- the kind that a word names; none where it names none
+abbrev pub kind_named : List ℕ → Option UnitKind
+kind_named raw =
+    if str_eq_ignore_ascii_case (codes "ANGLEUNIT") raw then Some kind.Angle
+    else (if str_eq_ignore_ascii_case (codes "LENGTHUNIT") raw then Some kind.Length
+    else (if str_eq_ignore_ascii_case (codes "SCALEUNIT") raw then Some kind.Scale else None))
+
+-- the kind that an item names, which is a word by itself
+abbrev pub kind_in : Item → Option UnitKind
+kind_in (leaf number place raw) = None
+kind_in (leaf text place raw) = None
+kind_in (leaf word place raw) = kind_named raw
+kind_in (node place keyword square first others close) = None
+
+-- whether a word names all prime meridians, whose longitudes are angles
+abbrev pub meridian_named : UnitKind → List ℕ → Bool
+meridian_named k raw = sameb the_type k kind.Angle && str_eq_ignore_ascii_case (codes "PRIMEM") raw
+
+-- whether an item does, which is a word by itself
+abbrev pub is_meridian : UnitKind → Item → Bool
+is_meridian k (leaf number place raw) = false
+is_meridian k (leaf text place raw) = false
+is_meridian k (leaf word place raw) = meridian_named k raw
+is_meridian k (node place keyword square first others close) = false
+
+-- the name of parameters of a `KIND`, among the nodes that stood; no `SAME` has nodes of this class
+abbrev pub kind_node : List ℕ → MemberParts
+kind_node name = record { class = class.Conversion; name = name; factor = zero }
+
+-- numbers of parameters of this name are of this kind
+abbrev pub with_kind : UnitKind → List ℕ → Reading → Reading
+with_kind k name r = record r {
+  seen = r.seen ++ kind_node name ∷ [];
+  rules = record r.rules { kinds = r.rules.kinds ++ record { name = name; kind = k } ∷ [] };
+}
+
+-- prime meridians may leave out their unit
+abbrev pub with_meridians : Reading → Reading
+with_meridians r = record r { rules = record r.rules { uncounted = record r.rules.uncounted { meridian_units = true } } }
+
+-- a node says that it is one of parameters
+abbrev pub SaysParameter : Item → MemberParts → Type 0
+SaysParameter item m = Says item m × (m.class ≡ class.Parameter)
+
+-- a node names parameters, which stood in no `KIND` before
+pub record Declares (k : UnitKind) (m : MemberParts) (r : Reading) (item : Item) (s : Reading) : Type 0 where
+  pub says : SaysParameter item m
+  pub new : ¬ (OneIs (λ n. kind_node m.name ≡ n) r.seen)
+  pub adds : s ≡ with_kind k m.name r
+
+-- an item of this kind: all prime meridians, or parameters
+abbrev pub Sorts : UnitKind → Reading → Item → Reading → Type 0
+Sorts k r item s =
+    (IsTrue (is_meridian k item) × (s ≡ with_meridians r))
+    ⊎ (IsFalse (is_meridian k item) × (m : MemberParts) × Declares k m r item s)
+
+-- 42: neither all prime meridians nor parameters; 44: it stood in a `KIND` before
+abbrev pub FaultOfSort : UnitKind → Reading → Item → RulesRefusal → Type 0
+FaultOfSort k r item f =
+    IsFalse (is_meridian k item) ×
+    (((f ≡ refused_at 42 r.line item) × ((m : MemberParts) → ¬ (SaysParameter item m)))
+    ⊎ ((m : MemberParts) × SaysParameter item m
+    × (f ≡ refused_at 44 r.line item) × OneIs (λ n. kind_node m.name ≡ n) r.seen))
+
+-- a kind, and what is of it
+abbrev pub SortsAll : Reading → Siblings → Reading → Type 0
+SortsAll r End s = ⊥
+SortsAll r (More item items) s = (k : UnitKind) × (kind_in item ≡ Some k) × Over (Sorts k) r (listed items) s
+
+-- the fault of a kind, or of what is of it; 42: an item that names no kind
+abbrev pub FaultOfKind : Reading → Siblings → RulesRefusal → Type 0
+FaultOfKind r End f = ⊥
+FaultOfKind r (More item items) f =
+    ((f ≡ refused_at 42 r.line item) × (kind_in item ≡ None))
+    ⊎ ((k : UnitKind) × (kind_in item ≡ Some k) × FaultOver (Sorts k) (FaultOfSort k) r (listed items) f)
+
 -- ---- statements
 
 -- whether an item is the statement of this keyword, letter case aside
@@ -150,13 +233,15 @@ is_statement keyword item = str_eq_ignore_ascii_case keyword (raw_of item)
 abbrev pub States : Reading → Item → Reading → Type 0
 States r item s =
     (IsTrue (is_statement (codes "SAME") item) × AddsSet r (arguments item) s)
-    ⊎ (IsTrue (is_statement (codes "UNCOUNTED") item) × Over Drops r (listed (arguments item)) s)
+    ⊎ ((IsTrue (is_statement (codes "UNCOUNTED") item) × Over Drops r (listed (arguments item)) s)
+    ⊎ (IsTrue (is_statement (codes "KIND") item) × SortsAll r (arguments item) s))
 
--- the fault of a statement; 41: it is neither
+-- the fault of a statement; 41: it is none of them
 abbrev pub FaultOfStatement : Reading → Item → RulesRefusal → Type 0
 FaultOfStatement r item f =
     (IsTrue (is_statement (codes "SAME") item) × FaultOfSet r (arguments item) f)
     ⊎ ((IsTrue (is_statement (codes "UNCOUNTED") item)
     × FaultOver Drops FaultOfWord r (listed (arguments item)) f)
+    ⊎ ((IsTrue (is_statement (codes "KIND") item) × FaultOfKind r (arguments item) f)
     ⊎ ((f ≡ refused_at 41 r.line item) × IsFalse (is_statement (codes "SAME") item)
-    × IsFalse (is_statement (codes "UNCOUNTED") item)))
+    × IsFalse (is_statement (codes "UNCOUNTED") item) × IsFalse (is_statement (codes "KIND") item))))

@@ -1,12 +1,13 @@
-//! Names and units that count as others, and where they are looked for.
+//! Names and units that count as others, kinds of parameters, and where they are looked for.
 ghost use Rattle.std.specs.Prelude.{◌≡◌, ◌++◌, [], ◌∷◌, List, OnErr, OnOk, drop, length, take, ℕ};
 ghost use Rattle.std.specs.Option.{option_copied};
 ghost use Rattle.std.specs.Str.{bytes_eq};
 ghost use Rattle.crs_decimal.specs.Numbers.{plain};
 ghost use Rattle.crs_value.specs.Sound.{Each, IsText};
+ghost use Rattle.crs_shape.specs.declared.class.Class.TheVariants as classes;
 ghost use Rattle.crs_rules.specs.inner.Firsts.{AreFound, IsNoted, name_digest, place_of, unit_digest};
 ghost use Rattle.crs_rules.specs.Rules.{NameAliasParts, UnitAliasParts, first_name, first_that, is_name_alias, is_unit_alias};
-ghost use Rattle.crs_rules.specs.Rules.{IsNameAlias, IsUnitAlias};
+ghost use Rattle.crs_rules.specs.Rules.{IsNameAlias, IsUnitAlias, ParameterKindParts, declared_kind};
 
 use crs_decimal::Decimal;
 use crs_decimal::laws::{denotes_one, normal_is_one, plain_is_the_one};
@@ -60,6 +61,19 @@ impl Model for UnitAlias {
     ghost invariant = { λ a. IsUnitAlias (view a) };
 }
 
+// A name of parameters whose numbers are of a kind.
+#[derive(Drop)]
+pub(crate) struct ParameterKind {
+    pub(crate) name: Vec<u8>,
+    pub(crate) kind: UnitKind,
+}
+
+impl Model for ParameterKind {
+    ghost Value = { ParameterKindParts };
+
+    ghost view = { λ k. record { name = k.name.items; kind = k.kind } };
+}
+
 // What is behind a place.
 fn rest_of<T>(items: &[T], from: usize) -> &[T]
     ensures { result.now ≡ drop from items.now }
@@ -67,7 +81,7 @@ fn rest_of<T>(items: &[T], from: usize) -> &[T]
     items.get(from..).unwrap_or(&[])
 }
 
-// What counts as another, and is looked for by a digest.
+// What is looked for by a digest.
 pub(crate) trait Alias: Sized + Drop {
     ghost digest: { Self → ℕ };
 
@@ -88,6 +102,14 @@ impl Alias for UnitAlias {
 
     fn digest(&self) -> u64 {
         unit_digest(self.alias.as_slice(), self.alias_factor.digits())
+    }
+}
+
+impl Alias for ParameterKind {
+    ghost digest = { λ k. name_digest classes.Parameter k.name };
+
+    fn digest(&self) -> u64 {
+        name_digest(Class::Parameter, self.name.as_slice())
     }
 }
 
@@ -213,6 +235,100 @@ pub(crate) fn first_name<'a>(
     match name_alias(names, class, name) {
         None => name,
         Some(alias) => alias.name.as_slice(),
+    }
+}
+
+// ---- kinds of parameters
+
+fn kind_among(kinds: &[ParameterKind], name: &[u8]) -> UnitKind
+    ensures { result ≡ declared_kind kinds.now name.now }
+{
+    for declared in kinds {
+        if name == declared.name.as_slice() {
+            return declared.kind;
+        }
+    }
+    UnitKind::Plain
+}
+
+fn known_kind(kinds: &Aliases<ParameterKind>, name: &[u8]) -> UnitKind
+    ensures { result ≡ declared_kind kinds.now name.now }
+{
+    if kinds.aliases.len() <= FEW {
+        return kind_among(kinds.aliases.as_slice(), name);
+    }
+    match place(&kinds.firsts, name_digest(Class::Parameter, name)) {
+        None => UnitKind::Plain,
+        Some(first) => kind_among(rest_of(kinds.aliases.as_slice(), first), name),
+    }
+}
+
+// Kinds of parameters, behind a pointer: what holds rules in C has no room for another look-up.
+#[derive(Drop)]
+pub(crate) struct Kinds {
+    known: Option<Box<Aliases<ParameterKind>>>,
+}
+
+impl Model for Kinds {
+    ghost use Rattle.std.specs.Prelude.{List};
+    ghost use Rattle.crs_rules.specs.Rules.{ParameterKindParts};
+    ghost use Rattle.crs_rules.specs.inner.Firsts.{held};
+
+    ghost Value = { List ParameterKindParts };
+
+    ghost view = { λ kinds. held (λ known. known.value) kinds.known };
+}
+
+impl Kinds {
+    // No kinds. They take no memory.
+    pub(crate) fn new() -> Kinds
+        ensures { result ≡ [] }
+    {
+        Kinds { known: None }
+    }
+
+    pub(crate) fn len(&self) -> usize
+        ensures { result ≡ length self.now }
+    {
+        match &self.known {
+            None => 0,
+            Some(known) => known.len(),
+        }
+    }
+
+    // A further kind. Out of memory, all is as before.
+    pub(crate) fn push(&mut self, alloc: Global, kind: ParameterKind) -> Result<(), AllocError>
+        ensures ok { OnOk result (self.new ≡ self.old ++ kind ∷ []) }
+        ensures err { OnErr result (self.new ≡ self.old) }
+    {
+        match &mut self.known {
+            None => {
+                let mut known = Aliases::new(alloc);
+                known.push(kind)?;
+                self.known = Some(Box::new(alloc, known)?);
+                Ok(())
+            }
+            Some(known) => known.push(kind),
+        }
+    }
+
+    // Keeps the first `count` kinds, and forgets the rest.
+    pub(crate) fn truncate(&mut self, count: usize)
+        ensures { self.new ≡ take count self.old }
+    {
+        if let Some(known) = &mut self.known {
+            known.truncate(count);
+        }
+    }
+
+    // The kind of the numbers of parameters of this name; the plain one where none is declared.
+    pub(crate) fn of(&self, name: &[u8]) -> UnitKind
+        ensures { result ≡ declared_kind self.now name.now }
+    {
+        match &self.known {
+            None => UnitKind::Plain,
+            Some(known) => known_kind(known, name),
+        }
     }
 }
 

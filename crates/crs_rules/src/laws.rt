@@ -11,7 +11,7 @@ ghost use Rattle.crs_rules.specs.FormOrder.{in_form_order};
 ghost use Rattle.crs_rules.specs.inner.LowerLaws.{FormLaws, SetLaws};
 ghost use Rattle.crs_rules.specs.Rules.{no_rules, DifferInOrder, Meaning, RulesParts, meaning, AreRules, AreSteady};
 ghost use Rattle.crs_rules.specs.ReorderedAxes.{IsCrsReordered};
-ghost use Rattle.crs_rules.specs.Rewritten.{renamed, rewritten, IsForm, SameUnder};
+ghost use Rattle.crs_rules.specs.Rewritten.{explicit_crs, renamed, rewritten, IsForm, SameUnder};
 
 pub mod files;
 
@@ -140,6 +140,17 @@ pub fn order_of_axes_is_nothing()
     form_laws();
     axes_are_canonical();
     main_theorem();
+}
+
+/// Canonical texts, of which the second has the units that the first leaves out, have one form.
+pub fn units_may_be_left_out()
+    ensures { (r : RulesParts) (level : Level) (first second bytes : List ℕ) (a : Crs) →
+        IsCanonicalOf level first first → IsCanonicalOf level second second →
+        Spells first a → Spells second (explicit_crs (meaning r) a) →
+        IsForm r level first bytes → IsForm r level second bytes }
+{
+    main_theorem();
+    one_answer();
 }
 
 /// A CRS whose axes were put in the order of the form and whose parts were rewritten is the one that the form spells.

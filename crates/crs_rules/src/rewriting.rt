@@ -8,6 +8,7 @@ use crs_value::{Change, List};
 
 pub(crate) mod crs;
 mod frames;
+mod missing;
 pub(crate) mod order;
 mod parts;
 

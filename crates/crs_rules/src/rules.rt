@@ -5,25 +5,26 @@ ghost use Rattle.crs_value.specs.Sound.{IsText};
 ghost use Rattle.crs_rules.specs.Rules.{no_rules, RulesParts, AreRules};
 ghost use Rattle.crs_rules.specs.inner.AnyOrder.{axes_in_any_order};
 
-use crate::aliases::{Aliases, NameAlias, UnitAlias};
+use crate::aliases::{Aliases, Kinds, NameAlias, ParameterKind, UnitAlias};
 use crate::file::member::Member;
 use crate::uncounted::Uncounted;
 use crs_value::{Level, UnitKind};
 use std::alloc::{AllocError, Global};
 use std::marker::Model;
 
-/// Rules: names and units that count as others, and what doesn't count.
+/// Rules: names and units that count as others, what doesn't count, and the kinds of parameters.
 #[derive(Drop)]
 pub struct Rules {
     pub(crate) names: Aliases<NameAlias>,
     pub(crate) units: Aliases<UnitAlias>,
     pub(crate) uncounted: Uncounted,
+    pub(crate) kinds: Kinds,
 }
 
 impl Model for Rules {
     ghost Value = { RulesParts };
 
-    ghost view = { λ r. record { names = r.names; units = r.units; uncounted = r.uncounted } };
+    ghost view = { λ r. record { names = r.names; units = r.units; uncounted = r.uncounted; kinds = r.kinds } };
 
     ghost invariant = { λ r. AreRules (view r) };
 }
@@ -46,6 +47,7 @@ impl Rules {
             names: Aliases::new(alloc),
             units: Aliases::new(alloc),
             uncounted: Uncounted::default(),
+            kinds: Kinds::new(),
         }
     }
 
@@ -57,7 +59,10 @@ impl Rules {
             axis_order: true,
             ..Uncounted::default()
         };
-        self.uncounted == uncounted && self.names.len() == 0 && self.units.len() == 0
+        self.uncounted == uncounted
+            && self.names.len() == 0
+            && self.units.len() == 0
+            && self.kinds.len() == 0
     }
 
     /// What doesn't count.
@@ -133,6 +138,25 @@ impl Rules {
         Ok(())
     }
 
+    /// Numbers of parameters of this name are of this kind. If two have one name, the first holds.
+    ///
+    /// `AllocError`: there is no memory for it, and the rules are as before.
+    pub fn declare_kind(
+        &mut self,
+        alloc: Global,
+        name: &[u8],
+        kind: UnitKind,
+    ) -> Result<(), AllocError>
+        ensures ok { OnOk result (self.new ≡ record self.old {
+          kinds = self.old.kinds ++ record { name = name.now; kind = kind } ∷ [];
+        }) }
+        ensures err { OnErr result (self.new ≡ self.old) }
+    {
+        let name = Vec::from_slice(alloc, name)?;
+        self.kinds.push(alloc, ParameterKind { name, kind })?;
+        Ok(())
+    }
+
     /// How many names count as others.
     pub fn names(&self) -> usize
         ensures { result ≡ length self.now.names }
@@ -147,11 +171,23 @@ impl Rules {
         self.units.len()
     }
 
-    /// Keeps the first `names` names and the first `units` units that count as others, and forgets the rest.
-    pub fn truncate(&mut self, names: usize, units: usize)
-        ensures { self.new ≡ record self.old { names = take names self.old.names; units = take units self.old.units } }
+    /// How many names have a kind.
+    pub fn kinds(&self) -> usize
+        ensures { result ≡ length self.now.kinds }
+    {
+        self.kinds.len()
+    }
+
+    /// Keeps so many names, units and kinds, the first ones, and forgets the rest.
+    pub fn truncate(&mut self, names: usize, units: usize, kinds: usize)
+        ensures { self.new ≡ record self.old {
+          names = take names self.old.names;
+          units = take units self.old.units;
+          kinds = take kinds self.old.kinds;
+        } }
     {
         self.names.truncate(names);
         self.units.truncate(units);
+        self.kinds.truncate(kinds);
     }
 }

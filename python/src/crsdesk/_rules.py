@@ -10,10 +10,10 @@ from . import _library
 Path = Union[str, bytes, "os.PathLike[str]", "os.PathLike[bytes]"]
 # What a statement is refused for. The numbers 1 to 8 have the names of refused texts.
 MEANINGS = {
-    41: "neither SAME nor UNCOUNTED",
+    41: "neither SAME, UNCOUNTED nor KIND",
     42: "no node or word that may stand here",
     43: "a node of another kind than the first of its set",
-    44: "a node that stood in a set before",
+    44: "a node that stood in such a statement before",
 }
 
 

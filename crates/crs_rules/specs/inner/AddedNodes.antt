@@ -1,4 +1,4 @@
--- A bridge: the nodes that stand in sets, with one more.
+-- A bridge: the nodes that stood, with one more.
 use Rattle.std.specs.Prelude.{◌≡◌, ◌++◌, ◌∷◌, [], Bool, List, true, false}
 use Rattle.crs_value.specs.Reading.{OneIs}
 use Rattle.crs_rules.specs.Members.{MemberParts}

@@ -1,18 +1,12 @@
 -- A bridge: the test whether two nodes say the same, and what a node gives to a hash.
-use mathlib.Core.Bool.{beq}
 use Rattle.std.specs.Prelude.{◌&&◌, ℕ, Bool, List, nat_eq}
 use Rattle.std.specs.Cmp.Lexicographic.{pointwise}
-use Rattle.std.specs.Ordering.{int_eq}
 use Rattle.std.specs.Hash.{HashWrites, le_bytes, u64}
 use Rattle.std.specs.Hash.DefaultHasher.{finish, initial, write}
 use denote.Enum.Bare.{sameb}
-use Rattle.crs_decimal.specs.Numbers.{Value}
 use Rattle.crs_shape.specs.contracts.class.Class.{the_type}
 use Rattle.crs_rules.specs.Members.{MemberParts}
-
--- whether two factors are equal: both are in their normal form
-abbrev pub factors_equal : Value → Value → Bool
-factors_equal a b = beq a.negative b.negative && (nat_eq a.digits b.digits && int_eq a.power b.power)
+use Rattle.crs_rules.specs.Rules.{factors_equal}
 
 -- whether two nodes say the same
 abbrev pub members_equal : MemberParts → MemberParts → Bool

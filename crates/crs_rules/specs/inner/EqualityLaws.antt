@@ -9,11 +9,12 @@ use denote.Enum.Bare.{sameb, same_true, true_same}
 use Rattle.crs_decimal.specs.Numbers.{Value}
 use Rattle.crs_shape.specs.contracts.class.Class.{the_type}
 use Rattle.crs_shape.specs.declared.class.Class.{Class}
-use Rattle.crs_rules.specs.inner.Equality.{factors_equal, member_writes, members_equal}
+use Rattle.crs_rules.specs.inner.Equality.{member_writes, members_equal}
 use Rattle.crs_rules.specs.Members.{MemberParts}
+use Rattle.crs_rules.specs.Rules.{factors_equal}
 
 -- a test that joins two, and what each of them tells
-joined : {A B C : Type 0} (p q : Bool) → Decides p A → Decides q B → (C → A) → (C → B) → (A → B → C)
+pub joined : {A B C : Type 0} (p q : Bool) → Decides p A → Decides q B → (C → A) → (C → B) → (A → B → C)
     → Decides (p && q) C
 joined {C = C} p q a b left right whole = (forth, λ c. back (a.1 (left c)) (b.1 (right c)))
   where

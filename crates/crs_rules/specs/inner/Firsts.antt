@@ -1,5 +1,5 @@
 -- A bridge: where aliases are looked for. Of each digest a place is kept, before which no alias of that digest stands.
-use Rattle.std.specs.Prelude.{◌≡◌, ◌≤◌, ℕ, suc, List, [], ◌∷◌, Option, Some, nat_eq}
+use Rattle.std.specs.Prelude.{◌≡◌, ◌≤◌, ℕ, suc, List, [], ◌∷◌, None, Option, Some, nat_eq}
 use Rattle.std.specs.Hash.{le_bytes}
 use Rattle.std.specs.Hash.DefaultHasher.{finish, initial, write}
 use Rattle.std.specs.Map.{lookup}
@@ -14,6 +14,11 @@ name_digest c name = finish (write (write initial name) (le_bytes 8 (tag_of the_
 -- SipHash-1-3 of a name and the digits of a factor, with both keys 0
 abbrev pub unit_digest : List ℕ → ℕ → ℕ
 unit_digest name digits = finish (write (write initial name) (le_bytes 16 digits))
+
+-- what is behind a pointer, if it is there
+abbrev pub held : {A B : Type 0} → (B → List A) → Option B → List A
+held of None = []
+held of (Some b) = of b
 
 -- the place that is kept for a digest
 abbrev pub place_of : List (ℕ × ℕ) → ℕ → Option ℕ

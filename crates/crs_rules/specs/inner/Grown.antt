@@ -6,8 +6,9 @@ use Rattle.crs_rules.specs.Statements.{Reading}
 abbrev pub Extends : {A : Type 0} → List A → List A → Type 0
 Extends {A = A} xs ys = (more : List A) × (ys ≡ xs ++ more)
 
--- the nodes of sets, the names and the units are those of before, and maybe more
+-- the nodes that stood, the names, the units and the kinds are those of before, and maybe more
 pub record HasGrown (before behind : Reading) : Type 0 where
   pub seen : Extends before.seen behind.seen
   pub names : Extends before.rules.names behind.rules.names
   pub units : Extends before.rules.units behind.rules.units
+  pub kinds : Extends before.rules.kinds behind.rules.kinds

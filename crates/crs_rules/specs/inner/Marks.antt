@@ -9,6 +9,7 @@ pub record IsMarked (r : Reading) (mark : Mark) : Type 0 where
   pub seen : mark.seen ≡ length r.seen
   pub names : mark.names ≡ length r.rules.names
   pub units : mark.units ≡ length r.rules.units
+  pub kinds : mark.kinds ≡ length r.rules.kinds
   pub uncounted : mark.uncounted ≡ r.rules.uncounted
 
 -- without what was added since
@@ -20,5 +21,6 @@ gone_back mark r = record {
     names = take mark.names r.rules.names;
     units = take mark.units r.rules.units;
     uncounted = mark.uncounted;
+    kinds = take mark.kinds r.rules.kinds;
   };
 }

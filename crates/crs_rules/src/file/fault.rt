@@ -32,10 +32,10 @@ impl RulesRefusal {
         ensures { result.now ≡ meaning_of self.now.number }
     {
         match self.number {
-            NO_STATEMENT => "neither SAME nor UNCOUNTED",
+            NO_STATEMENT => "neither SAME, UNCOUNTED nor KIND",
             NOT_HERE => "no node or word that may stand here",
             OTHER_CLASS => "a node of another kind than the first of its set",
-            REPEATED => "a node that stood in a set before",
+            REPEATED => "a node that stood in such a statement before",
             number => match Refusal::new(number, 0) {
                 Some(refusal) => refusal.name(),
                 None => "",

@@ -1,12 +1,15 @@
 //! From the bytes of rules files to their rules, line by line.
-ghost use Rattle.std.specs.Prelude.{◌≡◌, ◌≢◌, ◌↔◌, ◌+◌, ◌^◌, ◌<◌, [], ◌∷◌, ℕ, List, length, IsTrue, MatchResult, OnErr, OnOk, Some};
+ghost use Rattle.std.specs.Prelude.{◌≡◌, ◌≢◌, ◌↔◌, ◌+◌, ◌^◌, ◌<◌, [], ◌∷◌, ℕ, List, length, IsFalse, IsTrue, MatchResult, OnErr, OnOk, Some};
 ghost use Rattle.std.specs.Option.{option_copied};
 ghost use Rattle.crs_text.specs.Items.{HasId, IsNode, arguments};
 ghost use Rattle.crs_streams.specs.Lines.{AreLines};
+ghost use Rattle.crs_value.specs.Reading.{IsReading};
+ghost use Rattle.crs_value.specs.Sound.{IsText};
 ghost use Rattle.crs_value.specs.inner.Arguments.{Holds, ahead, item_at};
 ghost use Rattle.crs_rules.specs.RulesFile.{FaultOfLine, Reads, ReadsFile, RefusesFile, SpellsRules, is_idle, start};
 ghost use Rattle.crs_rules.specs.Statements.{Adds, AddsSet, Drops, FaultOfNode, FaultOfSet, FaultOfStatement};
 ghost use Rattle.crs_rules.specs.Statements.{FaultOfWord, FaultOver, IsRefusedBy, Joins, Over, States, IsOfSet, joined, listed, refused_at};
+ghost use Rattle.crs_rules.specs.Statements.{FaultOfKind, FaultOfSort, SaysParameter, Sorts, SortsAll, is_meridian, kind_node};
 ghost use Rattle.crs_rules.specs.inner.Grown.{HasGrown};
 ghost use Rattle.crs_rules.specs.inner.Marks.{IsMarked, gone_back};
 ghost use Rattle.crs_rules.specs.inner.Faults.{IsFaultIn};
@@ -14,11 +17,14 @@ ghost use Rattle.crs_rules.specs.inner.Faults.{IsFaultIn};
 use crate::file::fault::{NO_STATEMENT, NOT_HERE, OTHER_CLASS, REPEATED, RulesFault, RulesRefusal};
 use crate::file::member::{Member, kind_of, member_at};
 use crate::file::seen::Seen;
-use crate::file::words::{is_word, with_item};
+use crate::file::words::{is_meridian, is_word, kind_in, with_item};
 use crate::{Rules, Uncounted};
+use crs_decimal::Decimal;
+use crs_shape::Class;
 use crs_streams::laws::lines_are_one;
 use crs_streams::{split_line, text_of};
 use crs_text::{Fault, ItemId, Items, read_items};
+use crs_value::UnitKind;
 use std::alloc::{AllocError, Global};
 use std::marker::Model;
 
@@ -33,17 +39,18 @@ pub fn read_rules(alloc: Global, bytes: &[u8]) -> Result<Rules, RulesFault>
     Ok(reader.into_rules())
 }
 
-// Where a reader is: its line, how many nodes of sets, names and units there are, and what doesn't count.
+// Where a reader is: its line, how many nodes, names, units and kinds there are, and what doesn't count.
 #[derive(Drop)]
 struct Mark {
     line: usize,
     seen: usize,
     names: usize,
     units: usize,
+    kinds: usize,
     uncounted: Uncounted,
 }
 
-/// What is known of rules files so far: their rules, and the nodes of all sets.
+/// What is known of rules files so far: their rules, and the nodes that stood.
 #[derive(Drop)]
 pub struct RulesReader {
     line: usize,
@@ -77,6 +84,30 @@ fn is_of_set(first: Option<&Member<'_>>, member: &Member<'_>) -> bool
     match first {
         None => true,
         Some(first) => member.class == first.class,
+    }
+}
+
+// What a node says that names parameters.
+fn parameter_at<'a>(items: &Items<'a>, id: ItemId) -> Option<Member<'a>>
+    requires { HasId items.now id }
+    ensures { IsReading (SaysParameter (item_at items.now id)) result }
+{
+    let member = member_at(items, id)?;
+    match member.class {
+        Class::Parameter => Some(member),
+        _ => None,
+    }
+}
+
+// The name of parameters of a `KIND`, among the nodes that stood.
+fn kind_node(name: &[u8]) -> Member<'_>
+    requires { IsText name.now }
+    ensures { result ≡ kind_node name.now }
+{
+    Member {
+        class: Class::Conversion,
+        name,
+        factor: Decimal::zero(),
     }
 }
 
@@ -153,6 +184,7 @@ impl RulesReader {
             seen: self.seen.len(),
             names: self.rules.names(),
             units: self.rules.units(),
+            kinds: self.rules.kinds(),
             uncounted: self.rules.uncounted(),
         }
     }
@@ -163,7 +195,7 @@ impl RulesReader {
     {
         self.line = mark.line;
         self.seen.truncate(mark.seen);
-        self.rules.truncate(mark.names, mark.units);
+        self.rules.truncate(mark.names, mark.units, mark.kinds);
         self.rules.set_uncounted(mark.uncounted);
     }
 
@@ -290,6 +322,94 @@ impl RulesReader {
         Ok(())
     }
 
+    // Numbers of parameters of a node's name are of this kind.
+    fn declare(
+        &mut self,
+        alloc: Global,
+        items: &Items<'_>,
+        at: ItemId,
+        kind: UnitKind,
+    ) -> Result<(), RulesFault>
+        requires has { HasId items.now at }
+        requires other { IsFalse (is_meridian kind (item_at items.now at)) }
+        ensures answer { MatchResult result (λ _. Sorts kind self.old (item_at items.now at) self.new)
+            (IsRefusedBy (FaultOfSort kind self.old (item_at items.now at))) }
+        ensures grown { HasGrown self.old self.new }
+    {
+        let Some(member) = parameter_at(items, at) else {
+            return Err(refused(self.line, items, at, NOT_HERE));
+        };
+        match self.seen.add(alloc, &kind_node(member.name)) {
+            Ok(true) => match self.rules.declare_kind(alloc, member.name, kind) {
+                Ok(()) => Ok(()),
+                Err(error) => Err(RulesFault::Memory(error)),
+            },
+            Ok(false) => Err(refused(self.line, items, at, REPEATED)),
+            Err(error) => Err(RulesFault::Memory(error)),
+        }
+    }
+
+    // An item of this kind: all prime meridians, or parameters.
+    #[tactic(auto, using(crate::proofs::GrownLemmas::grown_dropped))]
+    fn sort(
+        &mut self,
+        alloc: Global,
+        items: &Items<'_>,
+        id: ItemId,
+        kind: UnitKind,
+    ) -> Result<(), RulesFault>
+        requires { HasId items.now id }
+        ensures answer { MatchResult result (λ _. Sorts kind self.old (item_at items.now id) self.new)
+            (IsRefusedBy (FaultOfSort kind self.old (item_at items.now id))) }
+        ensures grown { HasGrown self.old self.new }
+    {
+        if !is_meridian(items, id, kind) {
+            return self.declare(alloc, items, id, kind);
+        }
+        let mut uncounted = self.rules.uncounted();
+        uncounted.meridian_units = true;
+        self.rules.set_uncounted(uncounted);
+        Ok(())
+    }
+
+    fn sort_others(
+        &mut self,
+        alloc: Global,
+        items: &Items<'_>,
+        from: Option<ItemId>,
+        kind: UnitKind,
+    ) -> Result<(), RulesFault>
+        requires { Holds items.now from }
+        ensures answer { MatchResult result (λ _. Over (Sorts kind) self.old (listed (ahead items.now from)) self.new)
+            (IsRefusedBy (FaultOver (Sorts kind) (FaultOfSort kind) self.old (listed (ahead items.now from)))) }
+        ensures grown { HasGrown self.old self.new }
+    {
+        let mut at = from;
+        while let Some(id) = at {
+            self.sort(alloc, items, id, kind)?;
+            at = items.next(id);
+        }
+        Ok(())
+    }
+
+    // What the items behind the first are of the kind that it names.
+    #[tactic(auto, using(crate::proofs::GrownLemmas::grown_self))]
+    fn sort_all(&mut self, alloc: Global, items: &Items<'_>, id: ItemId) -> Result<(), RulesFault>
+        requires has { HasId items.now id }
+        requires node { IsNode (item_at items.now id) }
+        ensures answer { MatchResult result (λ _. SortsAll self.old (arguments (item_at items.now id)) self.new)
+            (IsRefusedBy (FaultOfKind self.old (arguments (item_at items.now id)))) }
+        ensures grown { HasGrown self.old self.new }
+    {
+        let Some(begin) = items.arg(id, 0) else {
+            unreachable!()
+        };
+        match kind_in(items, begin) {
+            Some(kind) => self.sort_others(alloc, items, items.next(begin), kind),
+            None => Err(refused(self.line, items, begin, NOT_HERE)),
+        }
+    }
+
     #[tactic(auto, using(crate::proofs::GrownLemmas::grown_self))]
     fn read_statement(&mut self, alloc: Global, items: &Items<'_>) -> Result<(), RulesFault>
         requires { IsNode items.now }
@@ -303,6 +423,9 @@ impl RulesReader {
         }
         if is_word("UNCOUNTED", items.raw(root)) {
             return self.drop_words(items, items.arg(root, 0));
+        }
+        if is_word("KIND", items.raw(root)) {
+            return self.sort_all(alloc, items, root);
         }
         Err(refused(self.line, items, root, NO_STATEMENT))
     }

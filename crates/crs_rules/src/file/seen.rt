@@ -1,7 +1,8 @@
 //! The nodes that stand in the sets so far.
 ghost use Rattle.std.specs.Prelude.{◌≡◌, [], IfOk, OnErr, length, take};
 ghost use Rattle.std.specs.Cmp.{partial_equiv_from_equiv};
-ghost use Rattle.crs_rules.specs.inner.Equality.{digest_of, factors_equal, member_writes, members_equal};
+ghost use Rattle.crs_rules.specs.Rules.{factors_equal};
+ghost use Rattle.crs_rules.specs.inner.Equality.{digest_of, member_writes, members_equal};
 ghost use Rattle.crs_rules.specs.inner.EqualityLaws.{members-equivalence, members-hash};
 ghost use Rattle.crs_rules.specs.inner.AddedNodes.{IsAdded};
 
@@ -56,7 +57,7 @@ impl Hash for Key {
     }
 }
 
-fn same_factor(a: &Decimal, b: &Decimal) -> bool
+pub(crate) fn same_factor(a: &Decimal, b: &Decimal) -> bool
     ensures { result ≡ factors_equal a.now b.now }
 {
     a.is_negative() == b.is_negative() && a.digits() == b.digits() && a.power() == b.power()

@@ -5,11 +5,12 @@ ghost use Rattle.std.specs.Option.{is_some};
 ghost use Rattle.crs_shape.specs.declared.class.Class.TheVariants as classes;
 ghost use Rattle.crs_value.specs.declared.values.level.Level.TheVariants as levels;
 ghost use Rattle.crs_normal.specs.inner.PartTexts.{axis_text};
-ghost use Rattle.crs_rules.specs.Rewritten.{across, base, compound, counted, geodetic, geoid_models, has_own_unit, is_idle, named, projected, renamed, rewritten, units, vertical};
+ghost use Rattle.crs_rules.specs.Rewritten.{across, base, compound, counted, explicit, explicit_geodetic, geodetic, geoid_models, has_own_unit, is_idle, named, projected, renamed, rewritten, units, vertical};
 ghost use Rattle.crs_rules.specs.Rules.{meaning};
 
 use crate::aliases::first_name;
 use crate::rewriting::frames::{GEODETIC, VERTICAL, dynamics, rewrite_frame};
+use crate::rewriting::missing::{explicit, explicit_geodetic};
 use crate::rewriting::order::arrange_crs;
 use crate::rewriting::parts::{conversion, counted_name, system, tail};
 use crate::rewriting::{RuledPart, rewrite_each, rewrite_part};
@@ -93,6 +94,20 @@ fn projected<'a>(alloc: Global, value: &mut Projected<'a>, rules: &'a Rules)
     tail(&mut value.tail, rules);
 }
 
+fn whole_geodetic<'a>(alloc: Global, value: &mut Geodetic<'a>, rules: &'a Rules)
+    ensures { value.new ≡ geodetic (meaning rules.now) (explicit_geodetic (meaning rules.now) value.old) }
+{
+    explicit_geodetic(alloc, value, rules);
+    geodetic(alloc, value, rules);
+}
+
+fn whole_projected<'a>(alloc: Global, value: &mut Projected<'a>, rules: &'a Rules)
+    ensures { value.new ≡ projected (meaning rules.now) (explicit (meaning rules.now) value.old) }
+{
+    explicit(alloc, value, rules);
+    projected(alloc, value, rules);
+}
+
 impl<'a> RuledPart<'a> for GeoidModel<'a> {
     ghost under = { λ r m. named r classes.GeoidModel m };
 
@@ -126,8 +141,8 @@ fn across<'a>(alloc: Global, horizontal: &mut Horizontal<'a>, rules: &'a Rules)
     ensures { horizontal.new ≡ across (meaning rules.now) horizontal.old }
 {
     match horizontal {
-        Horizontal::Geodetic(found) => geodetic(alloc, found, rules),
-        Horizontal::Projected(found) => projected(alloc, found, rules),
+        Horizontal::Geodetic(found) => whole_geodetic(alloc, found, rules),
+        Horizontal::Projected(found) => whole_projected(alloc, found, rules),
     }
 }
 
@@ -145,8 +160,8 @@ pub(crate) fn rename<'a>(alloc: Global, crs: &mut Crs<'a>, rules: &'a Rules)
     ensures { crs.new ≡ renamed (meaning rules.now) crs.old }
 {
     match crs {
-        Crs::Geodetic(found) => geodetic(alloc, found, rules),
-        Crs::Projected(found) => projected(alloc, found, rules),
+        Crs::Geodetic(found) => whole_geodetic(alloc, found, rules),
+        Crs::Projected(found) => whole_projected(alloc, found, rules),
         Crs::Vertical(found) => vertical(alloc, found, rules),
         Crs::Compound(found) => compound(alloc, found, rules),
     }

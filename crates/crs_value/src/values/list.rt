@@ -127,7 +127,8 @@ impl<T> List<T> {
         self.members.clear();
     }
 
-    pub(crate) fn new(alloc: Global) -> List<T>
+    /// A list without members. It takes no memory. Profile.
+    pub fn new(alloc: Global) -> List<T>
         ensures { result ≡ [] }
     {
         List {
