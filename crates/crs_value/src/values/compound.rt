@@ -13,17 +13,12 @@ use std::alloc::Global;
 use std::marker::Model;
 
 /// The horizontal part of a compound CRS. ISO 19162:2019, "Compound CRS".
+#[derive(Drop)]
 pub enum Horizontal<'a> {
     /// A geographic CRS.
     Geodetic(Geodetic<'a>),
     /// A projected CRS.
     Projected(Projected<'a>),
-}
-
-impl Drop for Horizontal<'_> {
-    fn drop(self) {
-        let (Horizontal::Geodetic(_) | Horizontal::Projected(_)) = self;
-    }
 }
 
 /// A compound CRS, `COMPOUNDCRS[name, horizontal, vertical, tail]`. ISO 19162:2019, "Compound CRS".

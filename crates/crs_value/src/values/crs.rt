@@ -16,6 +16,7 @@ use crs_text::Fault;
 use std::alloc::Global;
 
 /// A coordinate reference system. ISO 19162:2019, "Coordinate reference systems".
+#[derive(Drop)]
 pub enum Crs<'a> {
     /// A geodetic or geographic CRS.
     Geodetic(Geodetic<'a>),
@@ -25,12 +26,6 @@ pub enum Crs<'a> {
     Vertical(Vertical<'a>),
     /// A compound CRS.
     Compound(Compound<'a>),
-}
-
-impl Drop for Crs<'_> {
-    fn drop(self) {
-        let (Crs::Geodetic(_) | Crs::Projected(_) | Crs::Vertical(_) | Crs::Compound(_)) = self;
-    }
 }
 
 /// What a coordinate reference system is. ISO 19162:2019, "Coordinate reference systems".

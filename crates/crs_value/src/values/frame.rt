@@ -17,17 +17,12 @@ use std::marker::Model;
 use std::mem;
 
 /// What a CRS's coordinates refer to. ISO 19162:2019, "Datum".
+#[derive(Drop)]
 pub enum Frame<'a> {
     /// A reference frame.
     Datum(Datum<'a>),
     /// A datum ensemble.
     Ensemble(Ensemble<'a>),
-}
-
-impl Drop for Frame<'_> {
-    fn drop(self) {
-        let (Frame::Datum(_) | Frame::Ensemble(_)) = self;
-    }
 }
 
 impl<'a> Frame<'a> {
