@@ -30,10 +30,18 @@ pub fn put_read(out: &mut Answer, input: &[u8]) {
 fn kind_told(alloc: Global, made: Result<Crs<'_>, Fault>) -> Answer {
     let mut out = Answer::new(alloc);
     match made {
-        Ok(crs) => out.put_after("kind ", kind_word(crs.kind()).as_bytes()),
+        Ok(crs) => out.put_after("kind ", kind_taken(crs).as_bytes()),
         Err(fault) => out.put_fault(fault),
     }
     out
+}
+
+// The name of a CRS's kind; the CRS is matched by value.
+fn kind_taken(crs: Crs<'_>) -> &'static str {
+    match crs {
+        Crs::Vertical(vertical) => kind_word(Crs::Vertical(vertical).kind()),
+        other => kind_word(other.kind()),
+    }
 }
 
 /// The name of a kind.

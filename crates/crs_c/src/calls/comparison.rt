@@ -54,9 +54,21 @@ fn made_behind<'t, C: Comparing>(
         (λ code. IsSecondFault second.now refused.old refused.new code) }
 {
     match read(alloc, second) {
-        Ok(crs) => by.compare(alloc, first, &crs).map_err(|_| NO_MEMORY),
+        Ok(crs) => made_of_second(alloc, by, first, crs),
         Err(fault) => Err(tell(fault, SECOND_REFUSED, refused)),
     }
+}
+
+// The second CRS ends here: a function that has more to tell is slow to prove over its end.
+fn made_of_second<'t, C: Comparing>(
+    alloc: Global,
+    by: C,
+    first: &Crs<'t>,
+    second: Crs<'t>,
+) -> Result<C::Made, u32>
+    ensures { MatchResult result (λ made. C.Like by first.now second.entry made) (λ code. code ≡ 3) }
+{
+    by.compare(alloc, first, &second).map_err(|_| NO_MEMORY)
 }
 
 /// Whether two CRSs are the same at a level.
