@@ -4,6 +4,7 @@ mod AskedLemmas
 mod FaultLemmas
 mod FileLemmas
 mod FormsLemmas
+mod GroupFileLemmas
 mod HelpLemmas
 mod JudgedLemmas
 mod KnownText

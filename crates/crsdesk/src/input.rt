@@ -6,7 +6,7 @@ use std::io;
 use std::io::{Read, Stdin};
 
 // The name of standard input among those of files.
-const STANDARD: &str = "-";
+pub const STANDARD: &str = "-";
 
 /// Standard input or a file, with the failure of the last read that failed.
 #[derive(Drop)]

@@ -1,15 +1,16 @@
 //! The runs of the commands: over standard input, texts and files, with rules, which are read first, or without.
 use crate::fault::Fault;
-use crate::input::{Input, Opener};
+use crate::input::{Input, Opener, STANDARD};
 use crate::messages::{tell, tell_of};
 use crate::output::Output;
 use crs_desk::{
-    CanonText, CheckText, Comparison, ExplainText, ExplainedForms, FileTask, Filling, ForText,
-    Inputs, Job, Layout, Level, LinePair, LineWord, LineWords, OfLine, PairAnswer, Rules,
-    RulesFault, RulesReader, RunFault, SameForms, Sink, Source, Stream, Summary, Task, Told, Under,
-    WordKind, Work, read_text, run_canon, run_check, run_files, run_lines, run_same, run_text,
-    write_answer,
+    CanonText, CheckText, Comparison, DigestText, ExplainText, ExplainedForms, FileTask, Filling,
+    ForText, InALine, Inputs, Job, Layout, Level, LinePair, LineWord, LineWords, Listing, Manner,
+    OfLine, PairAnswer, Rules, RulesFault, RulesReader, RunFault, SameForms, Sink, Source, Spelled,
+    Stream, Summary, Task, Told, Under, WordKind, Work, blank_told, read_text, run_canon,
+    run_check, run_files, run_group_files, run_lines, run_same, run_text, write_answer,
 };
+use crs_group::pieces::{ByCanon, ByForm};
 use crs_group::run_group_listing;
 use std::path::Path;
 
@@ -62,11 +63,40 @@ pub fn answer(rt: &HostRuntime, job: &Job) -> Result<u8, Fault> {
             };
             comparing.words(pair)
         }
-        Work::Files { task, names, rules } => {
+        Work::Files {
+            task,
+            names,
+            rules,
+            named,
+        } => {
             let rules = rules_of(rt, rules)?;
-            let each = file_task(*task, job.level, rules.as_ref());
-            to_standard!(rt, run_files(each, names.as_slice(), &Opener { rt: *rt }))
+            let (names, rules) = (names.as_slice(), rules.as_ref());
+            if let Task::Group(listing) = *task
+                && listing.files
+            {
+                return over_groups(rt, job.level, listing, names, rules);
+            }
+            let each = file_task(*task, job.level, rules);
+            to_standard!(rt, run_files(each, *named, names, &Opener { rt: *rt }))
         }
+    }
+}
+
+// Whole files in groups.
+fn over_groups(
+    rt: &HostRuntime,
+    level: Level,
+    listing: Listing,
+    names: &[LineWord],
+    rules: Option<&Rules>,
+) -> Result<u8, Fault> {
+    let files = Opener { rt: *rt };
+    match rules {
+        Some(rules) => {
+            let adding = ByForm(Under { level, rules });
+            to_standard!(rt, run_group_files(&adding, listing, names, &files))
+        }
+        None => to_standard!(rt, run_group_files(&ByCanon(level), listing, names, &files)),
     }
 }
 
@@ -75,13 +105,29 @@ fn over_input(rt: &HostRuntime, level: Level, task: Task) -> Result<u8, Fault> {
     match task {
         Task::Canon(Layout::OneText) => over_standard!(rt, text => run_canon(level)),
         Task::Canon(Layout::Lines) => {
-            let command = CanonText { level };
-            over_standard!(rt, lines => run_lines(&OfLine { command }))
+            let (command, blank) = (CanonText { level }, b"".as_slice());
+            over_standard!(rt, lines => run_lines(&OfLine { command, blank }))
         }
-        Task::Check(Layout::OneText) => over_standard!(rt, text => run_check()),
-        Task::Check(Layout::Lines) => {
-            let command = CheckText;
-            over_standard!(rt, lines => run_lines(&OfLine { command }))
+        Task::Digest(Layout::OneText) => {
+            let by = Spelled::Canonical(level);
+            over_standard!(rt, text => run_text(DigestText { by }))
+        }
+        Task::Digest(Layout::Lines) => {
+            let by = Spelled::Canonical(level);
+            let (command, blank) = (DigestText { by }, b"".as_slice());
+            over_standard!(rt, lines => run_lines(&OfLine { command, blank }))
+        }
+        Task::Check(Layout::OneText, Manner::Lines) => over_standard!(rt, text => run_check()),
+        Task::Check(Layout::OneText, how) => {
+            over_standard!(rt, text => run_text(CheckText { how }))
+        }
+        Task::Check(Layout::Lines, how) => {
+            let (command, blank) = (CheckText { how }, blank_told(how));
+            over_standard!(rt, lines => run_lines(&OfLine { command, blank }))
+        }
+        Task::Group(listing) if listing.files => {
+            let names = LineWords::of(rt.alloc(), &[STANDARD])?;
+            over_groups(rt, level, listing, names.as_slice(), None)
         }
         Task::Group(listing) => {
             let status = |summary: Summary| u8::from(summary.refused > 0);
@@ -98,11 +144,21 @@ fn file_task(task: Task, level: Level, rules: Option<&Rules>) -> FileTask<'_> {
         (Task::Canon(Layout::OneText), Some(rules)) => FileTask::Form(level, rules),
         (Task::Canon(Layout::Lines), None) => FileTask::CanonLines(level),
         (Task::Canon(Layout::Lines), Some(rules)) => FileTask::FormLines(level, rules),
-        (Task::Check(Layout::OneText), _) => FileTask::Check,
-        (Task::Check(Layout::Lines), _) => FileTask::CheckLines,
+        (Task::Digest(Layout::OneText), rules) => FileTask::Digest(spelled(level, rules)),
+        (Task::Digest(Layout::Lines), rules) => FileTask::DigestLines(spelled(level, rules)),
+        (Task::Check(Layout::OneText, how), _) => FileTask::Check(how),
+        (Task::Check(Layout::Lines, how), _) => FileTask::CheckLines(how),
         (Task::Group(listing), None) => FileTask::Group(level, listing),
         (Task::Group(listing), Some(rules)) => FileTask::FormGroup(level, listing, rules),
         (Task::Explain(how), _) => FileTask::Explain(how),
+    }
+}
+
+// By which bytes texts are known, under rules where there are some.
+fn spelled(level: Level, rules: Option<&Rules>) -> Spelled<'_> {
+    match rules {
+        Some(rules) => Spelled::Form(level, rules),
+        None => Spelled::Canonical(level),
     }
 }
 
@@ -132,10 +188,14 @@ impl Comparing<'_, '_, '_> {
     fn texts(self, a: &[u8], b: &[u8]) -> Result<u8, Fault> {
         let (rt, level, words) = (self.rt, self.job.level, self.job.order.as_slice());
         match (self.comparison, self.rules) {
-            (Comparison::Same, None) => to_standard!(rt, run_same(level, a, b)),
-            (Comparison::Same, Some(rules)) => {
+            (Comparison::Same(Manner::Lines), None) => to_standard!(rt, run_same(level, a, b)),
+            (Comparison::Same(how), None) => {
+                let told = InALine { how };
+                to_standard!(rt, write_answer(&PairAnswer { told, level, a, b }))
+            }
+            (Comparison::Same(how), Some(rules)) => {
                 let under = Under { level, rules };
-                to_standard!(rt, write_answer(&SameForms { under, a, b }))
+                to_standard!(rt, write_answer(&SameForms { how, under, a, b }))
             }
             (Comparison::Explain(how), None) => {
                 let told = Told { how, words };

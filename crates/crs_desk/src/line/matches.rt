@@ -10,7 +10,8 @@ use crate::line::reading::{
     flag_asked, layout, level_word, listing, manner, word_kind, words_named,
 };
 use crate::{
-    Comparison, Layout, LinePair, LineWord, LineWords, Listing, Request, Task, WordKind, Work,
+    Comparison, Layout, LinePair, LineWord, LineWords, Listing, Manner, Request, Task, WordKind,
+    Work,
 };
 use clap::ArgMatches;
 use std::alloc::{AllocError, Global};
@@ -35,7 +36,11 @@ fn request_named(alloc: Global, name: &str, options: &ArgMatches) -> Result<Requ
 {
     match name {
         "canon" => over_files(alloc, options, Task::Canon(layout(options))),
-        "check" => over_files(alloc, options, Task::Check(layout(options))),
+        "digest" => over_files(alloc, options, Task::Digest(layout(options))),
+        "check" => {
+            let task = Task::Check(layout(options), manner(options));
+            over_files(alloc, options, task)
+        }
         "same" => same_request(alloc, options),
         "group" => over_files(alloc, options, Task::Group(listing(options))),
         "explain" => asked_for(alloc, options, explain_work(alloc, options)?),
@@ -49,27 +54,40 @@ fn over_files(alloc: Global, options: &ArgMatches, task: Task) -> Result<Request
 {
     let names = words_named(alloc, options, "file")?;
     let rules = words_named(alloc, options, "rules")?;
-    let work = file_work(alloc, task, names, rules)?;
+    let named = flag_asked(options, "with-name");
+    let work = file_work(alloc, task, named, names, rules)?;
     asked_for(alloc, options, work)
 }
 
-// A task over files, or over standard input where there are none, under rules where there are some.
+// A task over files, or over standard input where there are none, under rules where there are some; with names of files
+// or without.
 fn file_work(
     alloc: Global,
     task: Task,
+    named: bool,
     names: LineWords,
     rules: LineWords,
 ) -> Result<Work, AllocError>
-    ensures { IfOk result (λ work. work ≡ file_work task names rules) }
+    ensures { IfOk result (λ work. work ≡ file_work task named names rules) }
 {
     if !names.is_empty() {
-        return Ok(Work::Files { task, names, rules });
+        return Ok(Work::Files {
+            task,
+            names,
+            rules,
+            named,
+        });
     }
-    if rules.is_empty() {
+    if rules.is_empty() && !named {
         return Ok(Work::Standard(task));
     }
     let names = LineWords::of(alloc, &[STANDARD])?;
-    Ok(Work::Files { task, names, rules })
+    Ok(Work::Files {
+        task,
+        names,
+        rules,
+        named,
+    })
 }
 
 fn same_request(alloc: Global, operands: &ArgMatches) -> Result<Request, AllocError>
@@ -79,7 +97,8 @@ fn same_request(alloc: Global, operands: &ArgMatches) -> Result<Request, AllocEr
     match (operands.get_str("first"), operands.get_str("second")) {
         (Some(first), Some(second)) => {
             let pair = pair_of(alloc, operands, first, second)?;
-            asked_for(alloc, operands, Work::Pair(Comparison::Same, pair))
+            let comparison = Comparison::Same(manner(operands));
+            asked_for(alloc, operands, Work::Pair(comparison, pair))
         }
         _ => unreachable!(),
     }
@@ -104,7 +123,7 @@ fn nothing_work(alloc: Global, operands: &ArgMatches) -> Result<Work, AllocError
 {
     let names = LineWords::of(alloc, &[])?;
     let rules = words_named(alloc, operands, "rules")?;
-    file_work(alloc, Task::Explain(manner(operands)), names, rules)
+    file_work(alloc, Task::Explain(manner(operands)), false, names, rules)
 }
 
 fn one_work(alloc: Global, operands: &ArgMatches, word: &str) -> Result<Work, AllocError>
@@ -115,7 +134,13 @@ fn one_work(alloc: Global, operands: &ArgMatches, word: &str) -> Result<Work, Al
     if flag_asked(operands, "files") {
         let names = LineWords::of(alloc, &[word])?;
         let task = Task::Explain(how);
-        return Ok(Work::Files { task, names, rules });
+        let named = false;
+        return Ok(Work::Files {
+            task,
+            names,
+            rules,
+            named,
+        });
     }
     let text = LineWord::new(alloc, word)?;
     Ok(Work::Text { how, text, rules })
@@ -151,9 +176,9 @@ fn request_for(level: LineWord, order: LineWords, work: Work) -> Request
 {
     match work {
         Work::Standard(Task::Canon(Layout::OneText)) => Request::Canon(level),
-        Work::Standard(Task::Check(Layout::OneText)) => Request::Check,
+        Work::Standard(Task::Check(Layout::OneText, Manner::Lines)) => Request::Check,
         Work::Standard(Task::Group(listing)) => group_for(level, order, listing),
-        Work::Pair(Comparison::Same, pair) => same_for(level, order, pair),
+        Work::Pair(Comparison::Same(Manner::Lines), pair) => same_for(level, order, pair),
         work => Request::Other { level, order, work },
     }
 }
@@ -161,7 +186,7 @@ fn request_for(level: LineWord, order: LineWords, work: Work) -> Request
 fn group_for(level: LineWord, order: LineWords, listing: Listing) -> Request
     ensures { result ≡ request_for level order (works.Standard (tasks.Group listing)) }
 {
-    if listing.repeated || listing.names || listing.json {
+    if listing.repeated || listing.names || listing.files || listing.json {
         let work = Work::Standard(Task::Group(listing));
         return Request::Other { level, order, work };
     }
@@ -174,6 +199,6 @@ fn same_for(level: LineWord, order: LineWords, pair: LinePair) -> Request
     if matches!(pair.kind, WordKind::Text) && pair.rules.is_empty() {
         return Request::Same(pair.first, pair.second, level);
     }
-    let work = Work::Pair(Comparison::Same, pair);
+    let work = Work::Pair(Comparison::Same(Manner::Lines), pair);
     Request::Other { level, order, work }
 }

@@ -3,14 +3,17 @@ use Rattle.crs_desk.specs.inner.FileAnswers.{IsAnswerSent, IsFileFault}
 use Rattle.crs_desk.specs.FilesRun.{IsTaskFront, IsTaskOutput}
 use Rattle.crs_desk.specs.declared.runs.files.FileTask.{FileTask}
 use Rattle.crs_desk.specs.declared.runs.files.FileTask.TheVariants as task
-use Rattle.crs_desk.proofs.PrefixedLemmas.{canon-ends, check-ends, form-ends}
+use Rattle.crs_desk.proofs.PrefixedLemmas.{canon-ends, check-ends, digest-ends, form-ends}
 use Rattle.crs_desk.proofs.runs.files.answer_input.Goals as goal
 
 pub answer_lines-requires-clause-ends : goal.answer_lines-requires-clause-ends
 answer_lines-requires-clause-ends g c = canon-ends c.in-CanonLines.level
 
 pub answer_lines-requires-in-CheckLines-clause-ends : goal.answer_lines-requires-in-CheckLines-clause-ends
-answer_lines-requires-in-CheckLines-clause-ends g c = check-ends
+answer_lines-requires-in-CheckLines-clause-ends g c = check-ends c.in-CheckLines.how
+
+pub answer_lines-requires-in-DigestLines-clause-ends : goal.answer_lines-requires-in-DigestLines-clause-ends
+answer_lines-requires-in-DigestLines-clause-ends g c = digest-ends c.in-DigestLines.by
 
 pub answer_lines-requires-in-FormLines-clause-ends : goal.answer_lines-requires-in-FormLines-clause-ends
 answer_lines-requires-in-FormLines-clause-ends g c = form-ends c.in-FormLines.rules.now c.in-FormLines.level
