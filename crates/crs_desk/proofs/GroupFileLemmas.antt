@@ -1,6 +1,7 @@
 -- Files that are grouped, one after another.
-use Rattle.std.proofs.Common.{◌≡◌, ◌+◌, ◌++◌, ◌∷◌, [], ℕ, List, Option, None, Some, arith, append-nil, append_assoc, inr, length, refl, max, map, if◌then◌else◌}
+use Rattle.std.proofs.Common.{◌≡◌, ◌+◌, ◌++◌, ◌∷◌, [], ℕ, List, Option, None, Some, arith, append-nil, append_assoc, inl, inr, length, Err, IfOk, IfSome, Ok, OnOk, Result, refl, max, map, if◌then◌else◌}
 use Rattle.std.proofs.Math.Nat.{max-zero}
+use Rattle.crs_streams.specs.declared.fault.RunFault.{RunFault}
 use Rattle.crs_value.specs.declared.values.level.Level.{Level}
 use Rattle.crs_group.specs.GroupTexts.{PlacedLine}
 use Rattle.crs_group.specs.Names.{NamedText}
@@ -31,3 +32,21 @@ read-all known names left texts status none goes = simp (append-nil, max-zero) a
 pub none-added : (Form : Level → List ℕ → List ℕ → Type 0) (Share : Level → PlacedLine → PlacedLine → Type 0)
     (known : Option (List ℕ)) (name : List ℕ) (ledger : LedgerParts) → IsAdded Form Share known name ledger ledger 2
 none-added Form Share known name ledger = ([], inr (refl, refl), λ texts is. rw (append-nil texts) is)
+
+-- a file that was read is added
+pub one-added : (Form : Level → List ℕ → List ℕ → Type 0) (Share : Level → PlacedLine → PlacedLine → Type 0)
+    (known : Option (List ℕ)) (name text : List ℕ) (before after : LedgerParts) (status : ℕ) → IfSome known (λ all. text ≡ all)
+    → ((texts : List NamedText) → IsLedgerOfNamed Form Share texts before
+    → IsLedgerOfNamed Form Share (texts ++ record { name = name; text = text } ∷ []) after)
+    → status ≡ 0 → IsAdded Form Share known name before after status
+one-added Form Share known name text before after status all added is =
+    (record { name = name; text = text } ∷ [], inl (text, all, refl, is), added)
+
+pub text-added : (Form : Level → List ℕ → List ℕ → Type 0) (Share : Level → PlacedLine → PlacedLine → Type 0)
+    (known : Option (List ℕ)) (name text : List ℕ) (before after : LedgerParts) (told : Result ℕ RunFault)
+    → IfSome known (λ all. text ≡ all) → IfOk told (λ status. status ≡ 0)
+    → OnOk told ((texts : List NamedText) → IsLedgerOfNamed Form Share texts before
+    → IsLedgerOfNamed Form Share (texts ++ record { name = name; text = text } ∷ []) after)
+    → IfOk told (IsAdded Form Share known name before after)
+text-added Form Share known name text before after (Ok status) all is added = one-added Form Share known name text before after status all added is
+text-added Form Share known name text before after (Err fault) all is added = tt

@@ -168,9 +168,13 @@ named_lacks at word (Some p) passes = long_lacks at word (bytes_eq (codes "level
     (bytes_eq (codes "help") p.0 || false) p.1 passes
 named_lacks at word None passes = short_lacks at word (short_of word) passes
 
+trailing_lacks : (at : Met) (word : Text) → Lacks at word (held_at at, trailing 1)
+trailing_lacks at word = grind arith
+
 either_lacks : (at : Met) (word : Text) (b : Bool) (x : Held × Step) (q : Bool) → (q ≡ true → Lacks at word x) → (b || q) ≡ true
     → Lacks at word (cond b (held_at at, trailing 1) x)
-either_lacks at word b x q lacks passes = grind arith
+either_lacks at word true x q lacks passes = trailing_lacks at word
+either_lacks at word false x q lacks passes = lacks passes
 
 -- whatever the word is, it is no second text
 word_lacks : (at : Met) (word : Text) → word_passes built_same [] false (waiting_at at) word (held_at at) ≡ true

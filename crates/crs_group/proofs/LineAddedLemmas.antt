@@ -91,6 +91,15 @@ module _ (Form : Level → List ℕ → List ℕ → Type 0) (Share : Level → 
     blank = grind arith;
   }
 
+  -- the ledger of no texts
+  pub none-named : (level : Level) → IsLedgerOfNamed Form Share [] (no_lines level)
+  none-named level = record {
+    of_texts = record { placed = []; are_lines = refl; whole = none-added Form Share level };
+    names = refl;
+    blanks = refl;
+    lines = refl;
+  }
+
   -- the ledger of one more line
   pub ledger-more : (named : Bool) (lines : List (List ℕ)) (line : List ℕ) (before after : LedgerParts) (place : Placed)
       → IsLedgerOf Form Share named lines before

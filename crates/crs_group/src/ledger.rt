@@ -44,8 +44,7 @@ impl Model for Ledger {
 }
 
 impl Ledger {
-    /// The ledger of no lines.
-    pub fn new(alloc: Global, level: Level) -> Ledger
+    pub(crate) fn new(alloc: Global, level: Level) -> Ledger
         ensures { result ≡ no_lines level }
     {
         Ledger {
@@ -55,6 +54,14 @@ impl Ledger {
             lines: 0,
             blank: 0,
         }
+    }
+
+    /// The ledger of no texts, which are added in this way.
+    pub fn of<A: Adding>(alloc: Global, adding: &A) -> Ledger
+        ensures texts { IsLedgerOfNamed (A.Form adding.now) (A.Share adding.now) [] result }
+        ensures level { result.catalogue.level ≡ A.level adding.now }
+    {
+        Ledger::new(alloc, adding.level())
     }
 
     pub(crate) fn add<A: Adding>(&mut self, way: &Way<A>, line: &[u8]) -> Result<(), AllocError>

@@ -2,7 +2,8 @@
 ghost use Rattle.std.specs.Prelude.{◌≡◌, IfOk, IsSome, None, Some, option_and_then};
 ghost use Rattle.clap.specs.Words.{found_of, rows_of, subcommand_rows_of};
 ghost use Rattle.crs_desk.specs.Requests.{asked_for, explain_operands, explain_work, file_work, over_files};
-ghost use Rattle.crs_desk.specs.Requests.{pair_of, request_for, request_of, same_for, same_of};
+ghost use Rattle.crs_desk.specs.Requests.{pair_of, request_for, request_of, same_of};
+ghost use Rattle.crs_desk.specs.declared.line.requests.Comparison.TheVariants as comparisons;
 ghost use Rattle.crs_desk.specs.declared.line.requests.Task.TheVariants as tasks;
 ghost use Rattle.crs_desk.specs.declared.line.requests.Work.TheVariants as works;
 
@@ -175,11 +176,23 @@ fn request_for(level: LineWord, order: LineWords, work: Work) -> Request
     ensures { result ≡ request_for level order work }
 {
     match work {
-        Work::Standard(Task::Canon(Layout::OneText)) => Request::Canon(level),
-        Work::Standard(Task::Check(Layout::OneText, Manner::Lines)) => Request::Check,
-        Work::Standard(Task::Group(listing)) => group_for(level, order, listing),
-        Work::Pair(Comparison::Same(Manner::Lines), pair) => same_for(level, order, pair),
+        Work::Standard(task) => standard_for(level, order, task),
+        Work::Pair(Comparison::Same(how), pair) => same_for(level, order, how, pair),
         work => Request::Other { level, order, work },
+    }
+}
+
+fn standard_for(level: LineWord, order: LineWords, task: Task) -> Request
+    ensures { result ≡ request_for level order (works.Standard task) }
+{
+    match task {
+        Task::Canon(Layout::OneText) => Request::Canon(level),
+        Task::Check(Layout::OneText, Manner::Lines) => Request::Check,
+        Task::Group(listing) => group_for(level, order, listing),
+        task => {
+            let work = Work::Standard(task);
+            Request::Other { level, order, work }
+        }
     }
 }
 
@@ -193,12 +206,15 @@ fn group_for(level: LineWord, order: LineWords, listing: Listing) -> Request
     Request::Group(level)
 }
 
-fn same_for(level: LineWord, order: LineWords, pair: LinePair) -> Request
-    ensures { result ≡ same_for level order pair.kind pair.rules pair }
+fn same_for(level: LineWord, order: LineWords, how: Manner, pair: LinePair) -> Request
+    ensures { result ≡ request_for level order (works.Pair (comparisons.Same how) pair) }
 {
-    if matches!(pair.kind, WordKind::Text) && pair.rules.is_empty() {
+    if matches!(how, Manner::Lines)
+        && matches!(pair.kind, WordKind::Text)
+        && pair.rules.is_empty()
+    {
         return Request::Same(pair.first, pair.second, level);
     }
-    let work = Work::Pair(Comparison::Same(Manner::Lines), pair);
+    let work = Work::Pair(Comparison::Same(how), pair);
     Request::Other { level, order, work }
 }

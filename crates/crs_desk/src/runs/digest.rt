@@ -33,7 +33,7 @@ impl TextCommand for DigestText<'_> {
 
     fn output(&self, alloc: Global, text: &[u8]) -> Result<(Vec<u8>, u8), AllocError> {
         match bytes_of(alloc, text, self.by) {
-            Ok(bytes) => Ok((digest_line(alloc, bytes.bytes())?, 0)),
+            Ok(canon) => Ok((digest_line(alloc, canon.bytes())?, 0)),
             Err(fault) => Ok((refused_line(alloc, b"", refusal_in(fault)?)?, 1)),
         }
     }

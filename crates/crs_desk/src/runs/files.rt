@@ -56,7 +56,7 @@ pub fn run_files<I: Inputs, W: Write>(
     w: &mut Sink<W>,
 ) -> Result<u8, RunFault>
     requires { w.old ≡ fresh_sink w.old.contents }
-    ensures answered { IfOk result (AreFilesAnswered task.entry named.entry (I.known files.now) names.now w.old w.new) }
+    ensures answered { IfOk result (AreFilesAnswered task.entry named (I.known files.now) names.now w.old w.new) }
     ensures fault { IfErr result (IsFilesFault w.new) }
     ensures past_failure { w.new.past_failure ≡ false }
 {

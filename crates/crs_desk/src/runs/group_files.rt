@@ -1,8 +1,8 @@
 //! Groups whole files, a text each, by their names.
-ghost use Rattle.std.specs.Prelude.{◌≡◌, ◌≤◌, ◌+◌, ◌^◌, ◌<◌, ◌++◌, [], List, IfErr, IfOk, false, length};
+ghost use Rattle.std.specs.Prelude.{◌≡◌, ◌≤◌, ◌+◌, ◌^◌, ◌<◌, ◌++◌, ◌∷◌, [], List, IfErr, IfOk, OnOk, false, length};
 ghost use Rattle.crs_streams.specs.Streams.{fresh_sink};
 ghost use Rattle.crs_group.specs.Names.{NamedText};
-ghost use Rattle.crs_group.specs.inner.GroupReading.{IsLedgerOfNamed, no_lines};
+ghost use Rattle.crs_group.specs.inner.GroupReading.{IsLedgerOfNamed};
 ghost use Rattle.crs_desk.specs.FilesGrouped.{AreFilesGrouped, AreReadFiles, IsReadFile};
 ghost use Rattle.crs_desk.specs.FilesRun.{IsFilesFault};
 ghost use Rattle.crs_desk.specs.inner.FilesGrouping.{AreAdded, IsAdded};
@@ -31,7 +31,7 @@ pub fn run_group_files<A: Adding, I: Inputs, W: Write>(
     ensures fault { IfErr result (IsFilesFault w.new) }
     ensures past_failure { w.new.past_failure ≡ false }
 {
-    let mut ledger = Ledger::new(alloc, adding.level());
+    let mut ledger = Ledger::of(alloc, adding);
     let failed = add_files(alloc, adding, names, files, &mut ledger)?;
     let text = listed_text(alloc, listing, &ledger).map_err(|_| RunFault::Memory)?;
     w.write_all(&text).map_err(|_| RunFault::WriteFailed)?;
@@ -47,7 +47,8 @@ fn add_files<A: Adding, I: Inputs>(
     files: &I,
     ledger: &mut Ledger,
 ) -> Result<u8, RunFault>
-    requires { ledger.old ≡ no_lines (A.level adding.now) }
+    requires texts { IsLedgerOfNamed (A.Form adding.now) (A.Share adding.now) [] ledger.old }
+    requires level { ledger.old.catalogue.level ≡ A.level adding.now }
     ensures added { IfOk result (AreAdded (A.Form adding.now) (A.Share adding.now) (A.level adding.now) (I.known files.now)
         names.now ledger.new) }
     ensures fault { IfErr result (λ fault. fault ≡ RunFault.Memory) }
@@ -79,16 +80,34 @@ fn add_file<A: Adding, I: Inputs>(
         return Ok(FAILED);
     };
     match read_text(alloc, &mut Source::new(Filling::new(&mut input))) {
-        Ok(text) => {
-            ledger
-                .add_named(adding, name.as_str().as_bytes(), &text)
-                .map_err(|_| RunFault::Memory)?;
-            Ok(0)
-        }
+        Ok(text) => add_text(adding, name, &text, ledger),
         Err(RunFault::Memory) => Err(RunFault::Memory),
         Err(fault) => {
             files.tell(name.as_str(), &input, &fault);
             Ok(FAILED)
         }
+    }
+}
+
+fn add_text<A: Adding>(
+    adding: &A,
+    name: &LineWord,
+    text: &[u8],
+    ledger: &mut Ledger,
+) -> Result<u8, RunFault>
+    requires { ledger.old.lines + 1 < 2 ^ 64 }
+    ensures ok { IfOk result (λ status. status ≡ 0) }
+    ensures added { OnOk result ((texts : List NamedText) →
+        IsLedgerOfNamed (A.Form adding.now) (A.Share adding.now) texts ledger.old →
+        IsLedgerOfNamed (A.Form adding.now) (A.Share adding.now)
+        (texts ++ record { name = name.now; text = text.now } ∷ []) ledger.new) }
+    ensures lines { OnOk result (ledger.new.lines ≡ ledger.old.lines + 1) }
+    ensures level { ledger.new.catalogue.level ≡ ledger.old.catalogue.level }
+    ensures fault { IfErr result (λ fault. fault ≡ RunFault.Memory) }
+{
+    let name = name.as_str().as_bytes();
+    match ledger.add_named(adding, name, text) {
+        Ok(()) => Ok(0),
+        Err(_) => Err(RunFault::Memory),
     }
 }

@@ -23,5 +23,5 @@ returns c =
     (Some c.in-Some-Some.first) (Some c.in-Some-Some.second) c.get_str.ensures c.get_str-2.ensures (search rules) (search rules) in
     IfOk-weaker c.asked_for.result _ _
     (λ found is. sym read
-        ∙ ap Some (ap₂ (λ how p. asked_for (Pair (Same how) p) rows) (sym c.manner.ensures) (sym c.in_ok-pair-in-Some-Some.ensures) ∙ sym is))
+    ∙ ap Some (ap₂ (λ how p. asked_for (Pair (Same how) p) rows) (sym c.manner.ensures) (sym c.in_ok-pair-in-Some-Some.ensures) ∙ sym is))
     c.asked_for.ensures

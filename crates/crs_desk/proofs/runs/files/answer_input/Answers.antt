@@ -31,3 +31,17 @@ returns-in-FormLines-clause-fault g c =
     subst (λ (t : FileTask). IfErr c.answer_lines-in-FormLines.result
     (IsFileFault (IsTaskFront t) c.args.prefix.now (g.R.Read.remaining c.args.reader) c.args.sink.now
     c.answer_lines-in-FormLines.new.sink)) (sym asked) c.answer_lines-in-FormLines.ensures.fault
+
+pub returns-in-FormLines-clause-answered : goal.returns-in-FormLines-clause-answered
+returns-in-FormLines-clause-answered g c =
+    let asked : c.args.task ≡ task.FormLines c.in-FormLines.level c.in-FormLines.rules = search rules in
+    subst (λ (t : FileTask). IfOk c.answer_lines-in-FormLines.result
+    (IsAnswerSent (IsTaskOutput t) c.args.prefix.now (g.R.Read.remaining c.args.reader) c.args.sink.now
+    c.answer_lines-in-FormLines.new.sink)) (sym asked) c.answer_lines-in-FormLines.ensures.answered
+
+pub returns-in-CheckLines-clause-fault : goal.returns-in-CheckLines-clause-fault
+returns-in-CheckLines-clause-fault g c =
+    let asked : c.args.task ≡ task.CheckLines c.in-CheckLines.how = search rules in
+    subst (λ (t : FileTask). IfErr c.answer_lines-in-CheckLines.result
+    (IsFileFault (IsTaskFront t) c.args.prefix.now (g.R.Read.remaining c.args.reader) c.args.sink.now
+    c.answer_lines-in-CheckLines.new.sink)) (sym asked) (rw c.blank_told.ensures at c.answer_lines-in-CheckLines.ensures.fault)
