@@ -55,7 +55,7 @@ const JSON_HELP: &str = "Writes objects of JSON, one a line";
 
 const LINES_HELP: &str = "Takes each line as a text";
 
-const REPEATED_HELP: &str = "Writes the groups of two lines or more alone";
+const REPEATED_HELP: &str = "Writes the groups of two texts or more alone";
 
 const NAMES_HELP: &str =
     "Takes the front of each line, up to a tab, as its name, and writes names for numbers";
@@ -84,7 +84,7 @@ const DIGEST_STATUS: &str = "Status: 0 and the digest, 1 and the refusal, 2 for 
 
 const CHECK_STATUS: &str = "Status: 0 and the kind, 1 and the refusal, 2 for a fault.";
 
-const GROUP_STATUS: &str = "Status: 0, 1 where a line was refused, 2 for a fault.";
+const GROUP_STATUS: &str = "Status: 0, 1 where a text is refused, 2 for a fault.";
 
 const EXPLAIN_STATUS: &str = "Status: 0, 1 for a refusal or a difference, 2 for a fault.";
 
@@ -233,7 +233,7 @@ fn desk_alone<'a>(alloc: Global) -> Command<'a>
     ensures globals { (fields_of result).has_globals ≡ false }
 {
     Command::new(alloc, "crsdesk")
-        .about("Reads, compares and spells coordinate reference systems")
+        .about("Reads, compares and spells coordinate reference systems in WKT2 (ISO 19162:2019)")
         .version(VERSION)
         .subcommand_required(true)
 }

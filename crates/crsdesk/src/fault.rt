@@ -33,12 +33,3 @@ impl From<AllocError> for Fault {
     }
 }
 
-// The words of the command line couldn't be read.
-impl From<io::Error> for Fault {
-    fn from(error: io::Error) -> Fault {
-        if error.kind() == io::ErrorKind::OutOfMemory {
-            return Fault::Run(RunFault::Memory);
-        }
-        Fault::Word
-    }
-}

@@ -1,5 +1,5 @@
 //! What texts are read from: standard input, and files by their names.
-use crate::messages::tell_of;
+use crate::messages::{tell_marked, tell_of};
 use crs_desk::{Inputs, RunFault};
 use std::fs::File;
 use std::io;
@@ -71,6 +71,9 @@ impl Inputs for Opener {
     ghost known = { λ opener name. None };
 
     fn open(&self, name: &str) -> Option<Input> {
+        if tell_marked(&self.rt, name) {
+            return None;
+        }
         match Input::open(&self.rt, name) {
             Ok(input) => Some(input),
             Err(error) => {

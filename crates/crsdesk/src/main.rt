@@ -9,10 +9,10 @@ mod runs;
 
 use crs_desk::{JobFault, PATH_WORDS, RequestFault, RunFault, is_verbose, request};
 use fault::Fault;
-use messages::{tell_bad_words, words_of};
+use messages::{is_marked, line_words, tell_bad_words, words_of};
 use runs::answer;
 use std::process::ExitCode;
-use std::{env, io};
+use std::io;
 
 const FAULT: u8 = 2;
 
@@ -25,10 +25,11 @@ fn main(rt: HostRuntime) -> ExitCode {
 }
 
 fn run(rt: &HostRuntime) -> Result<u8, Fault> {
-    let owned: Vec<String> = env::args(rt)?.collect(rt.alloc())?;
+    let owned = line_words(rt, &words_of(rt)?)?;
     let words: Vec<&str> = owned.iter().map(|word| word.as_str()).collect(rt.alloc())?;
     match request(rt.alloc(), &words) {
         Ok(asked) => answer(rt, &asked.into_job(rt.alloc())?),
+        Err(RequestFault::Line(_)) if words.iter().any(|word| is_marked(word)) => Err(Fault::Word),
         Err(RequestFault::Line(error)) => Ok(tell_line(rt, &words, &error)),
         Err(RequestFault::Memory(_)) => Err(Fault::Run(RunFault::Memory)),
     }

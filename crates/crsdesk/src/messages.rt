@@ -1,4 +1,5 @@
 //! Lines on standard error. A failure of standard error itself can't be told.
+use crate::fault::Fault;
 use crs_desk::append_escaped;
 use std::alloc::{AllocError, Global};
 use std::env::Env;
@@ -35,6 +36,48 @@ pub fn words_of(rt: &HostRuntime) -> Result<Vec<Vec<u8>>, AllocError> {
         words.push(Vec::from_slice(rt.alloc(), &room[..length])?)?;
     }
     Ok(words)
+}
+
+// What stands before a word that isn't UTF-8: no word of a command line has a NUL byte.
+const MARK: char = '\0';
+
+/// The words of a command line that has these behind the program's name. One that isn't UTF-8, and no option, can only name a
+/// file, which the toolchain doesn't open: it is a mark and its bytes, shown.
+pub fn line_words(rt: &HostRuntime, words: &[Vec<u8>]) -> Result<Vec<String>, Fault> {
+    let mut texts = Vec::new(rt.alloc());
+    let program = String::from_str(rt.alloc(), "crsdesk")?;
+    texts.push(program).map_err(AllocError::from)?;
+    for word in words {
+        texts.push(line_word(rt, word)?).map_err(AllocError::from)?;
+    }
+    Ok(texts)
+}
+
+fn line_word(rt: &HostRuntime, word: &[u8]) -> Result<String, Fault> {
+    if let Ok(text) = str::from_utf8(word) {
+        return Ok(String::from_str(rt.alloc(), text)?);
+    }
+    if word.first() == Some(&b'-') {
+        return Err(Fault::Word);
+    }
+    let mut marked = String::new(rt.alloc());
+    marked.push(MARK)?;
+    marked.push_str(&bytes_shown(rt.alloc(), word)?)?;
+    Ok(marked)
+}
+
+/// Whether a word isn't UTF-8.
+pub fn is_marked(word: &str) -> bool {
+    word.starts_with(MARK)
+}
+
+/// Tells of a file whose name isn't UTF-8, if this is such a name.
+pub fn tell_marked(rt: &HostRuntime, name: &str) -> bool {
+    let Some(shown) = name.strip_prefix(MARK) else {
+        return false;
+    };
+    let _ = eprintln!(rt; "crsdesk: {shown}: the name isn't UTF-8");
+    true
 }
 
 /// A line for each of these words that isn't UTF-8, with its bytes: those outside ASCII as `\xHH`.

@@ -1,7 +1,7 @@
 //! The runs of the commands: over standard input, texts and files, with rules, which are read first, or without.
 use crate::fault::Fault;
 use crate::input::{Input, Opener, STANDARD};
-use crate::messages::{tell, tell_of};
+use crate::messages::{is_marked, tell, tell_of};
 use crate::output::Output;
 use crs_desk::{
     CanonText, CheckText, Comparison, DigestText, ExplainText, ExplainedForms, FileTask, Filling,
@@ -50,7 +50,7 @@ pub fn answer(rt: &HostRuntime, job: &Job) -> Result<u8, Fault> {
         Work::Text { how, text, rules } => {
             rules_of(rt, rules)?;
             let command = ExplainText { how: *how };
-            let text = text_of(rt, text);
+            let text = text_of(rt, text)?;
             to_standard!(rt, write_answer(&ForText { command, text }))
         }
         Work::Pair(comparison, pair) => {
@@ -176,7 +176,7 @@ impl Comparing<'_, '_, '_> {
     fn words(self, pair: &LinePair) -> Result<u8, Fault> {
         let (rt, first, second) = (self.rt, &pair.first, &pair.second);
         match pair.kind {
-            WordKind::Text => self.texts(text_of(rt, first), text_of(rt, second)),
+            WordKind::Text => self.texts(text_of(rt, first)?, text_of(rt, second)?),
             WordKind::FileName => {
                 let first = file_text(rt, first.as_str());
                 let second = file_text(rt, second.as_str());
@@ -248,12 +248,15 @@ fn written(answer: Result<u8, RunFault>, output: &Output) -> Result<u8, Fault> {
 }
 
 // The text that a word is: one with an opening delimiter. Another that names a file most likely meant that file's text.
-fn text_of<'w>(rt: &HostRuntime, word: &'w LineWord) -> &'w [u8] {
+fn text_of<'w>(rt: &HostRuntime, word: &'w LineWord) -> Result<&'w [u8], Fault> {
     let name = word.as_str();
+    if is_marked(name) {
+        return Err(Fault::Word);
+    }
     if !name.contains(['[', '(']) && Path::new(name).is_file(rt) {
         tell_of(rt, name, "this is a file; with --files its text is read");
     }
-    name.as_bytes()
+    Ok(name.as_bytes())
 }
 
 // The rules of these files together; none where there are no files. The fault of the first that has one is told.
