@@ -2,7 +2,7 @@
 ghost use Rattle.std.specs.Prelude.{◌≡◌, [], ℕ, List, Option, IfErr, IfOk, IfSome, false, OnOk};
 ghost use Rattle.crs_streams.specs.Streams.{fresh_sink};
 ghost use Rattle.crs_desk.specs.inner.FileAnswers.{Ends, IsAnswerSent, IsFileFault, IsFileSent, IsSendFault, NoFront};
-ghost use Rattle.crs_desk.specs.FilesRun.{AreFilesAnswered, IsFilesFault, IsGroupedOutput, IsTaskFront, IsTaskOutput, blank_told, is_json, name_prefix};
+ghost use Rattle.crs_desk.specs.FilesRun.{AreFilesAnswered, IsFilesFault, IsGroupedOutput, IsTaskFront, IsTaskOutput, are_named, blank_told, is_json, name_prefix};
 ghost use Rattle.crs_desk.specs.inner.LineCutting.{IsHealthy};
 ghost use Rattle.std.specs.Io.KnownBytes.{Appends};
 ghost use Rattle.crs_group.specs.GroupOutput.{IsGroupOutputBy};
@@ -61,13 +61,20 @@ pub fn run_files<I: Inputs, W: Write>(
     ensures past_failure { w.new.past_failure ≡ false }
 {
     let mut status = 0;
-    let named = named || names.len() > 1;
+    let shown = are_named(named, names);
     for name in names {
-        let prefix = prefix_of(alloc, task, named, name).map_err(|_| RunFault::Memory)?;
+        let prefix = prefix_of(alloc, task, shown, name).map_err(|_| RunFault::Memory)?;
         let own = answer_file(task, &prefix, name, files, w)?;
         status = status.max(own);
     }
     Ok(status)
+}
+
+// Whether lines begin with names of files.
+fn are_named(named: bool, names: &[LineWord]) -> bool
+    ensures { result ≡ are_named named names.now }
+{
+    named || names.len() > 1
 }
 
 // What stands before each line of a file's answer: nothing, or its name, or a first member with it.
