@@ -10,6 +10,9 @@ pub enum Fault {
     /// A word of the command line isn't UTF-8.
     #[error("a word of the command line isn't UTF-8")]
     Word,
+    /// Standard input is named twice.
+    #[error("standard input is read once, and `-` stands twice")]
+    Twice,
     /// The request is no job.
     #[error("{0}")]
     Job(#[from] JobFault),
@@ -32,4 +35,3 @@ impl From<AllocError> for Fault {
         Fault::Run(RunFault::Memory)
     }
 }
-

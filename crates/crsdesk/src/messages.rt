@@ -25,6 +25,21 @@ pub fn tell<D: Display + Drop>(rt: &HostRuntime, name: &str, words: &str, what: 
     }
 }
 
+/// `clap`'s text of a wrong command line, in which the words that it repeats are escaped.
+pub fn tell_usage(rt: &HostRuntime, error: &clap::Error) {
+    let Ok(text) = format!(in rt.alloc(); "{error}") else {
+        let _ = error.print(rt);
+        return;
+    };
+    for line in text.lines() {
+        let mut shown = Vec::new(rt.alloc());
+        if append_escaped(line.as_bytes(), &mut shown).is_ok() {
+            let shown = str::from_utf8(&shown).unwrap_or(line);
+            let _ = eprintln!(rt; "{shown}");
+        }
+    }
+}
+
 /// The words behind the program's name, also those that aren't UTF-8.
 pub fn words_of(rt: &HostRuntime) -> Result<Vec<Vec<u8>>, AllocError> {
     let mut room = vec![in rt.alloc(); 0u8; MAX_WORD]?;

@@ -7,12 +7,16 @@ use crs_desk::{
     CanonText, CheckText, Comparison, DigestText, ExplainText, ExplainedForms, FileTask, Filling,
     ForText, InALine, Inputs, Job, Layout, Level, LinePair, LineWord, LineWords, Listing, Manner,
     OfLine, PairAnswer, Rules, RulesFault, RulesReader, RunFault, SameForms, Sink, Source, Spelled,
-    Stream, Summary, Task, Told, Under, WordKind, Work, blank_told, read_text, run_canon,
-    run_check, run_files, run_group_files, run_lines, run_same, run_text, write_answer,
+    Stream, Summary, Task, Told, Under, WordKind, Work, blank_told, kind_of_text, read_text,
+    run_canon, run_check, run_files, run_group_files, run_lines, run_same, run_text, write_answer,
 };
 use crs_group::pieces::{ByCanon, ByForm};
 use crs_group::run_group_listing;
+use std::io::IsTerminal;
 use std::path::Path;
+
+// The number of the refusal of a text that ends before it is complete.
+const UNEXPECTED_END: u8 = 7;
 
 // The answer of a run with these words over standard input, taken as one text or line by line, and standard output.
 macro_rules! over_standard {
@@ -71,14 +75,71 @@ pub fn answer(rt: &HostRuntime, job: &Job) -> Result<u8, Fault> {
         } => {
             let rules = rules_of(rt, rules)?;
             let (names, rules) = (names.as_slice(), rules.as_ref());
+            hold_standard(names)?;
             if let Task::Group(listing) = *task
                 && listing.files
             {
                 return over_groups(rt, job.level, listing, names, rules);
             }
             let each = file_task(*task, job.level, rules);
-            to_standard!(rt, run_files(each, *named, names, &Opener { rt: *rt }))
+            let files = Opener { rt: *rt };
+            let answer = to_standard!(rt, run_files(each, *named, names, &files));
+            if let Ok(1) = answer {
+                hint(rt, *task, names);
+            }
+            answer
         }
+    }
+}
+
+// Standard input is read once.
+fn hold_standard(names: &[LineWord]) -> Result<(), Fault> {
+    let is_standard = |name: &&LineWord| name.as_str() == STANDARD;
+    if names.iter().filter(is_standard).count() > 1 {
+        return Err(Fault::Twice);
+    }
+    Ok(())
+}
+
+// What a user may have meant whose texts are refused: a file whose first line is no whole text, and all of which is one,
+// was meant as one. On a terminal `check` names the command that explains.
+fn hint(rt: &HostRuntime, task: Task, names: &[LineWord]) {
+    match task {
+        Task::Group(_) => {
+            if let Some(name) = names.iter().find(|name| is_one_text(rt, name.as_str())) {
+                tell_of(
+                    rt,
+                    name.as_str(),
+                    "this is one text; with --files it is grouped as one",
+                );
+            }
+        }
+        Task::Check(..) if rt.stderr().is_terminal() => {
+            let _ = eprintln!(rt; "crsdesk: explain tells why a text is refused");
+        }
+        _ => {}
+    }
+}
+
+// Whether the first line of a file is no whole text, and the file is one.
+fn is_one_text(rt: &HostRuntime, name: &str) -> bool {
+    if !Path::new(name).is_file(rt) {
+        return false;
+    }
+    let Ok(input) = Input::open(rt, name) else {
+        return false;
+    };
+    let Ok(text) = read_text(rt.alloc(), &mut Source::new(Filling::new(input))) else {
+        return false;
+    };
+    let first = text.iter().take_while(|byte| **byte != b'\n').count();
+    is_cut(rt, &text[..first]) && matches!(kind_of_text(rt.alloc(), &text), Ok(Ok(_)))
+}
+
+fn is_cut(rt: &HostRuntime, text: &[u8]) -> bool {
+    match kind_of_text(rt.alloc(), text) {
+        Ok(Err(refusal)) => refusal.number() == UNEXPECTED_END,
+        _ => false,
     }
 }
 
@@ -178,6 +239,9 @@ impl Comparing<'_, '_, '_> {
         match pair.kind {
             WordKind::Text => self.texts(text_of(rt, first)?, text_of(rt, second)?),
             WordKind::FileName => {
+                if first.as_str() == STANDARD && second.as_str() == STANDARD {
+                    return Err(Fault::Twice);
+                }
                 let first = file_text(rt, first.as_str());
                 let second = file_text(rt, second.as_str());
                 self.texts(&first?, &second?)
@@ -259,14 +323,18 @@ fn text_of<'w>(rt: &HostRuntime, word: &'w LineWord) -> Result<&'w [u8], Fault> 
     Ok(name.as_bytes())
 }
 
-// The rules of these files together; none where there are no files. The fault of the first that has one is told.
+// The rules of these files together, of which one that is named twice counts once; none where there are no files. The fault of the first that has one is told.
 fn rules_of(rt: &HostRuntime, names: &LineWords) -> Result<Option<Rules>, Fault> {
     if names.is_empty() {
         return Ok(None);
     }
     let mut reader = RulesReader::new(rt.alloc());
-    for name in names.as_slice() {
-        read_rules(rt, name.as_str(), &mut reader)?;
+    let names = names.as_slice();
+    for place in 0..names.len() {
+        let name = names[place].as_str();
+        if !names[..place].iter().any(|other| other.as_str() == name) {
+            read_rules(rt, name, &mut reader)?;
+        }
     }
     Ok(Some(reader.into_rules()))
 }
