@@ -1,5 +1,5 @@
 -- Files that are grouped, one after another.
-use Rattle.std.proofs.Common.{◌≡◌, ◌+◌, ◌++◌, ◌∷◌, [], ℕ, List, Option, None, Some, arith, append-nil, append_assoc, inl, inr, length, Err, IfOk, IfSome, Ok, OnOk, Result, refl, max, map, if◌then◌else◌}
+use Rattle.std.proofs.Common.{◌≡◌, ◌++◌, ◌∷◌, [], ℕ, List, Option, arith, append-nil, append_assoc, inl, inr, Err, IfOk, IfSome, Ok, OnOk, Result, refl, max}
 use Rattle.std.proofs.Math.Nat.{max-zero}
 use Rattle.crs_streams.specs.declared.fault.RunFault.{RunFault}
 use Rattle.crs_value.specs.declared.values.level.Level.{Level}

@@ -1,5 +1,5 @@
 -- Lines after a prefix, one after another.
-use Rattle.std.proofs.Common.{◌≡◌, ◌∙◌, ◌++◌, ◌∷◌, [], ℕ, List, Bool, true, ap, ap₂, append-nil, append_assoc, inl, inr, refl, sym, ◌==◌, codes, if◌then◌else◌}
+use Rattle.std.proofs.Common.{◌≡◌, ◌∙◌, ◌++◌, ◌∷◌, [], ℕ, List, Bool, true, ap, ap₂, append-nil, append_assoc, inl, inr, refl, sym, ◌==◌, if◌then◌else◌}
 use Rattle.crs_value.specs.declared.values.level.Level.{Level}
 use Rattle.crs_desk.specs.inner.FileAnswers.{Ends}
 use Rattle.crs_desk.specs.LinesRun.{AreOutputs, IsLineOutput, IsLinesOutput, Outputs, IsPrefixed, PrefixParts, begun, prefixed, prefixed_from}

@@ -120,10 +120,26 @@ fn tell_line(rt: &HostRuntime, words: &[&str], error: &clap::Error) -> u8 {
     } else {
         return 0;
     }
-    if words.get(1) == Some(&"explain") && words.contains(&"--lines") {
-        let _ = eprintln!(rt;
-            "crsdesk: explain takes texts; check --lines tells which lines are refused"
-        );
+    if let Some(advice) = advice(words) {
+        let _ = eprintln!(rt; "crsdesk: {advice}");
     }
     FAULT
+}
+
+// What to write in place of an option that a command doesn't have.
+fn advice(words: &[&str]) -> Option<&'static str> {
+    let command = words.get(1)?;
+    if *command == "explain" && words.contains(&"--lines") {
+        return Some("explain takes texts; check --lines tells which lines are refused");
+    }
+    if !matches!(*command, "canon" | "digest" | "check") {
+        return None;
+    }
+    if words.contains(&"--files") {
+        return Some("words are names of files here without --files");
+    }
+    if words.contains(&"--json") {
+        return Some("group --json has canonical texts in objects");
+    }
+    None
 }
