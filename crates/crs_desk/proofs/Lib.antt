@@ -1,5 +1,6 @@
 mod CheckLemmas
 mod CommandLemmas
+mod DigestLemmas
 mod AskedLemmas
 mod FaultLemmas
 mod FileLemmas

@@ -8,6 +8,7 @@ ghost use Rattle.crs_desk.specs.ExplainOutput.{TellsWhetherSame};
 ghost use Rattle.crs_desk.specs.FilesRun.{blank_told};
 ghost use Rattle.crs_desk.specs.RulesOutput.{IsFormOutput, TellsUnder, told_under, turned};
 ghost use Rattle.crs_desk.specs.declared.runs.digest.Spelled.{Spelled};
+ghost use Rattle.crs_desk.specs.declared.runs.digest.Spelled.TheVariants.{Canonical};
 ghost use Rattle.crs_desk.specs.declared.runs.manner.Manner.{Manner};
 ghost use Rattle.crs_explain.specs.Differing.{PartTexts};
 ghost use Rattle.crs_rules.specs.Rules.{RulesParts, AreRules, meaning, no_rules};
@@ -76,4 +77,13 @@ pub fn forms_spell_the_same()
     crs_canon::laws::main_theorem();
     crs_rules::laws::forms_are_canonical();
     crs_rules::laws::same_under_rules_is_equivalence();
+}
+
+/// Two texts whose CRSs are the same at a level have one digest.
+pub fn the_same_crs_has_one_digest()
+    ensures { (level : Level) (first second v w : List ℕ) (x y : Crs) → Spells first x → Spells second y →
+        SameCrs level x y → IsDigestOutput (Canonical level) first v 0 → IsDigestOutput (Canonical level) second w 0 →
+        v ≡ w }
+{
+    crs_canon::laws::main_theorem();
 }

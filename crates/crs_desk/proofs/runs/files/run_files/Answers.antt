@@ -12,8 +12,12 @@ pub loop-name-init : goal.loop-name-init
 loop-name-init g c =
     record {
       healthy = search rules;
-      sent = ([], appends-none c.args.w.now.contents, λ more others outputs.
-          let same : max 0 others ≡ others = omega arith in rw same outputs);
+      sent = (
+        [],
+        appends-none c.args.w.now.contents,
+        λ more others outputs.
+            let same : max 0 others ≡ others = omega arith in rw same outputs,
+      );
     }
 
 pub loop-name-preserved : goal.loop-name-preserved
