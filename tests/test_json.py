@@ -22,7 +22,9 @@ BROKEN: Dict[bytes, List[Dict[str, Any]]] = {
 CASES = [
     case
     for case in rows.all_cases()
-    if case.words[:1] in ([b"explain"], [b"group"], [b"check"], [b"same"]) and case.status != 2 and case.output is not None
+    if case.words[:1] in ([b"explain"], [b"group"], [b"check"], [b"same"])
+    and case.status != 2
+    and case.output is not None
     if not {b"--help", b"--json"} & {*case.words}
 ]
 
