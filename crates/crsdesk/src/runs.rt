@@ -133,7 +133,8 @@ fn is_one_text(rt: &HostRuntime, name: &str) -> bool {
         return false;
     };
     let first = text.iter().take_while(|byte| **byte != b'\n').count();
-    is_cut(rt, &text[..first]) && matches!(kind_of_text(rt.alloc(), &text), Ok(Ok(_)))
+    is_cut(rt, text.get(..first).unwrap_or(b""))
+        && matches!(kind_of_text(rt.alloc(), &text), Ok(Ok(_)))
 }
 
 fn is_cut(rt: &HostRuntime, text: &[u8]) -> bool {
