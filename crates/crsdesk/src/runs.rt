@@ -50,7 +50,7 @@ macro_rules! reader {
 /// Does a job. Its rules are read before all else.
 pub fn answer(rt: &HostRuntime, job: &Job) -> Result<u8, Fault> {
     match &job.work {
-        Work::Standard(task) => over_input(rt, job.level, *task),
+        Work::Standard(task) => hinted(rt, *task, &[], over_input(rt, job.level, *task)),
         Work::Text { how, text, rules } => {
             rules_of(rt, rules)?;
             let command = ExplainText { how: *how };
@@ -84,10 +84,7 @@ pub fn answer(rt: &HostRuntime, job: &Job) -> Result<u8, Fault> {
             let each = file_task(*task, job.level, rules);
             let files = Opener { rt: *rt };
             let answer = to_standard!(rt, run_files(each, *named, names, &files));
-            if let Ok(1) = answer {
-                hint(rt, *task, names);
-            }
-            answer
+            hinted(rt, *task, names, answer)
         }
     }
 }
@@ -99,6 +96,19 @@ fn hold_standard(names: &[LineWord]) -> Result<(), Fault> {
         return Err(Fault::Twice);
     }
     Ok(())
+}
+
+// The answer of a task, with a hint where a text is refused.
+fn hinted(
+    rt: &HostRuntime,
+    task: Task,
+    names: &[LineWord],
+    answer: Result<u8, Fault>,
+) -> Result<u8, Fault> {
+    if let Ok(1) = answer {
+        hint(rt, task, names);
+    }
+    answer
 }
 
 // What a user may have meant whose texts are refused: a file whose first line is no whole text, and all of which is one,
