@@ -90,7 +90,12 @@ fn answer(
     ensures { IsTurn (IsWanted asked.entry.1) asked.entry.0.now at entry out.old result.0 out.new result.1 }
 {
     let (texts, wanted) = asked;
-    match canon_in(*room.allocator(), text_of(texts, entry), wanted.level(), room) {
+    match canon_in(
+        *room.allocator(),
+        text_of(texts, entry),
+        wanted.level(),
+        room,
+    ) {
         Ok(canonical) => {
             let answered = made(wanted, canonical.bytes(), entry, out, at);
             *room = canonical.into_bytes();
