@@ -73,7 +73,7 @@ STARTS = {
     "fish by source": f"source {ROOT}/completions/crsdesk.fish",
 }
 SHELLS = ["bash", "zsh", "fish"]
-COMMANDS = ["canon", "check", "explain", "group", "same"]
+COMMANDS = ["canon", "check", "digest", "explain", "group", "same"]
 # How the README's commands that begin with ./crsdesk are typed.
 README = {
     "./crs\tsa\t--f\t--le\td\tex\tpoland.\tex\tpoland_g\t": (
