@@ -278,7 +278,7 @@ def test_shown(start: str, shells: Shells, program: pathlib.Path) -> None:
     tab = "\t\t" if start == "bash" else "\t"
     shell.shows(f"crsdesk {tab}", [*COMMANDS, "help"])
     for command in COMMANDS:
-        options = re.findall(r"^ +(?:-\w, )?(--\w+)", run([program, "help", command]).stdout, re.M)
+        options = re.findall(r"^ +(?:-\w, )?(--[\w-]+)", run([program, "help", command]).stdout, re.M)
         shell.shows(f"crsdesk {command} -{tab}", options)
         shell.shows(f"crsdesk {command} {tab}", ["-dash.wkt", "examples", "rules"])
     shell.shows(f"crsdesk same --level {tab}", ["full", "definition"])

@@ -191,7 +191,7 @@ def test_manual(prefix: pathlib.Path) -> None:
 def helped(prefix: pathlib.Path, *words: str) -> Set[str]:
     """The commands and options that the program's help has."""
     lines = run([prefix / "bin/crsdesk", *words]).stdout.split("\n")
-    found = [re.match(r"  +(?:(\w+)  |(-\w), (--\w+)|(--\w+))", line) for line in lines]
+    found = [re.match(r"  +(?:(\w+)  |(-\w), (--[\w-]+)|(--[\w-]+))", line) for line in lines]
     return {it for match in found if match for it in match.groups() if it}
 
 
