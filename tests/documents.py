@@ -11,7 +11,7 @@ The blocks of a document that begin with ```pycon are one session of Python, who
 is as above. A block that begins with ```rust is code that must be found, line by line, in a file of
 crates/crs_surface/src/examples, which the gate proves and runs; one that begins with ```LANGUAGE of=FILE is code that
 must be found so in that file of the repository. A link to a file of the repository must lead to one, and to a heading
-of it where it names one.
+or an anchor (<a id="NAME"></a>) of it where it names one.
 """
 from __future__ import annotations
 
@@ -161,4 +161,6 @@ def leads(path: pathlib.Path, link: str) -> bool:
     target = (path.parent / name).resolve() if name else path
     if not target.exists() or not anchor or target.suffix != ".md":
         return target.exists()
-    return anchor in {anchor_of(line) for line in without_blocks(target).split("\n") if line.startswith("#")}
+    text = without_blocks(target)
+    headings = {anchor_of(line) for line in text.split("\n") if line.startswith("#")}
+    return anchor in headings or f'<a id="{anchor}"></a>' in text

@@ -16,13 +16,18 @@ def reference_of(code: int) -> Any:
     return reference
 
 
-def make_vector(path: pathlib.Path, driver: str, reference: Any, *layers: str, has_points: bool = False) -> None:
-    """Layers without a feature, or with one; where none is named one that is named as the file."""
+def make_vector(
+    path: pathlib.Path, driver: str, reference: Any, *layers: str, has_points: bool = False, has_field: bool = False
+) -> None:
+    """Layers without a feature, or with one; where none is named one that is named as the file. Some formats need a
+    field."""
     from osgeo import gdal, ogr
 
     data_set = gdal.GetDriverByName(driver).Create(str(path), 0, 0, 0, gdal.GDT_Unknown)
     for name in layers or [path.stem]:
         layer = data_set.CreateLayer(name, reference, ogr.wkbPoint)
+        if has_field:
+            layer.CreateField(ogr.FieldDefn("n", ogr.OFTInteger))
         if has_points:
             feature = ogr.Feature(layer.GetLayerDefn())
             feature.SetGeometry(ogr.CreateGeometryFromWkt("POINT (1 2)"))

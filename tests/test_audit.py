@@ -27,8 +27,9 @@ from typing import Any, Dict, FrozenSet, Iterator, List, Optional, Tuple
 import audit_archive
 import big_catalogue
 import pytest
+from audit_archive import projected
 from gdal_data import make_raster, make_vector, reference_of
-from support import HEIGHT, NOBODY, ROOT, need, package, run
+from support import HEIGHT, NOBODY, NOTED, ROOT, need, package, run
 
 pytest.importorskip("jinja2")
 pytest.importorskip("rich")
@@ -283,10 +284,12 @@ def test_terminal_has_the_summary_and_the_near_misses() -> None:
     head, *misses = output.split("\n\n")
     accepted = wanted["texts"] - len(wanted["refused"])
     assert f"texts        {wanted['texts']:,}: {accepted:,} accepted, {len(wanted['refused'])} refused\n" in head
-    assert f"; by definition {len(wanted['spelled'])}\n" in head
+    assert f", of which {len(wanted['spelled'])} differ in more than identifiers, usages and remarks\n" in head
     assert "near misses  4 (numbers 2, axes 1, names and digits 1)\n" in head
-    for number, count in collections.Counter(it[3] for it in wanted["refused"]).items():
-        assert re.search(rf"^refused      {number} \w+: {count} texts?$", head, re.MULTILINE), number
+    # Each refusal is counted once, in plain words.
+    causes = audited().data["summary"]["causes"]
+    assert f"causes       {'; '.join('{name}: {texts}'.format(**it) for it in causes)}\n" in head + "\n", head
+    assert "cut off, or a bracket is open" in head and "\nrefused" not in head
     numbers = {number: name for name, number in numbers_of_definitions().items()}
     found = []
     for miss in misses:
@@ -297,6 +300,20 @@ def test_terminal_has_the_summary_and_the_near_misses() -> None:
         paths = [line.strip().partition(":")[0] for line in lines if line.startswith("    ")]
         found.append((match[1], match[2], both, sorted(paths)))
     assert sorted(found) == with_sorted_paths(wanted_near_misses())
+
+
+def test_terminal_shows_all_likely_mistakes() -> None:
+    """However many they are, and before those of names."""
+    texts = {}
+    for zone in range(1, 31):
+        texts[f"{zone}.wkt"] = projected(zone, rest=f',ID["S",{zone}]')
+        texts[f"{zone} odd.wkt"] = projected(zone, flattening="298.25")
+        texts[f"{zone} old.wkt"] = projected(zone, f"old {zone}", rest=f',ID["S",{zone}]')
+    status, output, _ = audit(written("likely", texts))
+    heads = re.findall(r"^2 CRSs of the (?:name|identifier) (.*)$", output, re.MULTILINE)
+    assert status == 0 and "near misses  60 (numbers 30, names and digits 30)\n" in output
+    assert len(heads) == 30 and all(it.endswith(": numbers") for it in heads), heads
+    assert output.endswith("30 more near misses: --html and --json have all\n")
 
 
 def with_sorted_paths(misses: List[Tuple[str, str, FrozenSet[str], List[str]]]) -> List[Tuple[Any, ...]]:
@@ -615,6 +632,18 @@ def test_names_are_shown_as_text() -> None:
     assert "<img" not in files["html"] and r"$&#39;./na\xEFme.wkt&#39;" in files["html"]
     assert names.readable("a b.wkt") == "a b.wkt" and names.readable("a'\udcff") == r"$'a\'\xFF'"
     assert names.visible("a\u202eb\0") == "a\\u202Eb\\0"
+    # What isn't seen at all is written, in names and in texts; what looks like a space where values are compared alone.
+    unseen = {"a\u200bb": r"a\u200Bb", "a\ufeff": r"a\uFEFF", "\u00ad": r"\u00AD", "\U000e0041": r"\U000E0041"}
+    for text, wanted in unseen.items():
+        assert names.visible(text) == wanted and names.readable(text) == f"$'{wanted}'"
+    assert names.visible("a\u00a0b") == names.readable("a\u00a0b") == "a\u00a0b" != names.distinct("a\u00a0b")
+    place = written("unseen", {"zone\u200b31.wkt": HEIGHT.replace('"H"', '"H\u200b"'), "zone31.wkt": HEIGHT})
+    paths, words = reports("unseen")
+    status, output, _ = audit(*words, place)
+    assert status == 0 and r"\u200B" in output and "\u200b" not in output
+    for kind in ("html", "csv"):
+        text = paths[kind].read_text(encoding="utf-8")
+        assert "\u200b" not in text and r"zone\u200B31.wkt" in text and r"H\u200B" in text, kind
 
 
 class Alone:
@@ -648,6 +677,39 @@ def test_a_process_ends_in_the_middle() -> None:
     assert answers == wanted, {key: it for key, it in answers.items() if it != wanted[key]}
 
 
+# The order of what is named.
+
+
+def test_the_order_of_paths_changes_nothing() -> None:
+    """Files and folders in any order, one of them twice, and one in another."""
+    texts = {f"{folder}/{name}.wkt": HEIGHT.replace('"H"', f'"{folder} {name}"') for folder in "ab" for name in "xy"}
+    place = written("reversed", {**texts, "b/in/z.wkt": NOTED, "c.wkt": HEIGHT, "d.wkt": "x"})
+    words = ["c.wkt", "b", "d.wkt", "b/in", "a", "c.wkt"]
+    found = [audited_data(*order, cwd=place) for order in (words, words[::-1])]
+    for _, _, _, data in found:
+        assert sorted(data.pop("paths")) == sorted(words) and len(data["definitions"]) == 5
+    assert found[0] == found[1]
+
+
+# Cells that programs would take for formulas.
+
+
+def test_cells_are_no_formulas() -> None:
+    begins = ["=1+2", "+1", "-1", "@SUM(A1)", "\t=1", "\r=1", "＝1", "'1"]
+    texts = {f"{begin}.wkt": HEIGHT.replace('"H"', f'"{begin}"') for begin in begins}
+    place = written("formulas", {**texts, "plain.wkt": HEIGHT})
+    out = folder() / "formulas.csv"
+    assert audit("--csv", out, *sorted(texts), "plain.wkt", cwd=place)[0] == 2, "options begin with -"
+    assert audit("--csv", out, "--", *sorted(texts), "plain.wkt", cwd=place)[0] == 0
+    rows = list(csv.reader(out.read_bytes().decode().splitlines()))[1:]
+    assert len(rows) == len(begins) + 1
+    for row in rows:
+        assert not any(cell.startswith(tuple("=+-@\t\r＝")) for cell in row), row
+    names = {row[7] for row in rows}
+    assert names == {"'=1+2", "'+1", "'-1", "'@SUM(A1)", "\\t=1", "\\r=1", "'＝1", "''1", "H"}, names
+    assert {row[0] for row in rows} >= {"'=1+2.wkt", "'-1.wkt", "$'\\t=1.wkt'", "plain.wkt"}
+
+
 # Signals.
 
 
@@ -669,12 +731,19 @@ def test_a_signal_leaves_nothing() -> None:
             HEIGHT
         )
     for number in (signal.SIGINT, signal.SIGTERM, signal.SIGKILL):
-        out = folder() / f"out{number}"
+        out, temporary = folder() / f"out{number}", folder() / f"temporary{number}"
         out.mkdir()
+        temporary.mkdir()
         (out / "old.html").write_text("old")
         words = ["--html", out / "old.html", "--json", out / "new.json", "--jobs", "2", many]
         command = [sys.executable, "-m", "crsdesk", "audit", *map(str, words)]
-        with subprocess.Popen(command, stdout=subprocess.PIPE, stderr=subprocess.PIPE, start_new_session=True) as run:
+        with subprocess.Popen(
+            command,
+            env={**os.environ, "TMPDIR": str(temporary)},
+            stdout=subprocess.PIPE,
+            stderr=subprocess.PIPE,
+            start_new_session=True,
+        ) as run:
             while not any(it.name.startswith(".crsdesk-") for it in out.iterdir()):
                 time.sleep(0.01)
             while len(processes_of(run.pid)) < 4:
@@ -687,6 +756,7 @@ def test_a_signal_leaves_nothing() -> None:
         assert (out / "old.html").read_text() == "old" and not (out / "new.json").exists()
         if number != signal.SIGKILL:
             assert [it.name for it in out.iterdir()] == ["old.html"], list(out.iterdir())
+            assert list(temporary.iterdir()) == [], list(temporary.iterdir())
         for _ in range(3000):
             if not processes_of(run.pid):
                 break
@@ -729,8 +799,15 @@ def test_files_are_written_whole() -> None:
     assert stat.S_IMODE((place / "new.csv").stat().st_mode) == 0o666 & ~mask
     status, output, error = audit("--html", "none/a.html", "--json", "other.json", "a.wkt", cwd=place)
     assert (status, output) == (2, "") and error == "crsdesk: none/a.html: No such file or directory\n", error
-    status, output, error = audit("--csv", "/dev/stdout", "a.wkt", cwd=place)
-    assert status == 0 and output.startswith("file,layer,line,") and error == ""
+    for name in ("/dev/stdout", "-"):
+        status, output, error = audit("--csv", name, "a.wkt", cwd=place)
+        assert status == 0 and output.startswith("file,layer,line,") and error == ""
+    # What is written to standard output is the report alone.
+    status, output, error = audit("--html", "-", "a.wkt", cwd=place)
+    assert (status, error) == (0, "") and output.startswith("<!DOCTYPE html>") and output.endswith("</html>"), output
+    assert audit("--html", "-", "--json", "-", "a.wkt", cwd=place)[::2] == (
+        2, "crsdesk: -: two of the reports are to be written to it\n"
+    )  # fmt: skip
     assert audit("--csv", "/dev/full", "a.wkt", cwd=place)[::2] == (2, "crsdesk: /dev/full: No space left on device\n")
     assert audit("--csv", ".", "a.wkt", cwd=place)[::2] == (2, "crsdesk: .: Is a directory\n")
     assert sorted(it.name for it in place.iterdir()) == ["a.wkt", "link.json", "new.csv", "real.json"]
@@ -762,7 +839,7 @@ def test_statuses() -> None:
     place = written("statuses", {"a.wkt": HEIGHT, "b.txt": "x[", "c.other": HEIGHT})
     assert audit(".", cwd=place)[::2] == (0, "")
     status, output, error = audit("--txt", ".", cwd=place)
-    assert (status, error) == (1, "") and "refused      7 UnexpectedEnd: 1 text\n" in output
+    assert (status, error) == (1, "") and "causes       no text of a CRS: 1\n" in output
     assert audit("missing", cwd=place)[::2] == (2, "crsdesk: missing: No such file or directory\n")
     assert "texts        1: 1 accepted" in audit("c.other", cwd=place)[1]
     assert "files        1; 2 others aren't read (.other 1, .txt 1)\n" in audit(".", cwd=place)[1]

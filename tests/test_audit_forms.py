@@ -10,7 +10,7 @@ import re
 from typing import Any, Dict, List, Optional, Tuple
 
 import pytest
-from gdal_data import make_vector, reference_of
+from gdal_data import make_raster, make_vector, reference_of
 from support import HEIGHT, ROOT, need
 from test_audit import audit, audited_data, folder, written
 from test_audit_hostile import server
@@ -88,7 +88,28 @@ def test_old_forms_are_read_where_that_is_asked() -> None:
         "X-axis translation 598.1" in ways[0] and "X-axis translation 598.2" in ways[1] and found["esri.prj"][2] is None
     )
     (miss,) = [it for it in data["near_misses"] if it["pairs"][0]["parts"][-1]["path"] == "transformation"]
-    assert miss["kind"] == "datum" and [it["path"] for it in miss["pairs"][0]["parts"]] == ["transformation"]
+    assert miss["kind"] == "transformation" and [it["path"] for it in miss["pairs"][0]["parts"]] == ["transformation"]
+
+
+@by_proj
+def test_a_bound_crs_is_in_the_group_of_its_source() -> None:
+    """Where that is asked: it is told with its transformation, and is no near miss of another one."""
+    bound = text_of("dhdn_towgs84.prj")
+    plain = bound.replace(",TOWGS84[598.1,73.7,418.2,0.202,0.045,-2.455,6.7]", "")
+    assert plain != bound
+    texts = {"bound.prj": bound, "other.prj": bound.replace("598.1", "598.2"), "plain.prj": plain}
+    page = folder() / "source.html"
+    place = written("source", texts)
+    _, output, data = data_of(place, "--convert", "--source-of-bound", "--html", page)
+    (group,) = data["definitions"]
+    ways = {os.path.basename(it["places"][0]["file"]): it["transformation"] for it in group["variants"]}
+    assert ways["plain.prj"] is None and "598.1" in ways["bound.prj"] and "598.2" in ways["other.prj"], ways
+    assert group["transformation"] is None and data["near_misses"] == [] and data["summary"]["bound"] == 2
+    assert [[it["path"] for it in variant["parts"]] for variant in group["variants"]] == [[], *2 * [["transformation"]]]
+    assert "bound        2 texts with a transformation, in the groups of their source CRSs\n" in output, output
+    assert page.read_text(encoding="utf-8").count("With its transformation: ") == 2
+    _, output, data = data_of(place, "--convert")
+    assert len(data["definitions"]) == 3 and "bound        2 texts with a transformation\n" in output
 
 
 @by_proj
@@ -117,7 +138,7 @@ def test_what_is_repaired_is_refused() -> None:
         "unknown.wkt": ("EPSG:99999", "crs not found"),
         "key.wkt": (RD + " +foo=1", "+foo isn't known"),
         "twice.wkt": (RD + " +k=0.9", "+k is there twice"),
-        "effect.wkt": ("+proj=utm +zone=31 +lat_0=5", "+lat_0=5 has no effect"),
+        "effect.wkt": ("+proj=utm +zone=31 +lat_0=5", "+lat_0=5 at character 19 has no effect"),
         "no.wkt": ("+proj=nothing", ""),
     }
     place = written("repaired", {name: text for name, (text, _) in wanted.items()})
@@ -223,6 +244,133 @@ def test_texts_of_one_data_set_are_compared() -> None:
     assert data["summary"]["disagreeing"] == 0 and [it["kind"] for it in data["data_sets"]] == [None, None]
 
 
+def make_sound_sets(place: pathlib.Path) -> None:
+    """Data sets of registered CRSs by several formats, with the texts of several tools beside them, and no mistake."""
+    from osgeo import gdal
+
+    gdal.UseExceptions()
+    gdal.PushErrorHandler("CPLQuietErrorHandler")
+    for code in (4326, 4258, 4807, 31467, 2193, 3035, 27700, 28355, 5514, 3857, 2056):
+        texts = [text_of_code(code, form) for form in ("WKT1_ESRI", "WKT1_GDAL", "WKT2_2019")]
+        texts.append(re.sub(r',AXIS\["[^"]*",\w+\]', "", texts[1]))
+        # What is beside each: .prj, and perhaps .qpj.
+        for number, (prj, *qpj) in enumerate(((0,), (0, 1), (0, 2), (0, 3))):
+            make_vector(place / f"{code}_{number}.shp", "ESRI Shapefile", reference_of(code))
+            for suffix, text in zip((".prj", ".qpj"), (prj, *qpj)):
+                (place / f"{code}_{number}{suffix}").write_text(texts[text])
+        for suffix, driver in (("tif", "GTiff"), ("img", "HFA"), ("tab", "MapInfo File")):
+            path = place / f"{code}_{suffix}.{suffix}"
+            if suffix == "tab":
+                make_vector(path, driver, reference_of(code), has_points=True, has_field=True)
+            else:
+                make_raster(path, driver, reference_of(code), (1, 0.1, 0, 2, 0, -0.1))
+            path.with_suffix(".prj").write_text(texts[0])
+    gdal.PopErrorHandler()
+
+
+def text_of_code(code: int, form: str) -> str:
+    return str(reference_of(code).ExportToWkt([f"FORMAT={form}", "MULTILINE=NO"]))
+
+
+@pytest.mark.needs("python3:osgeo")
+def test_a_geotiff_has_the_flattening_of_its_code() -> None:
+    """GDAL reckons it anew, in another last digit. Another flattening beside the code stays as it is, or GDAL warns of it."""
+    from osgeo import osr
+
+    place = written("flattening", {"dhdn.wkt": text_of_code(4314, "WKT2_2019")})
+    make_raster(place / "dhdn.tif", "GTiff", reference_of(4314), (1, 0.1, 0, 2, 0, -0.1))
+    for name, number in (("near", "299.15281281"), ("far", "299.15")):
+        other = osr.SpatialReference()
+        other.ImportFromWkt(text_of_code(4314, "WKT2_2019").replace("299.1528128", number))
+        make_raster(place / f"{name}.tif", "GTiff", other, (1, 0.1, 0, 2, 0, -0.1))
+    _, _, data = data_of(place)
+    groups = [sorted(os.path.basename(place["file"]) for place in places_of(it)) for it in data["definitions"]]
+    numbers = [re.findall(r'ELLIPSOID\["[^"]*",[^,]*,([0-9.]*)', it["text"]) for it in data["definitions"]]
+    assert groups == [["dhdn.tif", "dhdn.wkt"], ["near.tif"]] and numbers[0] == ["299.1528128"], (groups, numbers)
+    assert numbers[1][0].startswith("299.1528128") and float(numbers[1][0]) > 299.152812809, numbers
+    (unread,) = data["unread"]
+    assert unread["place"]["file"].endswith("far.tif") and "EPSG:4314" in unread["why"], unread
+
+
+def places_of(definition: Any) -> List[Any]:
+    return [place for variant in definition["variants"] for place in variant["places"]]
+
+
+@by_proj
+def test_no_sound_data_set_disagrees() -> None:
+    """With and without rules, but for what MapInfo's format can't say: units of degrees, false eastings, a scale."""
+    need("python3:osgeo")
+    place = folder() / "sound"
+    place.mkdir()
+    make_sound_sets(place)
+    shipped = [("--rules", ROOT / "rules" / f"{name}.rules") for name in ("producers", "any-order")]
+    for words in ((), *shipped, (*shipped[0], *shipped[1])):
+        _, output, data = data_of(place, "--convert", *words)
+        assert data["summary"]["data_sets"] == 11 * 7, data["summary"]
+        told = {
+            os.path.basename(it["path"]): it["kind"] for it in data["data_sets"] if it["kind"] != "names and digits"
+        }
+        told = {name: kind for name, kind in told.items() if kind is not None}
+        assert told == dict.fromkeys(("31467_tab", "3035_tab", "4807_tab", "5514_tab"), "numbers"), (words, told)
+        assert data["summary"]["disagreeing"] == 4 and output.count(" disagree\n") == 5
+        # No CRS is one of another name's or code's by numbers, axes or datum, but in what MapInfo wrote.
+        kinds_of = [it["kind"] for it in data["near_misses"]]
+        assert "axes" not in kinds_of and "datum" not in kinds_of, (words, kinds_of)
+
+
+@by_proj
+def test_disagreement_is_of_one_data_set_alone() -> None:
+    """Axes that a text states count against another's own, and nothing that other files say."""
+    wgs84 = text_of("wgs84_projinfo_2019.wkt")
+    axes = re.findall(r'AXIS\["[^"]*",\w+', wgs84)
+    turned = wgs84.replace(axes[0], "FIRST").replace(axes[1], axes[0]).replace("FIRST", axes[1])
+    esri = text_of("wgs84_esri.prj")
+    shift = text_of("dhdn_towgs84.prj")
+    texts = {
+        "filled.prj": esri, "filled.qpj": wgs84, "filled2.prj": esri, "filled2.qpj": turned,
+        "stated.prj": turned, "stated.qpj": wgs84,
+        "left out.prj": shift, "left out.qpj": re.sub(r",TOWGS84\[[^]]*\]", "", shift),
+        "shifts.prj": shift, "shifts.qpj": shift.replace("598.1", "598.2"),
+    }  # fmt: skip
+    others = {"other.wkt": turned, "another.wkt": wgs84, "same.wkt": esri}
+    for files in (texts, {**texts, **others}):
+        place = written("own axes", files)
+        _, _, data = data_of(place, "--convert")
+        told = {os.path.basename(it["path"]): it["kind"] for it in data["data_sets"]}
+        assert (told["stated"], told["shifts"]) == ("axes", "transformation"), told
+        assert {told[name] for name in ("filled", "filled2", "left out")} <= {None, "names and digits"}, told
+        assert data["summary"]["disagreeing"] == 2, told
+
+
+@by_proj
+def test_a_near_miss_tells_whose_axes_differ() -> None:
+    """Where a text that states its axes is in one group with such as have none."""
+    wgs84 = text_of("wgs84_projinfo_2019.wkt")
+    axes = re.findall(r'AXIS\["[^"]*",\w+', wgs84)
+    turned = wgs84.replace(axes[0], "FIRST").replace(axes[1], axes[0]).replace("FIRST", axes[1])
+    esri = text_of("wgs84_esri.prj")
+    place = written("whose axes", {**dict.fromkeys("abc", wgs84), "d.prj": esri, "e.wkt": turned})
+    for name in "abc":
+        (place / name).rename(place / f"{name}.wkt")
+    page = folder() / "whose.html"
+    words = ("--convert", "--html", page, "--rules", ROOT / "rules" / "producers.rules")
+    _, output, data = data_of(place, *words)
+    assert [(it["kind"], len(it["pairs"])) for it in data["near_misses"]] == [("axes", 1)], output
+    told = f"first {place / 'e.wkt'}"
+    assert f"    with axes of its own 1 text, {told}\n" in output, output
+    assert f"<strong>with axes of its own</strong> <span>1 text, {told}</span>" in page.read_text(encoding="utf-8")
+    places = [place for it in data["definitions"] for variant in it["variants"] for place in variant["places"]]
+    filled = {os.path.basename(it["file"]): it["filled"] for it in places if "filled" in it}
+    assert filled == {"d.prj": ["axes"]}, filled
+    # Where no text of the largest group has axes of its own those that have are compared with each other.
+    place = written("more axes", {**{f"{name}.prj": esri for name in "abc"}, "d.wkt": wgs84, "e.wkt": turned})
+    _, output, data = data_of(place, "--convert")
+    (miss,) = data["near_misses"]
+    pairs = [(it["first"], it["second"], it["kind"]) for it in miss["pairs"]]
+    assert pairs == [(2, 3, "axes"), (1, 2, "names and digits"), (1, 3, "names and digits")], pairs
+    assert "3 CRSs of the name WGS 84: axes\n  2 EPSG:4326: 1 text" in output, output
+
+
 def test_what_belongs_together() -> None:
     together = [("a/b.shp", "b"), ("a/b.PRJ", ""), ("a/b.qpj", "")]
     keys = {(it.archive, it.path) for it in (belongs_to(*place) for place in together) if it}
@@ -305,7 +453,10 @@ def test_kinds_of_differences() -> None:
         ([("kind", "geographic", "projected")], kind.DATUM),
         ([("dynamic/epoch", "2010", "2015")], kind.DATUM),
         ([("dynamic/epoch", "2010", None)], kind.NAMES),
-        ([("transformation", "a", None)], kind.DATUM),
+        ([("transformation", "a", None)], kind.SHIFT),
+        ([("transformation", "a", "b"), ("datum/name", '"A"', '"B"')], kind.DATUM),
+        ([("datum/name", '"A"', '"B"'), ("system/axis1/direction", "north", "east")], kind.AXES),
+        ([("system/axis1/direction", "north", "east"), ("datum/ellipsoid/flattening", "298", "299")], kind.NUMBERS),
         ([("conversion/method/name", '"Mercator (variant A)"', '"Mercator (variant B)"')], kind.NAMES),
         ([("conversion/method/name", '"Mercator (variant A)"', '"Mercator (variant B)"'), ("conversion/parameters", 'PARAMETER["Scale factor at natural origin",0.99]', None)], kind.NUMBERS),
         ([("conversion/method/name", '"Lambert"', '"Albers"')], kind.NUMBERS),

@@ -18,7 +18,7 @@ import zipfile
 from typing import Any, Dict, Iterator, List, Tuple
 
 from gdal_data import make_raster, make_vector, reference_of
-from support import HEIGHT, NOBODY, need, run
+from support import HEIGHT, NOBODY, ROOT, need, run
 from test_audit import audit, audited_data, folder
 
 HAS_GDAL = importlib.util.find_spec("osgeo") is not None
@@ -315,6 +315,21 @@ def make_unknown(place: pathlib.Path) -> Dict[str, str]:
     return {f"{name}.geojson": why.get(name, "its CRS isn't known: ") for name in (*unknown, "far")}
 
 
+def test_latin_1_is_refused_with_its_byte() -> None:
+    """Of a .prj, and of what GDAL writes of the shapefile beside it."""
+    need("python3:osgeo")
+    place = folder() / "latin"
+    place.mkdir()
+    make_vector(place / "a.shp", "ESRI Shapefile", reference_of(28992))
+    sound = (place / "a.prj").read_text()
+    (place / "a.prj").write_bytes(sound.replace("RD_New", "RD_N\xe9w").encode("latin-1"))
+    status, _, _, data = audited_data("--convert", place)
+    found = {os.path.basename(it["place"]["file"]): it for it in data["refused"]}
+    assert status == 1 and found.keys() == {"a.shp", "a.prj"}, data
+    assert (found["a.shp"]["number"], found["a.shp"]["byte"]) == (4, len('PROJCRS["RD_N')), found
+    assert found["a.prj"]["doubts"] == ["byte 0xe9 at 12 isn't UTF-8"], found
+
+
 # The disk isn't filled.
 
 
@@ -381,3 +396,220 @@ def test_what_a_view_sorts_isnt_written() -> None:
     status, _, error, data = audit_writing_little(place)
     told = {pathlib.Path(it["place"]["file"]).stem: it["why"] for it in data["unread"]}
     assert (status, told) == (2, {"sorts": "out of memory", "waits": "SQLite: interrupted"}), (status, error)
+
+
+# Links lead to what is named alone.
+
+
+SECRET = "hunter2 is the password"
+
+
+def make_links(place: pathlib.Path) -> None:
+    """A folder with a text, and links to itself, to it, out of it, and into what a system tells of itself."""
+    (place / "in" / "below").mkdir(parents=True)
+    (place / "out" / "deep").mkdir(parents=True)
+    (place / "secret.txt").write_text(SECRET)
+    for name in ("in/a.wkt", "in/below/b.wkt", "out/c.wkt", "out/deep/d.wkt", "in/text.dat"):
+        (place / name).write_text(HEIGHT)
+    links = {
+        "root": "/",
+        "secret.prj": "../secret.txt",
+        "secret.tif": "../secret.txt",
+        "proc": "/proc/self",
+        "up": "..",
+        "other": "../out",
+        "other.wkt": "../out/c.wkt",
+        "no suffix": "../secret.txt",
+        "twin.wkt": "below/b.wkt",
+        "named.wkt": "text.dat",
+        "again": "below",
+        "itself": "itself",
+        "itself.prj": "itself.prj",
+        "to and fro": "fro and to",
+        "fro and to": "to and fro",
+    }
+    for name, target in links.items():
+        (place / "in" / name).symlink_to(target)
+
+
+def told_unread(data: Any) -> Dict[str, str]:
+    return {it["place"]["file"]: it["why"] for it in data["unread"]}
+
+
+def accepted(data: Any) -> List[str]:
+    """The files that spell CRSs."""
+    places = (place for it in data["definitions"] for variant in it["variants"] for place in variant["places"])
+    return sorted(place["file"] for place in places)
+
+
+def test_links_lead_to_what_is_named_alone() -> None:
+    place = folder() / "linked"
+    make_links(place)
+    page = place / "page.html"
+    status, output, error, data = audited_data("--html", page, "in", cwd=place)
+    out, loop = "a link that leads out of what was named (--follow follows it)", "Too many levels of symbolic links"
+    wanted = dict.fromkeys(("in/root", "in/secret.prj", "in/secret.tif", "in/up", "in/other", "in/other.wkt"), out)
+    wanted |= dict.fromkeys(("in/itself", "in/itself.prj", "in/to and fro", "in/fro and to"), loop)
+    wanted["in/proc"] = "it lies in /proc, /sys or /dev"
+    assert status == 2 and told_unread(data) == wanted, data["unread"]
+    assert accepted(data) == ["in/a.wkt", "in/below/b.wkt", "in/named.wkt", "in/twin.wkt"]
+    assert [(it["place"]["file"], it["why"]) for it in data["passed"]] == [
+        ("in/again", "a folder that is listed already")
+    ]
+    assert data["summary"]["others"] == {"": 1, ".dat": 1}
+    for text in (output, error, page.read_text(encoding="utf-8"), json.dumps(data)):
+        assert "hunter2" not in text
+    # A link that is named itself is the user's word, and so is a folder to which one leads.
+    assert accepted(audited_data("in/other.wkt", cwd=place)[3]) == ["in/other.wkt"]
+    assert accepted(audited_data("in/other", cwd=place)[3]) == ["in/other/c.wkt", "in/other/deep/d.wkt"]
+    _, _, _, data = audited_data("out", "in", cwd=place)
+    assert "in/other.wkt" in accepted(data) and "in/other" not in told_unread(data)
+    for name in ("in/itself", "in/itself.prj"):
+        assert audit(name, cwd=place)[::2] == (2, f"crsdesk: {name}: {loop}\n")
+
+
+def test_links_are_followed_where_that_is_asked() -> None:
+    place = folder() / "followed"
+    make_links(place)
+    for name in ("root", "up"):
+        (place / "in" / name).unlink()
+    (place / "out" / "back").symlink_to("../in")
+    _, output, _, data = audited_data("--follow", "in", cwd=place)
+    files = ["in/a.wkt", "in/below/b.wkt", "in/named.wkt", "in/other.wkt", "in/other/c.wkt", "in/other/deep/d.wkt"]
+    assert (
+        accepted(data) == [*files, "in/twin.wkt"] and told_unread(data)["in/proc"] == "it lies in /proc, /sys or /dev"
+    )
+    # What a link leads to isn't quoted all the same.
+    assert [it["cause"] for it in data["refused"]] == ["no text of a CRS"] and "hunter2" not in json.dumps(
+        data
+    ) + output
+    # The system's folders aren't gone into from above either.
+    from crsdesk.audit import collecting
+
+    walk = collecting.Walk(["/"], False, False, True)
+    assert [walk.holds(it) for it in ("/", "/etc", "/proc", "/proc/1", "/sys", "/dev/shm/a", "/process")] == [
+        True, True, False, False, False, False, True
+    ]  # fmt: skip
+    assert collecting.Walk(["/dev/shm/a"], False, False, False).holds("/dev/shm/a/b")
+
+
+def test_a_data_set_leads_nowhere_else() -> None:
+    """GDAL and SQLite would follow a link beside a data set, or in it."""
+    need("python3:osgeo")
+    place = folder() / "linked sets"
+    (place / "in" / "c.gdb").mkdir(parents=True)
+    (place / "secret.prj").write_text(f'PROJCS["{SECRET}"')
+    make_vector(place / "in" / "a.shp", "ESRI Shapefile", reference_of(28992))
+    make_vector(place / "in" / "b.shp", "ESRI Shapefile", reference_of(28992))
+    (place / "in" / "a.prj").unlink()
+    (place / "in" / "A.PRJ").symlink_to("../secret.prj")
+    (place / "in" / "c.gdb" / "a00000001.gdbtable").symlink_to("../../secret.prj")
+    with contextlib.closing(sqlite3.connect(place / "in" / "d.sqlite")) as base:
+        base.execute("CREATE TABLE spatial_ref_sys (srid INTEGER PRIMARY KEY, srtext TEXT)")
+    (place / "in" / "d.sqlite-wal").symlink_to("../secret.prj")
+    for words in (("in",), ("in/a.shp", "in/b.shp", "in/c.gdb", "in/d.sqlite")):
+        status, _, _, data = audited_data(*words, cwd=place)
+        told = told_unread(data)
+        out = "is a link that leads out of what was named (--follow follows it)"
+        assert (
+            status == 2
+            and told["in/a.shp"] == f"its A.PRJ {out}"
+            and told["in/c.gdb"] == f"its a00000001.gdbtable {out}"
+        )
+        assert told["in/d.sqlite"] == "SQLite: its log is a link, which isn't followed"
+        assert accepted(data) == ["in/b.shp"] and "hunter2" not in json.dumps(data)
+
+
+# A text that isn't one of a CRS isn't quoted.
+
+
+def test_what_is_no_text_of_a_crs_isnt_quoted() -> None:
+    esri = (ROOT / "examples" / "exports" / "wgs84_esri.prj").read_text()
+    texts = {
+        "words.wkt": (SECRET.encode(), "no text of a CRS"),
+        "pair.wkt": (b"admin:hunter2", "no text of a CRS"),
+        "id.wkt": (b"ID = hunter2", "no text of a CRS"),
+        "html.prj": (b"\n<!doctype HTML><p>hunter2", "HTML"),
+        "xml.prj": (b"\xef\xbb\xbf<?xml version='1.0'?><a>hunter2</a>", "XML"),
+        "json.wkt": (b'{"type": "service_account", "key": "hunter2"}', "JSON"),
+        "utf16.prj": (esri.replace("WGS", "hunter2").encode("utf-16"), "UTF-16"),
+        "utf16le.prj": (esri.replace("WGS", "hunter2").encode("utf-16-le"), "UTF-16"),
+        "binary.prj": (b"\x7fELF\x02\0hunter2" + b"a" * 100, "binary data"),
+    }
+    quoted = {
+        "cut.prj": (esri[:40], "GEOGCS"),
+        "code.wkt": ("EPSG:4326", "EPSG:4326"),
+        "string.wkt": ("+proj=utm +zone=31", "+proj=utm"),
+        "json2.wkt": ('{"$schema": "https://proj.org/schemas/v0.5/projjson.schema.json", "type": ', "$schema"),
+        "lower.wkt": ('geogcrs ["x"', "geogcrs"),
+        "datum.wkt": ('DATUM["D"]', "DATUM"),
+        "latin.prj": ('PROJCS["Syst\xe8me"', "PROJCS"),
+    }
+    place = folder() / "unquoted"
+    place.mkdir()
+    for name, (content, _) in texts.items():
+        (place / name).write_bytes(content)
+    for name, (text, _) in quoted.items():
+        (place / name).write_bytes(text.encode("latin-1"))
+    page = folder() / "unquoted.html"
+    options = ("--convert",) if any(importlib.util.find_spec(it) for it in ("osgeo", "pyproj")) else ()
+    for words in ((), options):
+        status, output, error, data = audited_data(*words, "--html", page, ".", cwd=place)
+        refused = {os.path.basename(it["place"]["file"]): it for it in data["refused"]}
+        text = page.read_text(encoding="utf-8")
+        for name, (content, cause) in texts.items():
+            its = refused[name]
+            assert (its["cause"], its["length"], its["piece"], its["hint"]) == (cause, len(content), None, None), its
+            assert its["doubts"] == [] and f"Not quoted: {cause}, {len(content):,} bytes" in text, its
+        assert all("hunter2" not in it for it in (text, output, error, json.dumps(data)))
+        for name, (_, piece) in quoted.items():
+            assert name not in refused or piece in refused[name]["piece"], refused[name]
+    assert {"cut.prj", "latin.prj", "lower.wkt"} <= refused.keys()
+
+
+def test_what_a_data_set_has_instead_is_named() -> None:
+    """In the line of the data set: a .prj in UTF-16 or HTML, entities of XML, and members with a password."""
+    need("python3:osgeo")
+    place = folder() / "instead"
+    place.mkdir()
+    make_vector(place / "sound.shp", "ESRI Shapefile", reference_of(28992))
+    text = (place / "sound.prj").read_text()
+    beside = {"utf16": text.encode("utf-16"), "html": b"<html>hunter2</html>", "words": b"hunter2\n"}
+    for name, content in beside.items():
+        for suffix in ("shp", "shx", "dbf"):
+            shutil.copyfile(place / f"sound.{suffix}", place / f"{name}.{suffix}")
+        (place / f"{name}.prj").write_bytes(content)
+    entity = '<?xml version="1.0"{}?><!DOCTYPE a [<!ENTITY b SYSTEM "file:///etc/hostname">]>'
+    make_linked_texts(place, "http://127.0.0.1:1")
+    for path in (*place.glob("*.geojson"), place / "a.kml"):
+        path.unlink()
+    gml = (place / "a.gml").read_text().replace("http://127.0.0.1:1/point", "&b;")
+    (place / "a.gml").write_text(entity.format("") + gml)
+    (place / "b.gml").write_bytes((entity.format(' encoding="UTF-16"') + gml).encode("utf-16"))
+    _, output, error, data = audited_data(place)
+    told = {os.path.basename(it["place"]["file"]): it["why"] for it in data["unread"]}
+    assert told == {
+        "utf16.shp": f"its .prj isn't read: UTF-16, {len(beside['utf16']):,} bytes",
+        "html.shp": "its .prj isn't read: HTML, 20 bytes",
+        "words.shp": "its .prj isn't read: no text of a CRS, 8 bytes",
+        **dict.fromkeys(("a.gml", "b.gml"), "its XML has entities (<!ENTITY ..>), which aren't resolved"),
+    }
+    assert "hunter2" not in output + error + json.dumps(data)
+
+
+def test_members_with_a_password_are_told() -> None:
+    """By the flag of each, as Python writes no such member; and data sets beside which there is one."""
+    path = folder() / "closed.zip"
+    with zipfile.ZipFile(path, "w") as archive:
+        for name in ("a.wkt", "b.shp", "c.shp", "c.prj", "d.wkt"):
+            archive.writestr(name, HEIGHT)
+    content = bytearray(path.read_bytes())
+    for member in (b"a.wkt", b"b.shp", b"c.prj"):
+        content[content.index(member) - 24] |= 1
+        content[content.rindex(member) - 38] |= 1
+    path.write_bytes(content)
+    status, _, error, data = audited_data(path)
+    told = {it["place"]["layer"]: it["why"] for it in data["unread"]}
+    closed = dict.fromkeys(("a.wkt", "b.shp", "c.prj"), "zip: encrypted")
+    assert status == 2 and told == {**closed, "c.shp": "zip: its c.prj is encrypted"}, told
+    assert [it["layer"] for it in data["definitions"][0]["variants"][0]["places"]] == ["d.wkt"]

@@ -101,7 +101,7 @@ def test_loads_without_an_error() -> None:
         opened(driver, page_of_archive())
         assert driver.get_log("browser") == []
         assert driver.title == "Audit of coordinate reference systems"
-        assert len(all_of(driver, "#groups details")) > 50 and len(all_of(driver, "svg rect.bar")) == 15
+        assert len(all_of(driver, "#groups details")) > 50 and len(all_of(driver, ".chart rect.bar")) == 15
         asked = driver.execute_script("return performance.getEntriesByType('resource').length")
         assert asked == 0, "the page asks for more than itself"
 
@@ -139,6 +139,67 @@ def test_filter_shows_matches_in_folded_sections() -> None:
         wait(lambda: any(name in it.text for it in unfolded()))
         driver.execute_script("arguments[0].value = ''; arguments[0].dispatchEvent(new Event('input'))", words)
         wait(lambda: unfolded() == [])
+
+
+def test_filter_brings_a_match_into_the_window() -> None:
+    """One far down, in a group that is folded: it is unfolded, marked and in sight; then all is as before."""
+    with browser() as driver:
+        opened(driver, page_of_archive())
+        words = driver.find_element("id", "words")
+        last = all_of(driver, "#groups details.item li")[-1].get_attribute("textContent")
+        words.send_keys(last.rpartition("/")[2])
+
+        def is_in_sight() -> bool:
+            script = (
+                "const places = [...(CSS.highlights.get('hit') || [])].map((it) => it.getBoundingClientRect());"
+                "const below = document.getElementById('filter').getBoundingClientRect().bottom;"
+                "const first = places.find((it) => it.height > 0);"
+                "return !!first && first.top >= below && first.bottom <= innerHeight"
+            )
+            return bool(driver.execute_script(script))
+
+        wait(is_in_sight)
+        assert any(last in it.text for it in shown(driver, "#groups details[open] li"))
+        assert shown(driver, "#first, #summary, #areas") == []
+        driver.execute_script("arguments[0].value = ''; arguments[0].dispatchEvent(new Event('input'))", words)
+        wait(lambda: all_of(driver, "#groups details[open]") == [] and shown(driver, "#summary") != [])
+        assert driver.execute_script("return CSS.highlights.get('hit').size") == 0
+
+
+def test_each_refusal_is_told_once() -> None:
+    """By its cause, with a bar, beside a count that follows the filter."""
+    with browser() as driver:
+        opened(driver, page_of_archive())
+        causes = [it.text for it in shown(driver, "#refused .cause summary b")]
+        bars = [float(it.get_attribute("width")) for it in all_of(driver, "#refused .cause rect.bar")]
+        assert (
+            len(causes) == len(set(causes)) == len(bars) > 4 and bars == sorted(bars, reverse=True) and bars[0] == 100
+        )
+        assert all(it.lower() not in driver.find_element("id", "summary").text.lower() for it in causes if it != "code")
+        counts = [it.text for it in shown(driver, "#refused .cause .count")]
+        assert sum(int(it.split()[0]) for it in counts) == len(all_of(driver, "#refused .item"))
+        driver.find_element("id", "words").send_keys("wkt1")
+        wait(lambda: shown(driver, "#refused .cause .count")[0].text != counts[0])
+        for label in shown(driver, "#refused .cause .count"):
+            fit, all_of_them = re.fullmatch(r"(\d+) of (\d+)", label.text).groups()  # type: ignore[union-attr]
+            group = label.find_element("xpath", "ancestor::details")
+            items = group.find_elements("css selector", ".item")
+            is_shown = "return arguments[0].filter((it) => !it.closest('[hidden]')).length"
+            assert (int(fit), int(all_of_them)) == (driver.execute_script(is_shown, items), len(items))
+
+
+def test_tables_say_what_they_have() -> None:
+    """Each has a caption, and the head of each column of values names its CRS."""
+    with browser() as driver:
+        opened(driver, page_of_archive())
+        captions = "return [...document.querySelectorAll('table')].filter((it) => !it.caption?.textContent).length"
+        assert driver.execute_script(captions) == 0 and len(all_of(driver, "table")) > 10
+        for table in all_of(driver, "#near-misses table"):
+            heads = [it.get_attribute("textContent") for it in table.find_elements("css selector", ".which th")]
+            assert len(heads) % 3 == 0 and heads[::3] == ["part"] * (len(heads) // 3)
+            assert all(re.match(r"\d+\. ", it) for it in heads[1::3] + heads[2::3]), heads
+        figures = all_of(driver, "figure")
+        assert figures and all(it.find_elements("css selector", "figcaption") for it in figures)
 
 
 def test_links_land_below_the_filter() -> None:
@@ -261,6 +322,10 @@ def test_fits_a_phone() -> None:
         driver.execute_cdp_cmd("Emulation.setDeviceMetricsOverride", metrics)
         opened(driver, page_of_archive())
         assert driver.execute_script("return [innerWidth, document.documentElement.scrollWidth]") == [390, 390]
+        widths = driver.execute_script(
+            "return [...document.querySelectorAll('.parts caption')].map(it => it.offsetWidth)"
+        )
+        assert widths and all(it > 300 for it in widths), widths
         (cell,) = all_of(driver, ".parts tbody td")[:1]
         assert cell.size["width"] > 300
 

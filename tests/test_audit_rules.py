@@ -9,12 +9,14 @@ import json
 import os
 import pathlib
 
-from audit_archive import geographic, projected
+import pytest
+from audit_archive import geographic, projected, text_of as text_of_data
+from gdal_data import make_raster, make_vector, reference_of
 from support import HEIGHT, ROOT
 from test_audit import SCHEMA, Page, audit, everything_below, folder, reports, written
-from test_audit_forms import by_file, by_proj, data_of, text_of
+from test_audit_forms import by_file, by_proj, data_of, text_of, text_of_code
 
-from crsdesk import Rules, canon
+from crsdesk import Rules, canon, same
 
 RULES = ROOT / "rules"
 PRODUCERS, ANY_ORDER = RULES / "producers.rules", RULES / "any-order.rules"
@@ -28,18 +30,15 @@ def test_groups_are_those_under_the_rules() -> None:
     assert (
         data["summary"]["without_rules"] == 3
         and "rules" not in output
-        and "CRSs         3; by definition 3\n" in output
+        and "CRSs         3, of which 3 differ in more than identifiers, usages and remarks\n" in output
     )
     status, output, data = data_of(place, "--rules", PRODUCERS)
     assert status == 0 and [it["texts"] for it in data["definitions"]] == [2, 1]
     found = by_file(data)
     assert found[UTM[0]][0] == found[UTM[1]][0] != found["rd_projinfo_2019.wkt"][0]
     assert (data["summary"]["definitions"], data["summary"]["without_rules"], data["summary"]["crss"]) == (2, 3, 3)
-    assert f"rules        {PRODUCERS}\nCRSs         3; by definition 3, under the rules 2\n" in output, output
-    assert (
-        "2 CRSs of 1 definition differ in identifiers, usages or remarks alone, or in what the rules take away\n"
-        in output
-    )
+    crss = "3, of which 3 differ in more than identifiers, usages and remarks, 2 under the rules"
+    assert f"rules        {PRODUCERS}\nCRSs         {crss}\n" in output, output
     # What a group's text is, and what tells its CRSs apart.
     rules = Rules.from_file(PRODUCERS)
     group = data["definitions"][0]
@@ -132,7 +131,7 @@ def test_the_report_names_the_rules() -> None:
     shown = f"$'{place}/<b>\\n.rules'"
     assert f"rules        {PRODUCERS}, {shown}\n" in output, output
     data = json.loads(out["json"].read_text())
-    assert [it["file"] for it in data["rules"]] == [str(PRODUCERS), str(odd)] and data["form"] == "crsdesk audit 3"
+    assert [it["file"] for it in data["rules"]] == [str(PRODUCERS), str(odd)] and data["form"] == "crsdesk audit 4"
     assert [it["text"].encode() for it in data["rules"]] == [PRODUCERS.read_bytes(), odd.read_bytes()]
     if importlib.util.find_spec("jsonschema"):
         import jsonschema
@@ -191,3 +190,37 @@ def test_rules_that_are_refused_are_told_before_anything_is_read() -> None:
         told = f"crsdesk: {name}: it is to be written, and to be read (good.rules)\n"
         assert (status, output, error) == (2, "", told), error
         assert everything_below(place) == before
+
+
+# CRSs that GDAL reads back from a format under other names, one for each of these in producers.rules.
+READ_BACK = {
+    "tif": (4226, 4266, 22300),
+    "img": (3031, 5225, 22700),
+    "tab": (
+        3906, 4122, 4131, 4149, 4150, 4167, 4181, 4202, 4205, 4218, 4237, 4239, 4245, 4248, 4258, 4272, 4277, 4283,
+        4291, 4313, 4612, 4614, 4672, 4729, 4754, 4760, 2222,
+    ),
+}  # fmt: skip
+DRIVERS = {"tif": "GTiff", "img": "HFA", "tab": "MapInfo File"}
+
+
+@pytest.mark.needs("python3:osgeo")
+@pytest.mark.parametrize("suffix", READ_BACK)
+def test_names_that_gdal_reads_back(suffix: str) -> None:
+    """Under both files of rules a CRS is the one that GDAL read from the file that it wrote, and without the files it isn't."""
+    from osgeo import gdal
+
+    rules = Rules.from_file(PRODUCERS, ANY_ORDER)
+    apart = []
+    for code in READ_BACK[suffix]:
+        path = folder() / f"back {code}.{suffix}"
+        reference = reference_of(code)
+        if suffix == "tab":
+            make_vector(path, DRIVERS[suffix], reference, has_points=True, has_field=True)
+        else:
+            make_raster(path, DRIVERS[suffix], reference, (1, 0.1, 0, 2, 0, -0.1))
+        texts = text_of_code(code, "WKT2_2019"), text_of_data(gdal.OpenEx(str(path)))
+        if not same(*texts, "definition", rules=rules):
+            apart.append(code)
+        assert not same(*texts, "definition")
+    assert apart == []

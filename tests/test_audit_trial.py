@@ -1,17 +1,20 @@
 #!/usr/bin/env python3
 """An archive as archives are, and how many of its pairs and planted mistakes an audit finds.
 
-    test_audit_trial.py [--make FOLDER | --list]
+    test_audit_trial.py [--make FOLDER | --list | --equal]
 
 The archive has 53 registered CRSs in ten forms: shapefiles with Esri's .prj, some with a .qpj, GeoTIFFs, GeoPackages,
 GeoJSON, NetCDF, texts in WKT2:2019, WKT2:2015 and WKT1, zips; and bound CRSs, damaged texts and planted mistakes, which
 --list prints. Of each text it is known which CRS it is meant to be. It is audited as it is, with conversion and the
 registry, and under the rules that ship too. --make makes the archive alone. Without words the figures are printed, which
-pytest holds against those that were reached.
+pytest holds against those that were reached. --equal prints those of another archive, in which each CRS is in each of 15
+forms once, with simplified texts, .img, .tab, TOWGS84, BOUNDCRS and a table's srtext: which pairs of texts
+are found, those that aren't by form and part, and each pair that is wrong.
 """
 from __future__ import annotations
 
 import collections
+import contextlib
 import importlib
 import itertools
 import json
@@ -19,14 +22,15 @@ import os
 import pathlib
 import random
 import re
+import sqlite3
 import sys
 import tempfile
 import zipfile
-from typing import Any, Callable, Dict, Iterable, Iterator, List, NamedTuple, Tuple
+from typing import Any, Callable, Counter, Dict, Iterable, Iterator, List, NamedTuple, Tuple
 
 import pytest
 from gdal_data import make_raster, make_vector, reference_of
-from support import package
+from support import package, succeed
 
 GEOGRAPHIC = (4326, 4258, 4269, 4267, 4289, 4314, 4230, 4283, 4167, 4807)
 PROJECTED = (
@@ -39,7 +43,6 @@ CODES = (*GEOGRAPHIC, *PROJECTED, *VERTICAL, *COMPOUND)
 TEXTS = 974
 # The CRSs that GDAL doesn't write to NetCDF, or doesn't read back.
 NOT_IN_NETCDF = (2056, 21781, 5514, 27572)
-FIRST = 22
 RULES = pathlib.Path(__file__).resolve().parent.parent / "rules"
 SHIPPED = ("producers.rules", "any-order.rules")
 # The mistakes that the shipped rules take away: under them the order of axes doesn't count.
@@ -103,6 +106,9 @@ DAMAGES: Tuple[Tuple[str, int, Callable[[str], str]], ...] = (
 
 
 def text_of(code: int, form: str) -> str:
+    if form.endswith("SIMPLIFIED"):
+        # GDAL doesn't write it.
+        return succeed(["projinfo", "-q", "--single-line", "-o", "WKT2:2019_SIMPLIFIED", f"EPSG:{code}"]).strip()
     return str(reference_of(code).ExportToWkt([f"FORMAT={form}", "MULTILINE=NO"]))
 
 
@@ -244,6 +250,92 @@ def forms_of(archive: Archive) -> Iterator[Callable[[int], Any]]:
     yield archive.add_zip
 
 
+# Each CRS in each form, once.
+
+TEXT_FORMS = {
+    "WKT2_2019": "wkt2",
+    "WKT2_2019_SIMPLIFIED": "wkt2",
+    "WKT2_2015": "wkt2",
+    "WKT1_GDAL": "wkt",
+    "WKT1_ESRI": "prj",
+}
+SHIFT = "598.1,73.7,418.2,0.202,0.045,-2.455,6.7"
+DATA_FORMS = {"shp": "ESRI Shapefile", "tab": "MapInfo File", "gpkg": "GPKG", "geojson": "GeoJSON"}
+RASTERS = {"tif": "GTiff", "img": "HFA", "nc": "netCDF"}
+
+
+def make_equal(folder: pathlib.Path) -> Archive:
+    """Makes the archive of equal parts. GDAL writes no NetCDF of some CRSs."""
+    from osgeo import gdal
+
+    gdal.UseExceptions()
+    gdal.PushErrorHandler("CPLQuietErrorHandler")
+    archive = Archive(folder)
+    for code in CODES:
+        has_files = code not in (*VERTICAL, *COMPOUND)
+        for form, suffix in TEXT_FORMS.items():
+            # A shapefile has Esri's text beside it.
+            if form != "WKT1_ESRI" or not has_files:
+                add_form(archive, code, form, suffix, text_of(code, form))
+        old = text_of(code, "WKT1_GDAL")
+        add_srtext(archive, code, old)
+        if has_files:
+            bound = re.sub(
+                r"(SPHEROID\[[^\[\]]*AUTHORITY\[[^\]]*\]\])(?:,TOWGS84\[[^\]]*\])?", rf"\1,TOWGS84[{SHIFT}]", old
+            )
+            add_form(archive, code, "TOWGS84", "wkt", bound)
+            add_form(archive, code, "BOUNDCRS", "wkt", wkt2_of(bound))
+            for suffix, driver in {**DATA_FORMS, **RASTERS}.items():
+                add_data(archive, code, suffix, driver)
+    gdal.PopErrorHandler()
+    return archive
+
+
+def wkt2_of(text: str) -> str:
+    from osgeo import osr
+
+    reference = osr.SpatialReference()
+    reference.ImportFromWkt(text)
+    return str(reference.ExportToWkt(["FORMAT=WKT2_2019", "MULTILINE=NO"]))
+
+
+def path_of_form(archive: Archive, code: int, form: str, suffix: str) -> pathlib.Path:
+    (archive.folder / form).mkdir(parents=True, exist_ok=True)
+    return archive.folder / form / f"{code}.{suffix}"
+
+
+def add_form(archive: Archive, code: int, form: str, suffix: str, text: str) -> None:
+    path = path_of_form(archive, code, form, suffix)
+    path.write_text(text, encoding="utf-8")
+    archive.state(path, "", str(code))
+
+
+def add_data(archive: Archive, code: int, suffix: str, driver: str) -> None:
+    if suffix == "nc" and code in NOT_IN_NETCDF:
+        return
+    path = path_of_form(archive, code, suffix, suffix)
+    layer = ""
+    if suffix in RASTERS:
+        make_raster(path, driver, reference_of(code), (1, 0.1, 0, 2, 0, -0.1))
+    else:
+        layer = path.stem
+        make_vector(path, driver, reference_of(code), layer, has_points=True, has_field=True)
+    if suffix == "shp":
+        archive.state(path.with_suffix(".prj"), "", str(code))
+    archive.state(path, layer, str(code))
+
+
+def add_srtext(archive: Archive, code: int, text: str) -> None:
+    """The WKT1 of a table, as SpatiaLite and PostGIS have it."""
+    path = path_of_form(archive, code, "srtext", "sqlite")
+    with contextlib.closing(sqlite3.connect(path)) as base, base:
+        base.execute("CREATE TABLE spatial_ref_sys (srid INTEGER PRIMARY KEY, srtext TEXT)")
+        base.execute("CREATE TABLE geometry_columns (f_table_name TEXT, srid INTEGER)")
+        base.execute("INSERT INTO spatial_ref_sys VALUES (?, ?)", (code, text))
+        base.execute("INSERT INTO geometry_columns VALUES ('roads', ?)", (code,))
+    archive.state(path, "roads", str(code))
+
+
 # What an audit finds.
 
 
@@ -312,16 +404,16 @@ def found_in_near_misses(data: Dict[str, Any], archive: Archive, most: int) -> L
         for pair in miss["pairs"]:
             if pair["kind"] != "names and digits":
                 for number in (pair["first"], pair["second"]):
-                    found |= mistakes_in(data["definitions"][number - 1], miss, archive)
+                    found |= mistakes_in(data["definitions"][number - 1], miss, pair["kind"], archive)
     return sorted(found)
 
 
-def mistakes_in(definition: Dict[str, Any], miss: Dict[str, Any], archive: Archive) -> set[str]:
+def mistakes_in(definition: Dict[str, Any], miss: Dict[str, Any], kind: str, archive: Archive) -> set[str]:
     """The planted mistakes of a definition that is in a near miss. Where sound texts are in it too, as rules may have it,
-    those alone to whose name or identifier the near miss is due."""
+    those alone to whose name or identifier the near miss is due, or that state the axes in which it differs."""
     sound, planted = [], []
     for variant in definition["variants"]:
-        places = [key_of(it) for it in variant["places"]]
+        places = [key_of(it) for it in variant["places"] if kind not in it.get("filled", ())]
         mistakes = {archive.planted[it].name for it in places if it in archive.planted}
         planted.append((bears(variant, miss), mistakes))
         sound += [bears(variant, miss) for it in places if it not in archive.planted]
@@ -363,6 +455,7 @@ def tell(archive: Archive) -> Iterator[Tuple[str, bool]]:
     with_all = audited(archive.folder, "--convert", "--registry")
     rules = [word for name in SHIPPED for word in ("--rules", str(RULES / name))]
     ruled = audited(archive.folder, "--convert", "--registry", *rules)
+    by_file = [audited(archive.folder, "--convert", "--rules", str(RULES / name)) for name in SHIPPED]
     summary, converted = plain["summary"], with_all["summary"]
     print(f"{summary['texts']} texts, of which {summary['refused']} are refused: {causes(summary)}")
     print(f"with conversion {converted['refused']} are refused: {causes(converted)}")
@@ -377,17 +470,19 @@ def tell(archive: Archive) -> Iterator[Tuple[str, bool]]:
     print(f"with conversion, by the registry but for names and digits: {by_registry}")
     for name, data in (("registry", with_all), ("registry under the rules", ruled)):
         print(f"{name}: " + "; ".join(f"{it} {texts}" for it, texts in data["summary"]["registry"].items()))
-    for name, data in (
-        ("near misses", plain),
-        ("near misses with conversion", with_all),
-        ("near misses with conversion and rules", ruled),
+    left, taken = len(MISTAKES) - len(TAKEN_AWAY), sorted(TAKEN_AWAY)
+    in_first = []
+    for name, data, most in (
+        ("", plain, len(MISTAKES)),
+        (" with conversion", with_all, len(MISTAKES)),
+        (f" with conversion and {SHIPPED[0]}", by_file[0], len(MISTAKES)),
+        (f" with conversion and {SHIPPED[1]}", by_file[1], left),
+        (" with conversion and both", ruled, left),
     ):
-        first, all_of_them = (found_in_near_misses(data, archive, most) for most in (FIRST, 10**9))
-        print(
-            f"{name}: {len(data['near_misses'])}, {len(first)} of {len(MISTAKES)} mistakes in the first {FIRST}, {len(all_of_them)} in all"
-        )
-    in_first, in_first_under = (found_in_near_misses(it, archive, FIRST) for it in (with_all, ruled))
-    print(f"not in the first {FIRST}: {others_than(in_first)}; under the rules {others_than(in_first_under)}")
+        first, all_of_them = (found_in_near_misses(data, archive, it) for it in (most, 10**9))
+        told = f"{len(first)} of {len(MISTAKES)} mistakes in the first {most}, {len(all_of_them)} in all"
+        print(f"near misses{name}: {len(data['near_misses'])}, {told}; others than {others_than(first)}")
+        in_first.append(others_than(first))
     (in_registry, others), (under, others_under) = (found_in_registry(it, archive) for it in (with_all, ruled))
     print(f"registry: {len(in_registry)} of {len(MISTAKES)} mistakes; {others} other texts aren't as registered")
     print(f"under the rules: {len(under)} of {len(MISTAKES)}; {others_under} other texts aren't as registered")
@@ -400,14 +495,86 @@ def tell(archive: Archive) -> Iterator[Tuple[str, bool]]:
     yield "precision by definition is 99 %", by_definition.found >= 99 * by_definition.wrong
     yield "under the rules 90 % of the pairs are found", under_rules.found >= 0.9 * under_rules.all
     yield "precision under the rules is 99 %", under_rules.found >= 99 * under_rules.wrong
-    yield f"11 mistakes are in the first {FIRST} near misses", len(in_first) >= 11
-    yield f"11 are under the rules, all but those of axes", others_than(in_first_under) == sorted(TAKEN_AWAY)
+    yield "the mistakes are the first near misses, by each rules file too", in_first[1:] == [[], [], taken, taken]
     yield "the registry has 11 mistakes", len(in_registry) >= 11
     yield "it has 11 under the rules, and no other text", (len(under), others_under) == (11, 0)
     yield "texts that PROJ has read say so", has_marks(with_all) and has_marks(ruled)
     yield "bound CRSs of other transformations are others", are_apart(with_all, archive) and are_apart(ruled, archive)
     yield "no sound data set disagrees", converted["disagreeing"] == ruled["summary"]["disagreeing"] == 0
     yield "the report names the rules", [pathlib.Path(it["file"]).name for it in ruled["rules"]] == list(SHIPPED)
+
+
+def tell_equal(archive: Archive) -> Iterator[Tuple[str, bool]]:
+    """Prints the figures of the archive of equal parts, and answers what is tested of them."""
+    rules = [word for name in SHIPPED for word in ("--rules", str(RULES / name))]
+    forms = collections.Counter(pathlib.Path(path).parent.name for path, _ in archive.meant)
+    print(f"{len(archive.meant)} texts: {', '.join(f'{form} {count}' for form, count in forms.items())}")
+    pairs, data = None, None
+    steps: List[Tuple[str, List[str]]] = [
+        ("--convert", []),
+        (f"and {SHIPPED[0]}", rules[:2]),
+        (f"and {SHIPPED[1]}", rules),
+        ("and --source-of-bound", [*rules, "--source-of-bound"]),
+    ]
+    for name, words in steps:
+        data = audited(archive.folder, "--convert", *words)
+        pairs = pairs_in(groups_of(data), archive)
+        print(f"{name}: {pairs}; {len(data['definitions'])} groups, {data['summary']['refused']} refused")
+    assert pairs and data
+    for (form, parts), count in causes_apart(data, archive).most_common():
+        print(f"apart: {count:5} {form}: {parts}")
+    wrong = wrong_groups(data, archive)
+    for told in wrong:
+        print(f"together: {told}")
+    for it in data["refused"]:
+        print(f"refused: {it['place']['file']}: {it['cause']} {it['doubts']}")
+    yield "of the pairs 80 % are found", pairs.found >= 0.8 * pairs.all
+    yield "precision is 99 %", pairs.found >= 99 * pairs.wrong
+
+
+def causes_apart(data: Dict[str, Any], archive: Archive) -> Counter[Tuple[str, str]]:
+    """The pairs that aren't found, by the form of the text that is in the smaller group, and by the parts that differ."""
+    texts = {key_of(it): one for one in data["definitions"] for variant in one["variants"] for it in variant["places"]}
+    by_meaning: Dict[str, List[Place]] = collections.defaultdict(list)
+    for place, meant in archive.meant.items():
+        by_meaning[meant].append(place)
+    found: Counter[Tuple[str, str]] = collections.Counter()
+    for places in by_meaning.values():
+        sizes = collections.Counter(texts[it]["number"] if it in texts else 0 for it in places)
+        for pair in itertools.combinations(places, 2):
+            first, second = (texts.get(it) for it in pair)
+            numbers = [it["number"] if it else 0 for it in (first, second)]
+            if numbers[0] == numbers[1] != 0:
+                continue
+            smaller = min((0, 1), key=lambda it: (numbers[it] != 0, sizes[numbers[it]]))
+            form = pathlib.Path(pair[smaller][0]).parent.name
+            found[form, parts_told(first, second) if first and second else "refused"] += 1
+    return found
+
+
+def parts_told(first: Dict[str, Any], second: Dict[str, Any]) -> str:
+    """The parts in which two groups differ, in a few words."""
+    import crsdesk
+
+    parts = [it.path for it in crsdesk.differences(first["text"], second["text"], "definition")]
+    if first["transformation"] != second["transformation"]:
+        parts.append("transformation")
+    steps = (re.sub(r'\["[^"]*"\]', "", it).removeprefix("base/").removeprefix("horizontal/") for it in parts)
+    return ", ".join(sorted(set(steps)))
+
+
+def wrong_groups(data: Dict[str, Any], archive: Archive) -> List[str]:
+    """The groups that have texts of several CRSs: which, and in which forms those of the fewest are."""
+    found = []
+    for group in groups_of(data):
+        forms: Dict[str, List[str]] = collections.defaultdict(list)
+        for place in group:
+            forms[archive.meant.get(place, "none")].append(pathlib.Path(place[0]).parent.name)
+        (first, its), *others = sorted(forms.items(), key=lambda it: -len(it[1]))
+        if others:
+            told = "; ".join(f"{code} as {' '.join(sorted(its))}" for code, its in others)
+            found.append(f"{first}, {len(its)} texts, with {told}")
+    return found
 
 
 def others_than(found: List[str]) -> List[str]:
@@ -451,6 +618,11 @@ def test_figures(tmp_path: pathlib.Path, library: pathlib.Path) -> None:
     assert [name for name, is_so in tell(make(tmp_path)) if not is_so] == []
 
 
+@pytest.mark.needs("python3:osgeo", "python3:jinja2", "projinfo")
+def test_figures_of_equal_parts(tmp_path: pathlib.Path, library: pathlib.Path) -> None:
+    assert [name for name, is_so in tell_equal(make_equal(tmp_path)) if not is_so] == []
+
+
 def main(words: List[str]) -> None:
     # It sets where the package is.
     importlib.import_module("conftest")
@@ -459,11 +631,11 @@ def main(words: List[str]) -> None:
             print(f"EPSG:{mistake.code} {mistake.form}: {mistake.name}")
     elif len(words) == 2 and words[0] == "--make":
         make(pathlib.Path(os.path.abspath(words[1])))
-    elif words:
+    elif words not in ([], ["--equal"]):
         sys.exit(__doc__)
     else:
         with tempfile.TemporaryDirectory() as folder:
-            list(tell(make(pathlib.Path(folder))))
+            list(tell_equal(make_equal(pathlib.Path(folder))) if words else tell(make(pathlib.Path(folder))))
 
 
 if __name__ == "__main__":

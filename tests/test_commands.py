@@ -8,7 +8,7 @@ from typing import Tuple
 
 import pytest
 from rows import closed_pipe
-from support import CANONICAL_HEIGHT, HEIGHT, need, package, run
+from support import CANONICAL_HEIGHT, EXAMPLES, HEIGHT, need, package, run
 from test_python import ASKED, level_of
 
 import crsdesk
@@ -85,6 +85,32 @@ def test_group(files: Files) -> None:
     wanted = (0, "group 1: height.wkt noted.wkt\n", "")
     assert files.run("group", "height.wkt", "noted.wkt", "--level=definition") == wanted
     assert files.run("group", "height.wkt", "missing", "again.wkt")[:2] == (2, "group 1: height.wkt again.wkt\n")
+
+
+def test_rules(files: Files) -> None:
+    """Texts are compared and written by their forms; what is accepted is the same."""
+    files.write("r.rules", 'UNCOUNTED[crsName]\nSAME[VDATUM["D"],VDATUM["E"]]\n')
+    files.write("twin.wkt", HEIGHT.replace('"H"', '"G"').replace('"D"', '"E"'))
+    form = CANONICAL_HEIGHT.replace('"H"', '""')
+    names = ["height.wkt", "twin.wkt"]
+    for rules, answer in (((), (1, "different name\n", "")), (("--rules", "r.rules"), (0, "same\n", ""))):
+        assert files.run("same", *rules, *names) == answer
+    assert files.run("same", "--all", "--rules=r.rules", *names) == (0, "same\n", "")
+    assert files.run("same", "--rules=r.rules", "height.wkt", "other name.wkt")[:2] == (
+        1,
+        "different system/axis1/direction\n",
+    )
+    assert files.run("canon", "--rules", "r.rules", *names) == (0, f"{form}\n{form}\n", "")
+    assert files.run("group", "--rules", "r.rules", *names) == (0, "group 1: height.wkt twin.wkt\n", "")
+    assert files.run("group", "--rules", "r.rules", "--lines", "lines.txt")[1].startswith("group 1: 1 4\n")
+    status, output, error = files.run("check", "--rules", "r.rules", "old.prj", *names)
+    assert (status, output.count("accepted vertical"), "refused 11" in output) == (1, 2, True)
+    files.write("bad.rules", "UNCOUNTED[colour]\n")
+    for command in ("check", "canon", "group", "same"):
+        told = "crsdesk: bad.rules, line 1: refused 42 at 10: no node or word that may stand here\n"
+        assert files.run(command, "--rules", "r.rules", "--rules", "bad.rules", *names) == (2, "", told)
+        told = "crsdesk: none.rules: No such file or directory\n"
+        assert files.run(command, "--rules", "none.rules", *names) == (2, "", told)
 
 
 def test_lines(files: Files) -> None:
@@ -173,6 +199,36 @@ def test_lines_come_as_they_are_read() -> None:
             run.stdin.flush()
             assert run.stdout.readline().startswith(f'VERTCRS["{name}"'.encode())
         run.stdin.close()
+
+
+@pytest.mark.needs("python3:pyproj")
+def test_fill(files: Files) -> None:
+    """Rows of COPY: keys as they are, values with their escapes taken off and put on again."""
+    exports = EXAMPLES / "exports"
+    bound, plain = ((exports / name).read_bytes().strip() for name in ("dhdn_towgs84.prj", "wgs84_esri.prj"))
+    named = HEIGHT.replace('"H"', '"a\tb\\\\n"').encode()
+    texts = {
+        b"1": plain,
+        b"2": bound,
+        b"a\\\\b": named.replace(b"\\", b"\\\\").replace(b"\t", b"\\t"),
+        b"3": b"\\N",
+        b"4": b" ",
+        b"5": plain.replace(b"298.257", b"298,257"),
+        b"6": b"x",
+    }
+    status, output, error = files.run("fill", source=b"".join(b"\t".join(it) + b"\n" for it in texts.items()))
+    rows = [line.split("\t") for line in output.splitlines()]
+    assert status == 1 and [row[0] for row in rows] == ["1", "2", "a\\\\b"], (output, error)
+    assert rows[0][1].startswith('GEOGCRS["WGS 84"') and rows[0][2] == "\\N"
+    crs = crsdesk.Crs.from_user(bound)
+    assert rows[1][1:] == [crs.text.decode(), crs.transformation]
+    assert rows[2][1:] == [texts[b"a\\\\b"].decode(), "\\N"]
+    told = error.splitlines()
+    assert len(told) == 2 and told[0].startswith(
+        "5: refused 11 UnknownKeyword at 0; PROJ doesn't read it either: "
+    ), told
+    assert told[1] == "6: refused 7 UnexpectedEnd at 1"
+    assert files.run("fill", source=b"1\tx\ty\n") == (2, "", "crsdesk: row 1: not two columns, a key and a text\n")
 
 
 def test_faults(files: Files) -> None:

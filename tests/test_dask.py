@@ -299,6 +299,14 @@ def test_faults() -> None:
             assert found == wanted, f"{call.__name__} of {type(given).__name__}"
 
 
+def test_texts_stay_with_their_partition() -> None:
+    """No task has the texts of two partitions: what goes to another worker is digests, and texts that are compared."""
+    graph = dict(groups(dask.bag.from_sequence([HEIGHT] * 600, npartitions=600)).__dask_graph__())
+    halves = {key for key in graph if str(key).startswith("own_groups-")}
+    counts = [len(halves & set(dask.core.get_dependencies(graph, key))) for key in graph]
+    assert len(halves) == 600 and max(counts) == 1 and len(graph) < 50 * 600
+
+
 class Large(NamedTuple):
     """A client of four worker processes, and a large catalogue with what the command says of it at each level."""
 

@@ -1,7 +1,9 @@
 """The commands, sessions, code and links that documents show (documents.py)."""
 from __future__ import annotations
 
+import html
 import pathlib
+import re
 import sys
 from typing import Tuple
 
@@ -10,13 +12,19 @@ from documents import Block, Command, blocks_of, commands_of, leads, links_of, p
 from support import HERE, ROOT, succeed
 
 EXAMPLES = ROOT / "crates" / "crs_surface" / "src" / "examples"
-DOCUMENTS = [ROOT / "README.md", ROOT / "python" / "README.md", *sorted((ROOT / "docs").glob("*.md"))]
+# tests/commands.md has commands that no page shows.
+DOCUMENTS = [
+    *(ROOT / it for it in ("README.md", "python/README.md", "tests/commands.md")),
+    *sorted((ROOT / "docs").glob("*.md")),
+]
 BLOCKS = [block for path in DOCUMENTS for block in blocks_of(path)]
 COMMANDS = [command for block in BLOCKS if block.kind == "console" for command in commands_of(block)]
 CODE = [block for block in BLOCKS if block.kind == "rust" or " of=" in block.head]
 # The documents whose sessions of Python test_python.py and test_dask.py run.
 ELSEWHERE = ("PYTHON.md", "CLUSTER.md")
 SESSIONS = [path for path in DOCUMENTS if path.name not in ELSEWHERE and "```pycon" in path.read_text(encoding="utf-8")]
+LINKED = [*DOCUMENTS, ROOT / "CONTRIBUTING.md", ROOT / "CHANGELOG.md"]
+LINKS = [(path, link) for path in LINKED for link in links_of(path)]
 # Runs the session of a document, as far as what its blocks need is there.
 SESSION = """
 import pathlib, sys
@@ -48,8 +56,16 @@ def test_code(block: Block) -> None:
     assert any(block.text in file.read_text(encoding="utf-8") for file in files)
 
 
-@pytest.mark.parametrize(
-    "link", [(path, link) for path in DOCUMENTS for link in links_of(path)], ids=lambda it: f"{it[0].name}-{it[1]}"
-)
+def test_picture(program: pathlib.Path) -> None:
+    """The lines of docs/explain.svg are what the command in it prints."""
+    text = (ROOT / "docs" / "explain.svg").read_text(encoding="utf-8")
+    (command,) = re.findall(r'class="command".*>\$ (.*)</text>', text)
+    block = Block(ROOT / "docs" / "explain.svg", 1, "console", [f"$ {html.unescape(command)}"])
+    lines = [html.unescape(it) for it in re.findall(r'class="out".*?>(.*)</text>', text)]
+    words = html.unescape(command).replace(" crsdesk ", " ./crsdesk ")
+    assert printed(Command(block, 1, words, "")).splitlines() == lines
+
+
+@pytest.mark.parametrize("link", LINKS, ids=lambda it: f"{it[0].name}-{it[1]}")
 def test_link(link: Tuple[pathlib.Path, str]) -> None:
     assert leads(*link)

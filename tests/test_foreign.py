@@ -115,7 +115,7 @@ FOREIGN = {
 # Texts that PROJ reads, or repairs, and a part of why its reading isn't taken.
 NOT_TAKEN = {
     GEOGRAPHIC.replace("6377397.155", "6377397,155"): "syntax error, unexpected number",
-    GEOGRAPHIC.replace("0.0174532925199433", "0.01745329252"): "with another number than 0.01745329252",
+    GEOGRAPHIC.replace("0.0174532925199433", "0.01745329252"): "0.01745329252 in UNIT",
     GEOGRAPHIC.replace('PRIMEM["Greenwich",0.5],', ""): "PRIMEM",
     GEOGRAPHIC + "x": f"more follows at character {len(GEOGRAPHIC)}",
     GEOGRAPHIC + "\xe9": f"more follows at character {len(GEOGRAPHIC)}",
@@ -131,12 +131,12 @@ NOT_TAKEN = {
     'GEOGCS["' + "x" * 1_048_576: "more than 1,048,576 characters",
     "+proj=utm +zone=31 +elps=GRS80": "+elps isn't known: PROJ would pass it over",
     "+proj=utm +zone=31 +zone=32": "+zone is there twice",
-    "+proj=utm +zone=31 +lat_ts=45": "+lat_ts=45 has no effect: PROJ would pass it over",
+    "+proj=utm +zone=31 +lat_ts=45": "+lat_ts=45 at character 19 has no effect: PROJ would pass it over",
     # PROJ keeps the whole string in a remark of what it writes of this one.
-    "+proj=utm +zone=31 +lat_0=5": "+lat_0=5 has no effect: PROJ would pass it over",
-    "+proj=longlat +zone=31 +ellps=bessel": "+zone=31 has no effect",
-    "+proj=utm +zone=33 +datum=WGS84 +ellps=bessel": "+ellps=bessel has no effect",
-    "+proj=utm +zone=31 +over": "+over has no effect",
+    "+proj=utm +zone=31 +lat_0=5": "+lat_0=5 at character 19 has no effect: PROJ would pass it over",
+    "+proj=longlat +zone=31 +ellps=bessel": "+zone=31 at character 14 has no effect",
+    "+proj=utm +zone=33 +datum=WGS84 +ellps=bessel": "+ellps=bessel at character 32 has no effect",
+    "+proj=utm +zone=31 +over": "+over at character 19 has no effect",
     "+init=epsg:4326": "+init isn't known",
     "+proj=pipeline +step +proj=utm +zone=31": "+step isn't known",
     "+proj=utm +zone=99": "Invalid value for zone",
@@ -197,10 +197,16 @@ def other_forms() -> None:
         assert "\n" not in refused.proj and (refused.number, refused.place) == (plain.number, plain.place)
     for text in NOT_ASKED:
         assert refusal_of(text, Crs.from_user).proj is None, text
+    latin = GEOGRAPHIC.replace('"G"', '"\xe9"').encode("latin-1")
+    assert refusal_of(latin, Crs.from_user).proj == "PROJ doesn't read it either: byte 0xe9 at 8 isn't UTF-8"
     # The library judges what PROJ writes.
-    local = 'LOCAL_CS["L",LOCAL_DATUM["D",0],UNIT["metre",1],AXIS["x",EAST],AXIS["y",NORTH]]'
-    refused = refusal_of(local, Crs.from_user)
-    assert refused.proj == f"{read_by} wrote this text of WKT1" and refused.text and refused.text.startswith(b"ENGCRS[")
+    axes = [
+        f'{{"name":"{name}","abbreviation":"","direction":"{to}","unit":"metre"}}'
+        for name, to in (("X", "east"), ("Y", "north"))
+    ]
+    system = f'"coordinate_system":{{"subtype":"Cartesian","axis":[{",".join(axes)}]}}'
+    refused = refusal_of(f'{{"type":"EngineeringCRS","name":"L","datum":{{"name":"D"}},{system}}}', Crs.from_user)
+    assert refused.proj == f"{read_by} wrote this text of PROJJSON" and refused.text and refused.text[:7] == b"ENGCRS["
     assert Crs.from_user("EPSG:28992") == Crs.from_file(EXAMPLES / "exports" / "rd_projinfo_2019.wkt")
 
 
@@ -348,6 +354,7 @@ def with_pyproj() -> None:
         own = Crs.from_user(crs)
         assert own.text == crs.to_wkt().encode() and own.read_by is None
         assert pyproj.CRS(own) == pyproj.CRS.from_user_input(own) == crs
+        assert own != crs and not own == crs and own == Crs.from_user(crs)
         assert pyproj.Transformer.from_crs(own, own).source_crs == crs
     bound = Crs.from_user(SHIFTED)
     assert pyproj.CRS(bound).is_bound and Crs.from_user(pyproj.CRS(bound)).transformation == bound.transformation
@@ -412,11 +419,11 @@ def with_osgeo() -> None:
 
 
 def alone(function: Callable[[], None], folder: pathlib.Path, *hidden: str) -> None:
-    """Calls a function of this file in another process, in which some packages can't be imported."""
+    """Calls a function of a file of tests in another process, in which some packages can't be imported."""
     for package in hidden:
         (folder / f"{package}.py").write_text("raise ImportError(__name__)\n", encoding="utf-8")
     path = os.pathsep.join([str(folder), str(HERE), os.environ["PYTHONPATH"]])
-    call = f"import {__name__}; {__name__}.{function.__name__}()"
+    call = f"import {function.__module__} as it; it.{function.__name__}()"
     succeed([sys.executable, "-c", call], env={**os.environ, "PYTHONPATH": path})
 
 

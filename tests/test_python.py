@@ -18,6 +18,7 @@ import sqlite3
 import sys
 import threading
 import time
+import traceback
 import tracemalloc
 from concurrent.futures import ThreadPoolExecutor
 from typing import Any, Callable, Dict, Iterator, List, Optional, Tuple, Type
@@ -199,6 +200,20 @@ def test_refusal_goes_to_another_process() -> None:
     for kept in (refused.kept(), pickle.loads(pickle.dumps(refused.kept())), copy.copy(refused.kept())):
         assert (str(kept), kept.text, kept.hint) == (str(refused), None, refused.hint)
         assert kept.__traceback__ is None and b"x[" not in kept.args
+    advised = refusal_of('GEOGCS["A"]', Crs)
+    for again in (pickle.loads(pickle.dumps(advised)), copy.copy(advised), advised.kept(with_text=True)):
+        assert str(again) == str(advised) and "Crs.from_user has PROJ read it" in str(again)
+
+
+def test_public_names_are_told() -> None:
+    public = [it for it in vars(crsdesk).values() if isinstance(it, type) and it.__name__ in crsdesk.__all__]
+    assert len(public) == 7 and {it.__module__ for it in public} == {"crsdesk"}
+    calls: List[Callable[[], object]] = [lambda: check("x"), lambda: Rules("x")]
+    for call in calls:
+        with pytest.raises(ValueError) as caught:
+            call()
+        assert re.match(r"crsdesk\.(Rules)?Refused: ", traceback.format_exception_only(caught.type, caught.value)[0])
+    assert pickle.loads(pickle.dumps(Crs)) is Crs
 
 
 def test_every_number_has_a_meaning() -> None:
@@ -526,7 +541,9 @@ def test_a_crs_of_another_package() -> None:
     assert refused.text == b'BOUNDCRS["A"]' and "BOUNDCRS isn't read" in str(refused)
     assert Crs.from_user(HEIGHT) == Crs.from_user(HEIGHT.encode()) == crs and Crs.from_user(HEIGHT).read_by is None
     wants(TypeError, "Crs.from_file reads a file", Crs.from_user, EXAMPLES / "wgs84.wkt")
-    wants(TypeError, "a text or another package's object with to_wkt, not int", Crs.from_user, 4326)
+    wants(TypeError, 'not int; a code is a text with its authority: "EPSG:4326"', Crs.from_user, 4326)
+    for other in map(stand_in, TO_WKT):
+        assert crs != other and other != crs and crs not in [other], "each has its own hash"
     wants(TypeError, "answers NoneType, and no text", Crs.from_user, type("CRS", (), {"to_wkt": lambda self: None})())
     # A table of geometries has a to_wkt too, which writes those.
     without: Dict[str, Any] = {}

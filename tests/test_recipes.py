@@ -13,7 +13,7 @@ import pytest
 from support import EXAMPLES, ROOT
 
 RECIPE = "projinfo --single-line -o WKT2:2019 @FILE 2>&1 | sed 1d"
-DOCUMENTS = ("README.md", "docs/REFUSALS.md", "docs/EXPORTS.md", "docs/CATALOGUES.md", "docs/FAQ.md")
+DOCUMENTS = ("README.md", "docs/CONVERTING.md", "docs/EXPORTS.md")
 # A part of the sound texts that must come out as it is.
 SOUND = {
     "exports/wgs84_esri.prj": 'ELLIPSOID["WGS 84",6378137,298.257223563,',

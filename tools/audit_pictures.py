@@ -24,7 +24,10 @@ def take_pictures(page: pathlib.Path, to: pathlib.Path) -> None:
         opened(driver, page)
         driver.save_screenshot(str(to / "audit.png"))
         driver.execute_script("document.getElementById('filter').hidden = true")
-        driver.find_element("css selector", ".map").screenshot(str(to / "audit_map.png"))
+        shown = driver.find_element("css selector", ".map")
+        driver.execute_script("arguments[0].scrollIntoView()", shown)
+        time.sleep(1)
+        shown.screenshot(str(to / "audit_map.png"))
     with browser() as driver:
         metrics = {"width": 390, "height": 1000, "deviceScaleFactor": 1, "mobile": True}
         driver.execute_cdp_cmd("Emulation.setDeviceMetricsOverride", metrics)

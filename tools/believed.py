@@ -4,11 +4,10 @@
     believed.py [-v]
 
 A reader believes what stands in the crates' specs/, and needs nothing of specs/inner/. So all definitions must be in
-specs/ that the claims of docs/THEOREMS.md reach: those that the clauses of a claimed call or law cite, or of the calls
+specs/ that the claims of tools/claims.txt reach: those that the clauses of a claimed call or law cite, or of the calls
 and impls of a claimed type or trait, and all that these are made of, down to the numbers, lists and the like of the
 toolchain's own library; and no others. How a type's fields show what it is seen as isn't among them: a caller has the
-clauses alone. Each has a sentence before it, a comment, and stands in a file of the table of words. And what
-docs/THEOREMS.md names must be there.
+clauses alone. Each has a sentence before it, a comment, which docs/DEFINITIONS.md repeats. And each claim must be there.
 
 Prints the definitions and lines of each crate, with -v each definition and what cites it first, and what is wrong, which
 tests/test_believed.py has as tests. Nothing is proved.
@@ -37,6 +36,9 @@ SOURCE = re.compile(
     r"|^[ \t]*(?P<pub>pub )?(?:pub\(crate\) )?(?:unsafe )?(?:extern \"C\" )?fn (?P<fn>\w+)"
     r"|\b(?:(?:requires|ensures)\*?\s*(?:\w+\s*)?|ghost (?P<ghost>\w+)\s*[:=]\s*)(?P<brace>\{)"
 )
+# A claim, by its crate, "laws", "parts" or nothing, and its name; a line of tools/claims.txt.
+Claim = tuple[str, str, str]
+CLAIMS = re.compile(r"(?m)^(crs_\w+)(?: (\w+))?: (.*)$")
 # What an impl says of a type's fields.
 OF_ITS_FIELDS = ("view", "invariant", "inverse", "inverse_ok", "coded", "laws", "respects_eq")
 
@@ -80,12 +82,12 @@ class Specs:
         text = (CRATES / crate / "specs" / (file.replace(".", "/") + ".antt")).read_text(encoding="utf-8")
         self.scope = imported(text)
         self.definitions: dict[str, list[str]] = {}
-        self.told: set[str] = set()
-        name, indent, is_data, is_after_comment = "", 0, False, False
+        self.sentences: dict[str, str] = {}
+        name, indent, is_data, comment = "", 0, False, ""
         for line in text.split("\n"):
             bare = line.strip()
             if not bare or re.match(r"--|(unfoldable )?(pub )?use |infix", bare):
-                is_after_comment = bare.startswith("--")
+                comment = f"{comment} {bare[2:].strip()}".strip() if bare.startswith("--") else ""
                 continue
             head = HEAD.match(line)
             if bare.endswith("mutual"):
@@ -95,13 +97,13 @@ class Specs:
             ):
                 name, indent, is_data = head[4], len(head[1]), head[3] == "data "
                 self.definitions[name] = []
-                self.told |= {name} if is_after_comment else set()
+                self.sentences[name] = comment
                 self.scope.setdefault(name, Name(crate, file, name))
             elif is_data:
                 self.scope |= {it: Name(crate, file, name) for it in line.partition(":")[0].split()}
             if name:
                 self.definitions[name].append(line)
-            is_after_comment = False
+            comment = ""
 
 
 def clauses(crate: str, claimed: set[str]) -> Iterator[tuple[str, str, dict[str, Name]]]:
@@ -137,25 +139,17 @@ def braced(text: str, start: int) -> str:
     return text[start:]
 
 
-def rows(text: str, column: int) -> Iterator[tuple[list[str], list[tuple[str, str]]]]:
-    """The first names of each row of a table, and those of a column with their crates, of which each holds until the next."""
-    for line in text.split("\n"):
-        if line.startswith("| ") and len(columns := line.split("|")) > column:
-            crate, named = "", []
-            for path in re.findall(r"`([^`]+)`", columns[column]):
-                found = re.match(r"(?:crates/)?(crs_\w+)(?:::|/)", path)
-                crate = found[1] if found else crate
-                named += [(crate, path.split("/")[-1].removesuffix(".antt"))] if crate else []
-            yield re.findall(r"`([^`]+)`", columns[2]), named
+def claims() -> list[Claim]:
+    """The claims of tools/claims.txt."""
+    text = (ROOT / "tools" / "claims.txt").read_text(encoding="utf-8")
+    return [(crate, part, name) for crate, part, names in CLAIMS.findall(text) for name in names.split()]
 
 
 class Found:
-    """What docs/THEOREMS.md says, and the definitions that its claims reach, each with what cites it first."""
+    """The claims, and the definitions that they reach, each with what cites it first."""
 
     def __init__(self) -> None:
-        words, _, claims = (ROOT / "docs" / "THEOREMS.md").read_text(encoding="utf-8").partition("## The claims")
-        self.words = list(rows(words, 3))
-        self.claims = [name for _, named in rows(claims, 2) for name in named]
+        self.claims = claims()
         self.files = {}
         for path in CRATES.glob("*/specs/**/*.antt"):
             crate, _, *parts = path.relative_to(CRATES).with_suffix("").parts
@@ -163,8 +157,7 @@ class Found:
         self.reached: dict[Name, str] = {}
         open_ = []
         for crate in LIBRARIES:
-            paths = [path for it, path in self.claims if it == crate and not re.fullmatch("[a-z]+", path)]
-            claimed = {part for path in paths for part in path.split("::") if part not in (crate, "laws")}
+            claimed = {part for it, _, name in self.claims if it == crate for part in name.split("::")}
             for where, text, scope in clauses(crate, claimed):
                 open_ += [(name, where) for name in cited(text, scope)]
         while open_:
@@ -179,25 +172,20 @@ class Found:
                 open_ += [(other, str(name)) for other in cited(text, specs.scope)]
 
     def faults(self) -> Iterator[str]:
-        """What is wrong with the definitions, and the names of docs/THEOREMS.md that aren't there."""
-        tabled = {file for _, named in self.words for file in named}
+        """What is wrong with the definitions, and the claims that aren't there."""
         for (crate, file), specs in sorted(self.files.items()):
             for name in specs.definitions:
                 by = self.reached.get(Name(crate, file, name), "")
                 if bool(by) == file.startswith("inner."):
                     yield f"{crate}/{file}.{name} is in the wrong folder, and cited by {by or 'no claim'}"
-                if by and (name not in specs.told or (crate, file) not in tabled):
-                    yield f"{crate}/{file}.{name} has no sentence or is in no file of the table, and is cited by {by}"
-        for words, named in self.words:
-            there = {it.strip("◌") for file in named for it in self.files[file].definitions}
-            yield from (f"the word {word} isn't there" for word in words if word not in there)
-        code = {}
-        for crate in LIBRARIES:
-            texts = [it.read_text(encoding="utf-8") for it in (CRATES / crate).glob("s*/**/*.[ar]*t")]
-            code[crate] = {crate, *re.findall(r"\w+", "".join(texts))}
-        for crate, path in self.claims:
-            if not fnmatch.filter(code[crate], re.split(r"::| ", path)[-1]):
-                yield f"the claim {path} of {crate} isn't there"
+                if by and not specs.sentences[name]:
+                    yield f"{crate}/{file}.{name} has no sentence, and is cited by {by}"
+        for crate, part, name in self.claims:
+            names = re.findall(
+                r"\w+", "".join(it.read_text(encoding="utf-8") for it in (CRATES / crate).glob("src/**/*.rt"))
+            )
+            if not fnmatch.filter(names, name.rpartition("::")[2]):
+                yield f"the claim {part} {name} of {crate} isn't there"
 
 
 def main() -> None:

@@ -34,4 +34,8 @@ __all__ = [
     "digest",
     "same",
 ]
+# Tracebacks and help have the names that are imported.
+for _public in (Catalogue, Crs, Difference, Group, Refused, Rules, RulesRefused):
+    _public.__module__ = __name__
+del _public
 __version__ = version()

@@ -1,11 +1,12 @@
-"""The commands over files: ``python -m crsdesk check|canon|same|group|audit``.
+"""The commands over files: ``python -m crsdesk check|canon|same|group|audit|fill``.
 
 Answers go to standard output, refusals in full and faults to standard error. Status 0: no text is refused, and of
 ``same`` both spell the same CRS. 1: a text is refused, or the two CRSs differ. 2: a file can't be read, or another
 fault. Where nobody reads the output any more the run ends with status 2, and says nothing.
 
 With ``--lines`` a file has a text a line; one line at a time is held, and ``group`` holds each CRS's canonical text.
-With ``--convert`` PROJ reads texts in other forms, and each that it read is marked.
+With ``--convert`` PROJ reads texts in other forms, and each that it read is marked. With ``--rules`` texts are compared, and
+written, by their forms.
 """
 
 from __future__ import annotations
@@ -16,7 +17,7 @@ import signal
 import sys
 from typing import IO, Any, BinaryIO, Callable, Dict, Iterable, Iterator, List, NamedTuple, NoReturn, Optional, Tuple
 
-from . import Catalogue, Crs, Refused, Text, __version__, canon, check, difference, differences
+from . import Catalogue, Crs, Refused, Rules, RulesRefused, Text, __version__, canon, check, difference, differences
 from ._crs import LEVELS, is_blank
 from ._shown import named, quoted
 
@@ -28,6 +29,7 @@ FILE_HELP = "a file with a text; - is standard input"
 LINES_HELP = "a file has a text a line (docs/CATALOGUES.md)"
 WHOLE_HELP = "a file has one text, as where --lines isn't there"
 CONVERT_HELP = "WKT1, PROJ strings, PROJJSON and codes are read by PROJ, which osgeo or pyproj has (docs/PYTHON.md)"
+SOURCE_HELP = "with --convert: a bound CRS is in the group of its source CRS, told with its transformation"
 LINES_HELP_OF_AUDIT = "it has a text a line, and so has a file of another suffix that is named itself"
 REGISTRY_HELP = "compares the CRSs with those of PROJ's database"
 RULES_HELP = (
@@ -199,7 +201,7 @@ def run_canon(run: Run, asked: argparse.Namespace) -> None:
         spelling = ""
         try:
             if text is not None and not (asked.lines and is_blank(text)):
-                spelling = canon(asked_text(run, asked, place, text), asked.level)
+                spelling = canon(asked_text(run, asked, place, text), asked.level, asked.under)
         except Refused as refused:
             run.tell_refusal(place, refused)
         run.write(spelling)
@@ -219,7 +221,7 @@ def run_same(run: Run, asked: argparse.Namespace) -> None:
             return
     first, second = texts
     try:
-        path = difference(first, second, asked.level)
+        path = difference(first, second, asked.level, asked.under)
     except Refused as refused:
         tell_which(run, names, refused, refused.which or "")
         return
@@ -230,7 +232,7 @@ def run_same(run: Run, asked: argparse.Namespace) -> None:
     if not asked.all:
         run.write(f"different {path}")
         return
-    for part in differences(first, second, asked.level):
+    for part in differences(first, second, asked.level, asked.under):
         run.write(str(part))
 
 
@@ -250,7 +252,7 @@ def run_group(run: Run, asked: argparse.Namespace) -> None:
         if text is None:
             continue
         try:
-            spelling = "" if is_blank(text) else canon(asked_text(run, asked, place, text), asked.level)
+            spelling = "" if is_blank(text) else canon(asked_text(run, asked, place, text), asked.level, asked.under)
         except Refused as refused:
             refusals.append(f"{f'line {place.number}' if is_one else quoted(str(place))}: {refused.summary}")
             run.tell_refusal(place, refused)
@@ -263,6 +265,27 @@ def run_group(run: Run, asked: argparse.Namespace) -> None:
         run.write(line)
 
 
+def run_fill(run: Run, asked: argparse.Namespace) -> None:
+    from . import sql
+
+    for place, row in run.lines("-"):
+        try:
+            key, text = sql.columns_of(row)
+        except ValueError as error:
+            run.tell(f"crsdesk: row {place.number}: {error}")
+            run.ends(FAULT)
+            return
+        try:
+            found = sql.filled(key, text)
+        except Refused as refused:
+            name = named(key.decode("utf-8", "surrogateescape"))
+            run.tell(f"{name}: {'; '.join(filter(None, [refused.summary, refused.proj]))}")
+            run.ends(DIFFERS)
+            continue
+        if found is not None:
+            sys.stdout.buffer.write(found + b"\n")
+
+
 def run_audit(run: Run, asked: argparse.Namespace) -> None:
     # What only this command needs is imported where it runs.
     from .audit.command import run_audit
@@ -270,8 +293,8 @@ def run_audit(run: Run, asked: argparse.Namespace) -> None:
     run_audit(run, asked)
 
 
-# The commands that have ``--convert`` from here; the audit has its own.
-CONVERTING = (run_check, run_canon, run_same, run_group)
+# The commands of which the options are checked here; the audit checks its own.
+OVER_FILES = (run_check, run_canon, run_same, run_group, run_fill)
 
 
 def has_proj() -> bool:
@@ -279,6 +302,11 @@ def has_proj() -> bool:
     from ._foreign import reader
 
     return reader() is not None
+
+
+def rules_of(names: List[str]) -> Optional[Rules]:
+    """The rules of files; None where none is named."""
+    return Rules.from_file(*names) if names else None
 
 
 def jobs(word: str) -> int:
@@ -307,11 +335,16 @@ def parser() -> argparse.ArgumentParser:
         made.add_argument("--lines", action="store_true", help=LINES_HELP)
         made.add_argument("--convert", action="store_true", help=CONVERT_HELP)
 
+    def add_rules(made: argparse.ArgumentParser) -> None:
+        made.add_argument("--rules", action="append", default=[], metavar="FILE", help=RULES_HELP)
+
     def add_level(made: argparse.ArgumentParser) -> None:
         made.add_argument("--level", choices=list(LEVELS), default="full", help=LEVEL_HELP)
+        add_rules(made)
 
     made = command("check", "tells what kind of CRS each text spells, or where it is refused", run_check)
     add_files(made)
+    add_rules(made)
 
     made = command(
         "canon", "writes the canonical text of each text, and an empty line for one that has none", run_canon
@@ -331,12 +364,19 @@ def parser() -> argparse.ArgumentParser:
     made.add_argument("--files", action="store_true", help=WHOLE_HELP)
     add_level(made)
 
+    made = command(
+        "fill", "writes rows with texts in WKT2 for rows of keys and texts in any form (docs/SQL.md)", run_fill
+    )
+    made.set_defaults(convert=True, rules=[])
+
     made = command("audit", "reports on the CRSs of all files of folders (docs/AUDIT.md)", run_audit)
     made.add_argument("paths", nargs="+", metavar="PATH", help="a folder, with all below it, or a file")
     made.add_argument("--txt", action="store_true", help="a .txt file is a text")
     made.add_argument("--lines", action="store_true", help=LINES_HELP_OF_AUDIT)
+    made.add_argument("--follow", action="store_true", help="follows links that lead out of what is named")
     made.add_argument("--convert", action="store_true", help=CONVERT_HELP)
-    made.add_argument("--rules", action="append", default=[], metavar="FILE", help=RULES_HELP)
+    made.add_argument("--source-of-bound", action="store_true", help=SOURCE_HELP)
+    add_rules(made)
     made.add_argument("--registry", action="store_true", help=REGISTRY_HELP)
     made.add_argument("--html", metavar="FILE", help="writes the report as a page")
     made.add_argument("--json", metavar="FILE", help="writes it as data (docs/audit.schema.json)")
@@ -349,11 +389,20 @@ def answered(run: Run, words: Optional[List[str]]) -> int:
     """Runs a command line and answers the status; OSError where standard output takes no more."""
     try:
         asked = parser().parse_args(words)
-        if asked.run in CONVERTING and asked.convert and not has_proj():
-            run.tell(
-                "crsdesk: --convert takes PROJ, which osgeo (GDAL's Python) or pyproj has, and neither is installed"
-            )
-            return FAULT
+        if asked.run in OVER_FILES:
+            if asked.convert and not has_proj():
+                what = "fill" if asked.run is run_fill else "--convert"
+                run.tell(
+                    f"crsdesk: {what} takes PROJ, which osgeo (GDAL's Python) or pyproj has, and neither is installed"
+                )
+                return FAULT
+            try:
+                asked.under = rules_of(asked.rules)
+            except (RulesRefused, OSError) as error:
+                from .audit.command import rules_fault
+
+                run.tell(f"crsdesk: {rules_fault(error)}")
+                return FAULT
         asked.run(run, asked)
         sys.stdout.flush()
         return run.status

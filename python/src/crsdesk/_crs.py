@@ -93,6 +93,8 @@ def text_of_user(found: object) -> Text:
             text = asked.to_wkt()
     else:
         advice = "; Crs.from_file reads a file" if hasattr(found, "__fspath__") else advice_on(found)
+        if type(found) is int:
+            advice = f'; a code is a text with its authority: "EPSG:{found}"'
         raise TypeError(f"a CRS is a text or another package's object with to_wkt, not {type(found).__name__}{advice}")
     if not isinstance(text, (str, bytes)):
         raise TypeError(f"the to_wkt of {type(found).__name__} answers {type(text).__name__}, and no text")
@@ -439,9 +441,12 @@ class Crs:
         return differences(self, other, level)
 
     def __eq__(self, other: object) -> bool:
-        if not isinstance(other, Crs):
-            return NotImplemented
-        return self._full == other._full and self._rules == other._rules
+        if isinstance(other, Crs):
+            return self._full == other._full and self._rules == other._rules
+        if hasattr(other, "to_wkt") or hasattr(other, "ExportToWkt"):
+            # Another package's CRS has its own hash, and would compare a Crs as one of its own.
+            return False
+        return NotImplemented
 
     def __hash__(self) -> int:
         return hash(self._full)

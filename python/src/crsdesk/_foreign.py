@@ -1,23 +1,36 @@
 """Texts in other forms than WKT2, as PROJ reads them: WKT1 of GDAL and Esri, a BOUNDCRS, PROJ strings, PROJJSON, codes and
 URNs. It takes a PROJ that osgeo or pyproj has brought into the process.
 
-The reading is strict: what PROJ warns of, repairs or leaves out is refused. So its library is called by itself: GDAL tells
+The reading is strict: what PROJ warns of, repairs or passes over is refused. So its library is called by itself: GDAL tells
 warnings in its log, pyproj none. Each text has a context of its own, since a context's answers depend on what it has read
-before; it has no network. ``UNIT["degree",0.01745329252]``, and a key of a PROJ string that is unknown or has no
-effect, are told by no warning, and looked for here. PROJ writes numbers with 15 digits.
+before; it has no network. That all of a text has counted is told by no warning, and looked for (``_effects``).
 """
 
 from __future__ import annotations
 
+import contextlib
 import ctypes
 import functools
 import importlib
 import json
 import os
 import re
-from typing import Any, Callable, Dict, Iterator, List, NamedTuple, NoReturn, Optional, Sequence, Set, Tuple, Union
+from typing import (
+    Any,
+    Callable,
+    Dict,
+    Generator,
+    Iterator,
+    List,
+    NamedTuple,
+    NoReturn,
+    Optional,
+    Sequence,
+    Tuple,
+    Union,
+)
 
-from ._tree import Node, tree_of
+from ._effects import NotRead as NotRead, check_numbers, check_parts, check_words, checked_string
 
 # The bound of the program `crsdesk` too.
 MOST_BYTES = 1_048_576
@@ -42,48 +55,12 @@ QUOTED = re.compile(r'"[^"]*"')
 # What opens and closes, an open quote, and what is in no text outside quotes.
 DELIMITER = re.compile(r'"[^"]*"|[\[\]()"]|[^\x00-\x7f]')
 CLOSING = {"[": "]", "(": ")"}
-NUMBER = re.compile(r"(?<![\w.])[+-]?(?:\d+\.?\d*|\.\d+)(?:[eE][+-]?\d+)?(?![\w.])")
-# A unit's factor, and the two numbers of an ellipsoid.
-MEASURES = re.compile(
-    r'\b(?:(?:LENGTH|ANGLE|SCALE)?UNIT|SPHEROID|ELLIPSOID)\s*[\[(]\s*"(?:[^"]|"")*"\s*,\s*([^\s,\])]+)(?:\s*,\s*([-+.\d][^\s,\])]*))?',
-    re.IGNORECASE,
-)
-# The keys of a PROJ string that says a CRS: PROJ passes others over.
-KEYS = frozenset(
-    (
-        "R R_A R_C R_V R_a R_g R_h R_lat_a R_lat_g M W a alpha axis azi b czech datum e ellps es f gamma geoid_crs geoidgrids h "
-        "ip k k_0 lat_0 lat_1 lat_2 lat_3 lat_b lat_t lat_ts lon_0 lon_1 lon_2 lon_3 lonc m n nadgrids no_cut no_defs no_off "
-        "no_rot no_uoff ns o_alpha o_lat_1 o_lat_2 o_lat_c o_lat_p o_lon_1 o_lon_2 o_lon_c o_lon_p o_proj over path pm proj q rf "
-        "s south sweep sym theta tilt title to_meter towgs84 type units vto_meter vunits wktext x_0 y_0 zone approx algo "
-        "lsat plat_0 plon_0 ph0_ nlat rlat lat_c lon_c"
-    ).split()
-)
-# What a PROJ string may say though it is so without.
-DEFAULTS = {
-    "type": ("crs",),
-    "no_defs": ("",),
-    "wktext": ("",),
-    "axis": ("enu",),
-    "units": ("m",),
-    "vunits": ("m",),
-    "to_meter": ("1",),
-    "vto_meter": ("1",),
-    "pm": ("greenwich", "0"),
-    "ellps": ("GRS80",),
-}
-ZERO = frozenset("x_0 y_0 z_0 lat_0 lon_0 lat_1 lat_2 lat_ts lonc alpha gamma h_0".split())
-ONE = frozenset(("k", "k_0"))
-# Of an ellipsoid's sizes one may follow from others; a title and a transformation are no part of the source CRS.
-NOT_TRIED = frozenset("proj a b rf f e es R datum title towgs84 nadgrids geoidgrids".split())
+VERTICAL = re.compile(r"\s*,\s*VERTCS\s*[\[(]", re.IGNORECASE)
 UNITS = {"metre": 1.0, "degree": 0.0174532925199433, "unity": 1.0}
-WKT2_2019 = 2
+WKT2_2019, WKT1_GDAL, WKT1_ESRI = 2, 4, 5
 ERRORS_ALONE = 1
 STRICT = ("STRICT=YES", "UNSET_IDENTIFIERS_IF_INCOMPATIBLE_DEF=NO")
 FRONT = "BOUNDCRS[SOURCECRS["
-
-
-class NotRead(ValueError):
-    """Why PROJ's reading of a text isn't taken, in one line: in its words where it has any."""
 
 
 class Foreign(NamedTuple):
@@ -121,18 +98,16 @@ def form_of(text: str) -> Optional[str]:
 
 def is_foreign(text: bytes) -> bool:
     """Whether PROJ is asked for a text."""
-    try:
-        return form_of(text.decode()) is not None
-    except UnicodeDecodeError:
-        return False
+    return form_of(text.decode("utf-8", "replace")) is not None
 
 
 def read(text: Union[str, bytes]) -> Foreign:
     """What PROJ reads of a text whose form it has. ``NotRead`` where it warns or repairs, or isn't there."""
     try:
-        text = (text.decode() if isinstance(text, bytes) else text).strip()
-    except UnicodeDecodeError:
-        raise NotRead("the text isn't UTF-8") from None
+        given = (text.decode() if isinstance(text, bytes) else text).rstrip()
+    except UnicodeDecodeError as error:
+        raise NotRead(f"byte {error.object[error.start]:#04x} at {error.start} isn't UTF-8") from None
+    text = given.lstrip()
     form = form_of(text)
     if form is None:
         raise NotRead("PROJ isn't asked for a text of this form")
@@ -142,20 +117,26 @@ def read(text: Union[str, bytes]) -> Foreign:
     if proj is None:
         raise NotRead("it isn't there; osgeo (GDAL's Python) and pyproj have it")
     if form in (WKT1, BOUND):
-        check_delimiters(text)
+        check_delimiters(given)
     # JSON is parsed here first: how deep it may be is bounded.
-    given = parsed_json(text) if form == JSON else None
-    written, as_json = proj.read(checked_string(text) if form == STRING else text, form)
-    if form in (WKT1, BOUND):
-        check_measures(text, written)
+    members = parsed_json(text) if form == JSON else None
+    answer = functools.partial(proj.answer, form)
+    with proj.reading(checked_string(text) if form == STRING else text, form) as reading:
+        if form == WKT1:
+            with contextlib.closing(reading.again()) as again:
+                check_parts(given, reading.written, again, answer)
+        elif form == BOUND:
+            check_numbers(given, reading.written, answer)
+        if form == JSON:
+            for path in lost(members, json.loads(reading.as_json()), ""):
+                raise NotRead(f"PROJ would pass {path} over, or change it")
     if form == STRING:
-        check_effects(text, written, proj)
-    for path in lost(given, json.loads(as_json), "") if form == JSON else ():
-        raise NotRead(f"PROJ would pass {path} over, or change it")
-    plain, bound = unbound(written)
+        check_words(given, reading.written, answer)
+    plain, bound = unbound(reading.written)
     if bound:
         # PROJ names the axes of a target otherwise once it has read its own text. So one transformation has one text.
-        bound = unbound(proj.read(written, BOUND)[0])[1]
+        with proj.reading(reading.written, BOUND) as other:
+            bound = unbound(other.written)[1]
     return Foreign(form, plain, bound, proj.name)
 
 
@@ -230,85 +211,11 @@ def joined(node: str, parts: List[str]) -> str:
 # What no warning tells.
 
 
-def checked_string(text: str) -> str:
-    """A PROJ string that says a CRS. NotRead where it has a key that PROJ passes over: an unknown one, one again."""
-    keys: Set[str] = set()
-    for word in text.split():
-        key = word.lstrip("+").partition("=")[0]
-        if key not in KEYS:
-            raise NotRead(f"+{key} isn't known: PROJ would pass it over")
-        if key in keys:
-            raise NotRead(f"+{key} is there twice: PROJ would take one of them")
-        keys.add(key)
-    return text if "type" in keys else f"{text} +type=crs"
-
-
-def check_effects(text: str, written: str, proj: Proj) -> None:
-    """NotRead where a PROJ string has a word, no default, without which and with another value of which it says the same
-    CRS: PROJ passes over those that a projection doesn't have."""
-    words = text.split()
-    whole = without_remark(written)
-    for place, word in enumerate(words):
-        key, _, value = word.lstrip("+").partition("=")
-        if key in NOT_TRIED or is_default(key, value):
-            continue
-        before, after = words[:place], words[place + 1 :]
-        if read_words([*before, *after], proj) != whole or key == "ellps" and has_ellipsoid(words, whole, proj):
-            continue
-        # Where another word says the same, as +lat_1 does with +lat_0, another value still makes a difference.
-        if not value or key == "ellps" or read_words([*before, f"+{key}={another(value)}", *after], proj) == whole:
-            raise NotRead(f"{word} has no effect: PROJ would pass it over")
-
-
-def another(value: str) -> str:
-    """Another value than this, which an angle, a factor or a length may have too."""
-    try:
-        return f"{float(value) / 2 or 0.5:.15g}"
-    except ValueError:
-        return "10"
-
-
-def read_words(words: Sequence[str], proj: Proj) -> Optional[Node]:
-    """What PROJ reads of the words of a string, without a remark; None where that isn't taken."""
-    try:
-        return without_remark(proj.read(checked_string(" ".join(words)), STRING)[0])
-    except NotRead:
-        return None
-
-
-def without_remark(written: str) -> Node:
-    """A text without the remark in which PROJ keeps a string that it doesn't read in full; of a bound CRS the source."""
-    try:
-        whole = tree_of(written)
-    except (IndexError, ValueError):
-        raise NotRead("PROJ writes no well-formed text of it") from None
-    source = whole.child("SOURCECRS")
-    whole = source.nodes[0] if source else whole
-    return Node(whole.keyword, [it for it in whole.items if isinstance(it, str) or it.keyword != "REMARK"])
-
-
-def has_ellipsoid(words: Sequence[str], whole: Node, proj: Proj) -> bool:
-    """Whether a CRS has the ellipsoid of its string, which says a datum too, where the datum is left out."""
-    own = read_words([it for it in words if not it.lstrip("+").startswith("datum=")], proj)
-    return own is not None and sizes_of(own) == sizes_of(whole)
-
-
-def sizes_of(whole: Node) -> List[List[str]]:
-    """The numbers of a CRS's ellipsoids."""
-    return [it.values[1:] for it in whole.all() if it.keyword == "ELLIPSOID"]
-
-
-def is_default(key: str, value: str) -> bool:
-    """Whether a word of a PROJ string says what is so without it."""
-    if value in DEFAULTS.get(key, ()):
-        return True
-    return key in ZERO and rounded(value).lstrip("-") == "0" or key in ONE and rounded(value) == "1"
-
-
 def check_delimiters(text: str) -> None:
-    """NotRead where a text isn't one node, closed as it is opened: PROJ takes ``)`` for ``]``, and some more after the
-    end."""
+    """NotRead where a text isn't one node, or Esri's two of a compound CRS, closed as they are opened: PROJ takes ``)`` for
+    ``]``, and some more after the end."""
     closing: List[str] = []
+    is_second = False
     for match in DELIMITER.finditer(text):
         token = match[0]
         if token in CLOSING:
@@ -318,25 +225,9 @@ def check_delimiters(text: str) -> None:
                 raise NotRead(f"{token!r} is at character {match.start()}, where nothing closes so")
             closing.pop()
             if not closing and match.end() < len(text):
-                raise NotRead(f"more follows at character {match.end()}")
-
-
-def check_measures(text: str, written: str) -> None:
-    """NotRead where a unit's factor or a number of an ellipsoid isn't in what PROJ wrote, by 15 digits."""
-    known = {rounded(number) for number in NUMBER.findall(QUOTED.sub('""', written))}
-    for match in MEASURES.finditer(text):
-        for number in filter(None, match.groups()):
-            if rounded(number) not in known:
-                raise NotRead(
-                    f"PROJ would read {match[0].split('[')[0].split('(')[0].strip()} with another number than {number}"
-                )
-
-
-def rounded(number: str) -> str:
-    try:
-        return f"{float(number):.15g}"
-    except ValueError:
-        return number
+                if is_second or not VERTICAL.match(text, match.end()):
+                    raise NotRead(f"more follows at character {match.end()}")
+                is_second = True
 
 
 def parsed_json(text: str) -> Any:
@@ -462,24 +353,39 @@ class Proj:
         registry = f", EPSG {registry.decode()}" if registry else ""
         self.name = f"PROJ {info.major}.{info.minor}.{info.patch}{registry}"
 
-    def read(self, text: str, form: str) -> Tuple[str, str]:
-        """A text's CRS in WKT2:2019, and PROJJSON of a text that is PROJJSON. NotRead where PROJ says anything."""
-        with Context(self.calls, self.paths) as context:
-            crs = self.made(context, text, form in (WKT1, BOUND))
+    @contextlib.contextmanager
+    def reading(self, text: str, form: str) -> Iterator[Reading]:
+        """What PROJ reads of a text, in a context of its own. NotRead where PROJ says anything."""
+        with Context(self.calls, self.paths) as context, self.made(context, text, form in (WKT1, BOUND)) as crs:
             if not crs:
                 context.refuse()
-            try:
-                if not self.calls["proj_is_crs"](crs):
-                    raise NotRead("PROJ reads it, but as no CRS")
-                written = self.calls["proj_as_wkt"](context.at, crs, WKT2_2019, texts_of(["MULTILINE=NO"]))
-                as_json = self.calls["proj_as_projjson"](context.at, crs, None) if form == JSON else b""
-            finally:
-                self.calls["proj_destroy"](crs)
-            if context.said or written is None or as_json is None:
-                context.refuse()
-            return written.decode(), as_json.decode()
+            if not self.calls["proj_is_crs"](crs):
+                raise NotRead("PROJ reads it, but as no CRS")
+            yield Reading(self, context, crs, self.written(context, crs, WKT2_2019))
 
-    def made(self, context: Context, text: str, is_wkt: bool) -> Any:
+    def answer(self, form: str, text: str) -> Optional[str]:
+        """What PROJ writes of a text; None where its reading isn't taken."""
+        with contextlib.suppress(NotRead), self.reading(text, form) as found:
+            return found.written
+        return None
+
+    def written(self, context: Context, crs: Any, form: int) -> str:
+        """A CRS in a form of WKT; NotRead where PROJ says anything."""
+        options = ["MULTILINE=NO", *["OUTPUT_AXIS=YES"][: form == WKT1_GDAL]]
+        written = self.calls["proj_as_wkt"](context.at, crs, form, texts_of(options))
+        if context.said or written is None:
+            context.refuse()
+        return str(written.decode())
+
+    @contextlib.contextmanager
+    def made(self, context: Context, text: str, is_wkt: bool) -> Iterator[Any]:
+        crs = self.created(context, text, is_wkt)
+        try:
+            yield crs
+        finally:
+            self.calls["proj_destroy"](crs)
+
+    def created(self, context: Context, text: str, is_wkt: bool) -> Any:
         """What PROJ makes of a text; warnings and errors of a grammar are among what it says."""
         if not is_wkt:
             return self.calls["proj_create"](context.at, text.encode())
@@ -491,6 +397,30 @@ class Proj:
                 context.said += listed(given)
                 self.calls["proj_string_list_destroy"](given)
         return crs
+
+
+class Reading(NamedTuple):
+    """A CRS that PROJ holds of a text, and what PROJ writes of it."""
+
+    proj: Proj
+    context: Context
+    crs: Any
+    written: str
+
+    def as_json(self) -> str:
+        """In PROJJSON."""
+        found = self.proj.calls["proj_as_projjson"](self.context.at, self.crs, None)
+        if found is None:
+            self.context.refuse()
+        return str(found.decode())
+
+    def again(self) -> Generator[str, None, None]:
+        """What is written, in WKT1 as GDAL writes it, and as Esri does; nothing for one in which PROJ can't write it."""
+        with self.proj.made(self.context, self.written, True) as crs:
+            for form in (WKT1_GDAL, WKT1_ESRI) if crs else ():
+                self.context.said.clear()
+                with contextlib.suppress(NotRead):
+                    yield self.proj.written(self.context, crs, form)
 
 
 def texts_of(words: Sequence[str]) -> Any:

@@ -253,17 +253,25 @@ def wanted(meeting: Met) -> List[Tuple[Array, Array]]:
     return [(partitions[shared], groups[shared]) for partitions, groups, shared in parts]
 
 
-def texts_for(blocks: Sequence[Block], begin: int, keys: Tuple[Array, Array]) -> Block:
-    """The texts of keys of neighbouring partitions, of which the first has a number."""
-    found: List[bytes] = []
-    for partition, block in enumerate(blocks, begin):
-        groups = keys[1][keys[0] == partition]
-        if len(groups):
-            ends = block.ends[groups].tolist()
-            begins = numpy.concatenate([[0], block.ends])[groups].tolist()
-            whole = memoryview(block.bytes)
-            found += [bytes(whole[begin:end]) for begin, end in zip(begins, ends)]
-    return block_of(found)
+def texts_for(block: Block, partition: int, keys: Sequence[Tuple[Array, Array]]) -> List[Block]:
+    """The texts of a partition that each meeting wants of its span."""
+    whole, begins = memoryview(block.bytes), numpy.concatenate([[0], block.ends])
+    found = []
+    for partitions, groups in keys:
+        its = groups[partitions == partition]
+        ends = zip(begins[its].tolist(), block.ends[its].tolist())
+        found.append(block_of([bytes(whole[begin:end]) for begin, end in ends]))
+    return found
+
+
+def joined(parts: Sequence[Sequence[Block]]) -> List[Block]:
+    """The texts of neighbouring partitions that each meeting wants."""
+    found = []
+    for blocks in zip(*parts):
+        before = numpy.cumsum([0, *(len(it.bytes) for it in blocks)])
+        ends = [it.ends + begin for it, begin in zip(blocks, before)]
+        found.append(Block(numpy.concatenate([it.bytes for it in blocks]), numpy.concatenate(ends)))
+    return found
 
 
 def judged(meeting: Met, texts: Sequence[Block]) -> List[Tuple[Array, Array, Array, Array]]:

@@ -84,7 +84,9 @@ class Refused(ValueError):
     def kept(self, with_text: bool = False) -> Refused:
         """The same refusal to keep: without the calls that it was raised in, and without the text unless asked."""
         text, told = (self.text, self._told) if with_text else (None, self._parts)
-        return Refused(text, self.number, self.name, self.place, self.which, told, self.proj)
+        again = Refused(text, self.number, self.name, self.place, self.which, told, self.proj)
+        again.is_of_crs = self.is_of_crs
+        return again
 
     @property
     def line(self) -> int:
@@ -170,4 +172,5 @@ class Refused(ValueError):
         return f"Refused(number={self.number}, name={self.name!r}, place={self.place})"
 
     def __reduce__(self) -> Tuple[object, ...]:
-        return Refused, (self.text, self.number, self.name, self.place, self.which, self._told, self.proj)
+        arguments = self.text, self.number, self.name, self.place, self.which, self._told, self.proj
+        return Refused, arguments, {"is_of_crs": self.is_of_crs}

@@ -133,16 +133,22 @@ def add_tasks(
         graph.add("sent", it, _partitions.sent, digests[begin:end], begin, meetings)
         for it, (begin, end) in enumerate(spans)
     ]
-    told = []
+    met = []
     for it in range(meetings):
         keys = [graph.add("keys", f"{span}-{it}", item, key, it) for span, key in enumerate(sent)]
-        met = graph.add("met", it, _partitions.met, keys)
-        wanted = graph.add("wanted", it, _partitions.wanted, met)
-        texts = []
-        for span, (begin, end) in enumerate(spans):
-            asked = graph.add("asked", f"{span}-{it}", item, wanted, span)
-            texts.append(graph.add("texts_for", f"{span}-{it}", texts_for, halves[begin:end], begin, asked))
-        told.append(graph.add("judged", it, _partitions.judged, met, texts))
+        met.append(graph.add("met", it, _partitions.met, keys))
+    wanted = [graph.add("wanted", it, _partitions.wanted, key) for it, key in enumerate(met)]
+    texts = []
+    for span, (begin, end) in enumerate(spans):
+        items = [graph.add("asked", f"{span}-{it}", item, key, span) for it, key in enumerate(wanted)]
+        # Once for a partition, so that none of its texts goes to a worker but those that are compared.
+        asked = graph.add("asked_of", span, list, items)
+        parts = [graph.add("texts_for", it, texts_for, halves[it], it, asked) for it in range(begin, end)]
+        texts.append(graph.add("joined", span, _partitions.joined, parts))
+    told = []
+    for it, key in enumerate(met):
+        blocks = [graph.add("texts", f"{span}-{it}", item, its, it) for span, its in enumerate(texts)]
+        told.append(graph.add("judged", it, _partitions.judged, key, blocks))
     led = []
     for span, (begin, end) in enumerate(spans):
         parts = [graph.add("told", f"{span}-{it}", item, key, span) for it, key in enumerate(told)]
@@ -206,8 +212,8 @@ def item(parts: Any, place: int) -> Any:
     return parts[place]
 
 
-def texts_for(halves: List[Half], begin: int, keys: Any) -> Any:
-    return _partitions.texts_for([half.texts for half in halves], begin, keys)
+def texts_for(half: Half, partition: int, keys: Any) -> Any:
+    return _partitions.texts_for(half.texts, partition, keys)
 
 
 def bits_of(led: List[Led]) -> List[Any]:

@@ -6,10 +6,13 @@ rest goes on in another process. No process outlives the run.
 
 from __future__ import annotations
 
+import contextlib
+import functools
 import multiprocessing
 import multiprocessing.connection
 import os
 import signal
+import tempfile
 from collections import deque
 from dataclasses import dataclass, field
 from typing import Any, Callable, Deque, Dict, Iterator, List, NamedTuple, Optional, Sequence, Set, Tuple, TypeVar
@@ -23,6 +26,13 @@ Answer = TypeVar("Answer")
 MOST_ITEMS = 32
 
 
+# What a system tells of itself, which has no end: no link leads there, nor a folder that is named above it.
+SYSTEM = ("/proc", "/sys", "/dev")
+LEADS_OUT = "a link that leads out of what was named (--follow follows it)"
+LISTED = "a folder that is listed already"
+OF_SYSTEM = "it lies in /proc, /sys or /dev"
+
+
 class Odd(NamedTuple):
     """What is met on the way and isn't gone into, and why."""
 
@@ -32,10 +42,10 @@ class Odd(NamedTuple):
 
 @dataclass
 class Listing:
-    """The files below the paths that are asked for, in the order of the names' bytes.
+    """The files below the paths that are asked for, in the order of the names' bytes, whatever the order of the paths.
 
-    ``unread``  folders that can't be listed
-    ``passed``  links to folders that are listed already
+    ``unread``  folders that can't be listed, links that aren't followed, and data sets beside which there is one
+    ``passed``  folders and links to folders that are listed already
     ``others``  how many files have a suffix that isn't read, by suffix
     """
 
@@ -45,58 +55,143 @@ class Listing:
     others: Dict[str, int] = field(default_factory=dict)
 
 
-def listing_of(paths: Sequence[str], by_line: bool, with_txt: bool) -> Listing:
-    """The files of folders and all below them, and the files that are named. A folder is gone into once, by whatever
-    links it is reached, and a file that is named twice is read once."""
-    listing = Listing()
-    seen: Set[Tuple[int, int]] = set()
-    for path in dict.fromkeys(paths):
-        if os.path.isdir(path) and suffix_of(path.rstrip("/")) not in FOLDERS:
-            list_folder(path, seen, listing, by_line, with_txt)
+class Entry(NamedTuple):
+    """A name in a folder: its path, where that leads without links, and whether it is one; ``out`` has the names of the
+    folder's links that aren't followed."""
+
+    path: str
+    real: str
+    is_link: bool = False
+    out: Sequence[str] = ()
+
+
+def listing_of(paths: Sequence[str], by_line: bool, with_txt: bool, follows: bool = False) -> Listing:
+    """The files of folders and all below them, and the files that are named. A folder is gone into once, by its own name
+    before any link, and a file that is named twice is read once. Links lead to what lies in what is named, or, where they
+    are followed, anywhere else."""
+    named = [Entry(path, os.path.realpath(path)) for path in sorted(dict.fromkeys(paths), key=os.fsencode)]
+    walk = Walk([it.real for it in named], by_line, with_txt, follows)
+    for entry in named:
+        if os.path.isdir(entry.path) and suffix_of(entry.path.rstrip("/")) not in FOLDERS:
+            walk.list_folder(entry)
         else:
-            add_file(path, listing, way_of(path.rstrip("/"), True, by_line, with_txt))
-    listing.files = list(dict.fromkeys(listing.files))
-    return listing
+            out = walk.out_of(os.path.dirname(entry.path))
+            walk.add_file(entry._replace(out=out), way_of(entry.path.rstrip("/"), True, by_line, with_txt))
+    while walk.links:
+        walk.list_folder(walk.links.popleft())
+    walk.listing.files = list(dict.fromkeys(walk.listing.files))
+    return walk.listing
 
 
-def add_file(path: str, listing: Listing, way: Optional[Way]) -> None:
-    if way is None:
-        suffix = suffix_of(path)
-        listing.others[suffix] = listing.others.get(suffix, 0) + 1
-    else:
-        listing.files.append(File(path, way))
+def upwards(path: str) -> Iterator[str]:
+    """A path without links, and the folders that it lies in."""
+    yield path
+    while path != (path := os.path.dirname(path)):
+        yield path
 
 
-def list_folder(top: str, seen: Set[Tuple[int, int]], listing: Listing, by_line: bool, with_txt: bool) -> None:
-    """Adds the files of a folder and of those below it."""
-    waiting = [top]
-    while waiting:
-        path = waiting.pop()
-        try:
-            if suffix_of(path) in FOLDERS:
-                add_file(path, listing, Way.GDAL)
-                continue
-            if not os.path.isdir(path):
-                add_file(path, listing, way_of(path, False, by_line, with_txt))
-                continue
-            status = os.stat(path)
-            if (status.st_dev, status.st_ino) in seen:
-                listing.passed.append(Odd(path, "a folder that is listed already"))
-                continue
-            seen.add((status.st_dev, status.st_ino))
-            names = sorted(os.listdir(path), key=os.fsencode, reverse=True)
-        except OSError as error:
-            listing.unread.append(Odd(path, error.strerror or str(error)))
-            continue
-        waiting += [os.path.join(path, name) for name in names]
+def is_of_system(path: str) -> bool:
+    return any(it in SYSTEM for it in upwards(path))
+
+
+class Walk:
+    """A walk through folders. ``roots`` are the named paths without links, ``links`` those to folders outside of them,
+    which are gone into once all others are listed."""
+
+    def __init__(self, roots: Sequence[str], by_line: bool, with_txt: bool, follows: bool) -> None:
+        self.roots, self.by_line, self.with_txt, self.follows = frozenset(roots), by_line, with_txt, follows
+        self.listing = Listing()
+        self.seen: Set[Tuple[int, int]] = set()
+        self.links: Deque[Entry] = deque()
+
+    def holds(self, path: str) -> bool:
+        """Whether a path without links may be read: it lies in what is named, which alone can be the system's."""
+        roots = [it for it in upwards(path) if it in self.roots]
+        return any(map(is_of_system, roots)) if is_of_system(path) else self.follows or bool(roots)
+
+    def entries_of(self, path: str, real: str) -> Tuple[List[Entry], List[str]]:
+        """The names in a folder, in the order of their bytes, and the links among them that aren't followed."""
+        with os.scandir(path or ".") as found:
+            links = {it.name: it.is_symlink() for it in found}
+        entries = []
+        for name in sorted(links, key=os.fsencode):
+            its = os.path.join(path, name)
+            entries.append(Entry(its, os.path.realpath(its) if links[name] else os.path.join(real, name), links[name]))
+        out = [os.path.basename(it.path) for it in entries if it.is_link and not self.holds(it.real)]
+        return [it._replace(out=out) for it in entries], out
+
+    @functools.lru_cache(maxsize=1)
+    def out_of(self, path: str) -> List[str]:
+        """The links in a folder that aren't followed; none of one that can't be listed."""
+        with contextlib.suppress(OSError):
+            return self.entries_of(path, "")[1]
+        return []
+
+    def list_folder(self, top: Entry) -> None:
+        """Adds the files of a folder and of those below it."""
+        waiting = [top]
+        while waiting:
+            entry = waiting.pop()
+            try:
+                if entry is top or self.is_folder(entry):
+                    waiting += self.inside(entry)[::-1]
+            except OSError as error:
+                self.listing.unread.append(Odd(entry.path, error.strerror or str(error)))
+
+    def inside(self, folder: Entry) -> List[Entry]:
+        """What is in a folder; nothing of one that is listed already."""
+        status = os.stat(folder.path)
+        if (status.st_dev, status.st_ino) in self.seen:
+            self.listing.passed.append(Odd(folder.path, LISTED))
+            return []
+        self.seen.add((status.st_dev, status.st_ino))
+        return self.entries_of(folder.path, folder.real)[0]
+
+    def is_folder(self, entry: Entry) -> bool:
+        """Whether an entry is a folder to go into now; what isn't is added, or told. OSError of a link to itself."""
+        is_set = suffix_of(entry.path) in FOLDERS
+        is_folder = not is_set and os.path.isdir(entry.path)
+        way = Way.GDAL if is_set else way_of(entry.path, False, self.by_line, self.with_txt)
+        if not self.holds(entry.real) and (is_folder or way):
+            told = self.listing.unread if entry.is_link else self.listing.passed
+            told.append(Odd(entry.path, OF_SYSTEM if is_of_system(entry.real) else LEADS_OUT))
+        elif not is_folder:
+            self.add_file(entry, way)
+        elif not entry.is_link:
+            return True
+        elif any(it in self.roots for it in upwards(entry.real)):
+            self.listing.passed.append(Odd(entry.path, LISTED))
+        else:
+            self.links.append(entry)
+        return False
+
+    def add_file(self, entry: Entry, way: Optional[Way]) -> None:
+        """Adds a file, but for a data set whose library would follow a link that isn't followed, beside it or in it."""
+        suffix = suffix_of(entry.path)
+        if way is None:
+            if os.path.islink(entry.real):
+                os.stat(entry.path)  # it leads to itself alone
+            self.listing.others[suffix] = self.listing.others.get(suffix, 0) + 1
+            return
+        if way is Way.GDAL:
+            front = os.path.splitext(os.path.basename(entry.path.rstrip("/")))[0].casefold() + "."
+            out = [name for name in entry.out if name.casefold().startswith(front)]
+            for folder, _, _ in os.walk(entry.path) if suffix in FOLDERS else ():
+                out += self.out_of(folder)
+            if out:
+                self.listing.unread.append(Odd(entry.path, f"its {out[0]} is {LEADS_OUT}"))
+                return
+        self.listing.files.append(File(entry.path, way))
 
 
 # The processes.
 
 
-def work(connection: Any) -> None:
-    """What a process does: without a network it answers each item of each batch, until there are no more."""
+def work(connection: Any, folder: str) -> None:
+    """What a process does: without a network it answers each item of each batch, until there are no more. Its temporary
+    files lie in a folder that is removed with the processes."""
     signal.signal(signal.SIGINT, signal.SIG_IGN)
+    tempfile.tempdir = folder
     leave_network()
     try:
         while True:
@@ -110,9 +205,9 @@ def work(connection: Any) -> None:
 class Worker:
     """A process, and the numbers of the items that it was handed and hasn't answered."""
 
-    def __init__(self, context: Any) -> None:
+    def __init__(self, context: Any, folder: str) -> None:
         self.connection, its_own = context.Pipe()
-        self.process = context.Process(target=work, args=(its_own,), daemon=True)
+        self.process = context.Process(target=work, args=(its_own, folder), daemon=True)
         self.process.start()
         its_own.close()
         self.pending: Deque[int] = deque()
@@ -143,6 +238,7 @@ class Workers:
         self.context = multiprocessing.get_context("forkserver")
         self.context.set_forkserver_preload(["crsdesk.audit.judging"])
         self.workers: List[Worker] = []
+        self.folder = tempfile.TemporaryDirectory(prefix="crsdesk-")
 
     def __enter__(self) -> Workers:
         return self
@@ -153,6 +249,7 @@ class Workers:
         for worker in self.workers:
             worker.end()
         self.workers.clear()
+        self.folder.cleanup()
 
     def answers(
         self, function: Callable[[Item], Answer], items: Sequence[Item], lost: Callable[[str], Answer]
@@ -161,7 +258,7 @@ class Workers:
         ``lost`` makes its answer of how it ended."""
         waiting = deque(range(len(items)))
         while len(self.workers) < min(self.jobs, len(items)):
-            self.workers.append(Worker(self.context))
+            self.workers.append(Worker(self.context, self.folder.name))
         for _ in range(len(items)):
             self.hand_out(function, items, waiting)
             worker = self.next_answering()
@@ -171,7 +268,7 @@ class Workers:
             except (EOFError, ConnectionResetError):
                 number = worker.pending.popleft()
                 waiting.extendleft(reversed(worker.pending))
-                self.workers[self.workers.index(worker)] = Worker(self.context)
+                self.workers[self.workers.index(worker)] = Worker(self.context, self.folder.name)
                 answer = lost(worker.end())
             yield number, answer
 

@@ -3,6 +3,7 @@
 from __future__ import annotations
 
 import argparse
+import atexit
 import functools
 import importlib.util
 import os
@@ -13,7 +14,7 @@ from .. import Difference, Rules, RulesRefused
 from .collecting import Listing, Workers, listing_of
 from .judging import Told, Two, parts_of, told_of
 from .names import place_shown, readable, visible
-from .output import Outputs, is_special
+from .output import STANDARD, Outputs, is_special
 from .proj import library
 from .reading import Unread
 from .registry import Asked, Registered, Verdict, registered
@@ -60,7 +61,10 @@ def run_audit(run: Run, asked: argparse.Namespace) -> None:
         audit(run, asked, rules)
     except Stopped as stopped:
         for number in SIGNALS:
-            signal.signal(number, signal.SIG_DFL)
+            signal.signal(number, signal.SIG_IGN)
+        # What would be done at an end without a signal: processes leave no folder.
+        atexit._run_exitfuncs()
+        signal.signal(stopped.number, signal.SIG_DFL)
         os.kill(os.getpid(), stopped.number)
 
 
@@ -92,7 +96,7 @@ def audit(run: Run, asked: argparse.Namespace, rules: Sequence[RulesFile]) -> No
 
     named = [(asked.html, write_html), (asked.json, write_json), (asked.csv, write_csv)]
     named = [(name, write) for name, write in named if name is not None]
-    listing = listing_of(asked.paths, asked.lines, asked.txt)
+    listing = listing_of(asked.paths, asked.lines, asked.txt, asked.follow)
     clash = clash_of([name for name, _ in named], [*(it.path for it in listing.files), *asked.rules])
     if clash:
         run.tell(f"crsdesk: {clash}")
@@ -102,16 +106,18 @@ def audit(run: Run, asked: argparse.Namespace, rules: Sequence[RulesFile]) -> No
     try:
         with Outputs(list(writers)) as outputs:
             jobs = asked.jobs or len(os.sched_getaffinity(0))
-            report = report_on(asked.paths, listing, jobs, asked.convert, asked.registry, rules)
+            report = report_on(asked, listing, jobs, rules)
             for name, write in writers.items():
                 outputs.write(name, functools.partial(write, report))
             outputs.finish()
+    except BrokenPipeError:
+        raise
     except OSError as error:
         name = f"{readable(error.filename)}: " if isinstance(error.filename, str) else ""
         run.tell(f"crsdesk: {name}{error.strerror}")
         run.ends(FAULT)
         return
-    for line in lines_of(report):
+    for line in lines_of(report) if STANDARD not in writers else ():
         run.write(line)
     for untold in report.unread:
         run.tell(f"crsdesk: {place_shown(untold.place)}: {visible(untold.why)}")
@@ -125,11 +131,12 @@ def clash_of(names: Sequence[str], read: Sequence[str]) -> str:
     if not names:
         return ""
     for name in names:
-        path = os.path.realpath(name)
-        if path in paths and not is_special(name):
+        path = name if name == STANDARD else os.path.realpath(name)
+        if path in paths and (name == STANDARD or not is_special(name)):
             return f"{readable(name)}: two of the reports are to be written to it"
         paths[path] = name
-    identities = {identity: name for name in names if (identity := identity_of(name)) is not None}
+    files = [name for name in names if name != STANDARD]
+    identities = {identity: name for name in files if (identity := identity_of(name)) is not None}
     for file in read:
         path = os.path.realpath(file)
         identity = identity_of(file)
@@ -171,21 +178,15 @@ class Processes:
         return in_order(followed(answers, len(asked), "asking the registry"))
 
 
-def report_on(
-    paths: Sequence[str],
-    listing: Listing,
-    jobs: int,
-    converts: bool,
-    is_registered: bool,
-    rules: Sequence[RulesFile],
-) -> Report:
+def report_on(asked: argparse.Namespace, listing: Listing, jobs: int, rules: Sequence[RulesFile]) -> Report:
     """The report on the files of a listing, which processes read."""
     ruling = tuple(it.text for it in rules)
     with Workers(jobs) as workers:
-        function = functools.partial(told_of, converts=converts, ruling=ruling)
+        function = functools.partial(told_of, converts=asked.convert, ruling=ruling)
         answers = workers.answers(function, listing.files, lost_file)
         told = in_order(followed(answers, len(listing.files), "reading files"))
-        return report_of(paths, listing, told, Processes(workers, is_registered, ruling), rules)
+        asks = Processes(workers, asked.registry, ruling)
+        return report_of(asked.paths, listing, told, asks, rules, asked.source_of_bound)
 
 
 def in_order(answers: Iterable[Tuple[int, Answer]]) -> List[Answer]:

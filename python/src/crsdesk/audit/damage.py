@@ -10,6 +10,8 @@ import json
 import re
 from typing import Any, Dict, Iterator, List
 
+from .looks import kind_of_text, told_of_text
+
 # What a warning of the CRS has, among those that come as a data set is opened.
 OF_CRS = re.compile(
     r"PROJ|CRS|SRS|EPSG|WKT|geo ?key|GTIF|projection|datum|ellipsoid|spheroid|coordinate system|spatial ref", re.I
@@ -61,6 +63,14 @@ def invalid(reference: Any) -> List[str]:
     return [words_of(code)] if code else []
 
 
+def strange_beside(gdal: Any, path: str) -> List[str]:
+    """That the .prj by which a data set has its CRS is no text of a CRS: GDAL's words would quote some of it."""
+    front = path.rpartition(".")[0]
+    content = content_of(gdal, f"{front}.prj") or content_of(gdal, f"{front}.PRJ")
+    kind = kind_of_text(content) if content.strip() else ""
+    return [f"its .prj isn't read: {told_of_text(kind, len(content))}"] if kind else []
+
+
 def damage_beside(gdal: Any, data_set: Any, reference: Any) -> List[str]:
     """What is wrong in a text beside a data set (.prj) by which GDAL has its CRS: that it is damaged, or that GDAL took
     a CRS with another ellipsoid for it."""
@@ -105,6 +115,12 @@ def content_of(gdal: Any, path: str) -> bytes:
         return bytes(gdal.VSIFReadL(1, PIECE, file) or b"")
     finally:
         gdal.VSIFCloseL(file)
+
+
+def entities_in(gdal: Any, path: str) -> List[str]:
+    """That an XML file declares entities: GDAL resolves none that leads to another file, and says nothing of it."""
+    has_some = b"<!ENTITY" in content_of(gdal, path).replace(b"\0", b"")
+    return ["its XML has entities (<!ENTITY ..>), which aren't resolved"] if has_some else []
 
 
 # GeoJSON: where a file names a CRS that GDAL doesn't know, it answers WGS 84.

@@ -27,7 +27,7 @@ from .report import (
     cause_of,
 )
 
-FORM = "crsdesk audit 3"
+FORM = "crsdesk audit 4"
 
 
 def write_json(report: Report, file: TextIO) -> None:
@@ -82,6 +82,8 @@ def of_place(place: Place) -> Dict[str, Any]:
         data["line"] = place.line
     if place.read_by:
         data["read_by"] = place.read_by
+    if place.filled:
+        data["filled"] = [it.label for it in sorted(place.filled)]
     return data
 
 
@@ -111,6 +113,7 @@ def of_variant(variant: Variant) -> Dict[str, Any]:
         "number": variant.number,
         "identifiers": list(variant.crs.identifiers),
         "text": variant.crs.full,
+        "transformation": variant.crs.transformation or None,
         "parts": of_parts(variant.parts),
         "registered": of_registered(variant.registered) if variant.registered else None,
         "places": [of_place(it) for it in variant.places],
@@ -178,7 +181,8 @@ def of_refused(refused: RefusedText) -> Dict[str, Any]:
         "byte": found.place,
         "line": found.line,
         "column": found.column,
-        "piece": found.piece,
+        "length": found.length,
+        "piece": found.piece or None,
         "expected": list(found.expected),
         "meaning": found.meaning,
         "hint": found.hint or None,

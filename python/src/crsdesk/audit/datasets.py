@@ -3,11 +3,14 @@
 from __future__ import annotations
 
 import re
-from typing import NamedTuple, Optional
+from typing import FrozenSet, NamedTuple, Optional
+
+from .kinds import NO_AXES, NOTHING, Kind
 
 # The texts beside a data set, and what they may lie beside.
 BESIDE = (".prj", ".qpj")
 MAIN = (".shp", ".tif", ".tiff", ".jp2", ".img", ".asc", ".tab", ".mif", ".dxf")
+MAPINFO = (".tab", ".mif")
 SUFFIX = "|".join(re.escape(suffix) for suffix in (*BESIDE, *MAIN))
 FILE = re.compile(rf"(.*)({SUFFIX})", re.DOTALL | re.I)
 # In an archive a member is before the layer.
@@ -32,3 +35,12 @@ def belongs_to(file: str, layer: str) -> Optional[Belongs]:
     is_member = bool(layer) and file.lower().endswith(".zip")
     match = MEMBER.fullmatch(layer) if is_member else FILE.fullmatch(file)
     return Belongs(file if is_member else "", match[1], match[2].lower()) if match else None
+
+
+def filled_by(file: str, layer: str) -> FrozenSet[Kind]:
+    """What GDAL fills in where a text is what it writes of a data set. None of the formats beside which texts lie has
+    axes, and those of MapInfo have a datum's number, for which GDAL has names of its own."""
+    belongs = belongs_to(file, layer)
+    if belongs is None or belongs.is_beside:
+        return NOTHING
+    return NO_AXES | {Kind.DATUM} if belongs.suffix in MAPINFO else NO_AXES

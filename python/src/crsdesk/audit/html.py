@@ -19,6 +19,7 @@ from .. import Difference, __version__
 from .datasets import belongs_to
 from .judging import Box
 from .kinds import Kind, rows_of
+from .looks import told_of_text
 from .marking import Pieces, pieces_of
 from .names import counted, distinct, place_shown, readable, visible
 from .report import (
@@ -33,6 +34,7 @@ from .report import (
     bearing,
     cause_of,
     findings_of,
+    stating,
     verdict_told,
 )
 from .terminal import summary_rows
@@ -160,6 +162,7 @@ def environment_of() -> jinja2.Environment:
     )
     environment.filters.update(
         bearing=bearing,
+        cause=cause_of,
         counted=counted,
         lines=lines_of,
         statements=statements_of,
@@ -168,7 +171,9 @@ def environment_of() -> jinja2.Environment:
         readable=readable,
         shapes=shapes_of,
         short=short,
+        stating=stating,
         suffix=suffix_shown,
+        told=told_of_text,
         verdict=verdict_told,
         visible=visible,
         world=is_world,
@@ -199,7 +204,15 @@ def to_do(report: Report) -> Iterator[ToDo]:
         ToDo(len(report.unread), "can't be read", "untold"),
         ToDo(report.summary.disagreeing, "data sets whose texts disagree", "data-sets"),
         ToDo(len(findings_of(report)), "CRSs that aren't as registered", "registry"),
-        *(ToDo(kinds.count(it), f"near misses in {it.label}", "near-misses") for it in Kind if it is not Kind.NAMES),
+        *(
+            ToDo(
+                kinds.count(it),
+                f"near misses, CRSs of one name or identifier, that differ in {it.label}",
+                "near-misses",
+            )
+            for it in Kind
+            if it is not Kind.NAMES
+        ),
         ToDo(report.summary.refused, "texts that are refused", "refused"),
     )
     return (it for it in found if it.number)
@@ -270,10 +283,12 @@ def definitions_of(blocks: Any, definitions: Sequence[Definition]) -> Tuple[Part
 
 
 class Refusals(NamedTuple):
-    """Texts that are refused for one cause, by what to do with them, those of the most texts first."""
+    """Texts that are refused for one cause, by what to do with them, those of the most texts first; and the width of their
+    bar, from 0 to 1."""
 
     cause: str
     texts: int
+    width: float
     by_hint: Dict[Tuple[str, str], Part]
 
 
@@ -283,7 +298,8 @@ def refused_of(blocks: Any, refused: Sequence[RefusedText]) -> List[Refusals]:
         by_cause.setdefault(cause_of(text.refusal), []).append(text)
     room = ROOM_OF_REFUSED // max(1, len(by_cause))
     its = sorted(by_cause.items(), key=lambda it: (-len(it[1]), it[0]))
-    return [Refusals(cause, len(texts), by_hint_of(blocks, texts, room)) for cause, texts in its]
+    most = max(map(len, by_cause.values()), default=1)
+    return [Refusals(cause, len(texts), len(texts) / most, by_hint_of(blocks, texts, room)) for cause, texts in its]
 
 
 def by_hint_of(blocks: Any, texts: Sequence[RefusedText], room: int) -> Dict[Tuple[str, str], Part]:

@@ -6,13 +6,15 @@ import dataclasses
 import functools
 import hashlib
 from dataclasses import dataclass, field
-from typing import Dict, List, NamedTuple, Optional, Tuple, Union
+from typing import Dict, FrozenSet, List, NamedTuple, Optional, Tuple, Union
 
 from .. import Crs, Difference, Level, Refused, Rules, canon
 from .._facts import boxes_of
 from .._foreign import form_of
 from .converting import converted
-from .kinds import TRANSFORMATION, with_whole_sets
+from .datasets import filled_by
+from .kinds import NO_AXES, NOTHING, TRANSFORMATION, Kind, with_whole_sets
+from .looks import kind_of_text
 from .reading import File, Skipped, Text, Unread, Way, Without, read
 
 
@@ -51,7 +53,9 @@ class Refusal:
     """Why a text is refused, in the words of ``Refused``: ``place`` is its byte, ``piece`` the line with a caret below,
     ``expected`` what could stand there, ``hint`` what the text most likely is and what to do, or nothing, ``doubts`` why
     what PROJ reads the text as isn't taken, where that was tried. ``form`` is that of a text that PROJ is asked for, as
-    ``WKT1``, damaged or not; nothing of any other. ``keyword`` is one that is nowhere read there, as ``TIMECRS``."""
+    ``WKT1``, damaged or not; nothing of any other. ``keyword`` is one that is nowhere read there, as ``TIMECRS``. Of a text
+    that doesn't look like that of a CRS nothing is quoted: ``instead`` says what it is, ``length`` how many bytes it has.
+    """
 
     number: int
     name: str
@@ -65,12 +69,15 @@ class Refusal:
     doubts: Tuple[str, ...] = ()
     form: str = ""
     keyword: str = ""
+    instead: str = ""
+    length: int = 0
 
 
 class Judged(NamedTuple):
     """A text's answer: the CRS by its place in the list of its file, or the refusal; the digest tells equal texts.
-    ``read_by`` is the version of PROJ that has read it, where that was asked and the library refuses it; ``states_axes``
-    whether the text itself has the axes, which PROJ fills in where WKT1 has none."""
+    ``read_by`` is the version of PROJ that has read it, where that was asked and the library refuses it; ``filled``
+    has the kinds of parts that a reader filled in: PROJ the axes that WKT1 mostly has none of, GDAL what a format lacks.
+    """
 
     layer: str
     line: int
@@ -78,7 +85,7 @@ class Judged(NamedTuple):
     crs: int
     refusal: Optional[Refusal]
     read_by: str = ""
-    states_axes: bool = True
+    filled: FrozenSet[Kind] = NOTHING
 
 
 @dataclass
@@ -112,7 +119,8 @@ def told_of(file: File, converts: bool = False, ruling: Tuple[bytes, ...] = ()) 
                 told.texts.append(told.texts[-1]._replace(layer=found.layer))
                 continue
             try:
-                told.texts.append(judged(found, told.spelled, known, converts, rules))
+                its = judged(found, told.spelled, known, converts, rules)
+                told.texts.append(its._replace(filled=its.filled | filled_by(file.path, found.layer)))
                 last = found.text
             except MemoryError:
                 told.unread.append(Unread("out of memory", found.layer, found.line))
@@ -144,7 +152,7 @@ def judged(found: Text, spelled: List[Spelled], known: Known, converts: bool, ru
     try:
         crs = Crs(found.text)
     except Refused as refused:
-        refusal = refusal_of(refused, found.line, form_of(found.text.decode("utf-8", "replace")) or "")
+        refusal = refusal_of(refused, found)
         conversion = converted(found.text) if converts else None
         if conversion is None:
             return Judged(found.layer, found.line, digest, -1, refusal)
@@ -156,16 +164,16 @@ def judged(found: Text, spelled: List[Spelled], known: Known, converts: bool, ru
             except Refused as its:
                 doubts = (f"{conversion.producer} writes a text that is refused: {its.summary}",)
         if doubts:
-            return Judged(found.layer, found.line, digest, -1, dataclasses.replace(refusal, doubts=doubts))
+            refusal = dataclasses.replace(refusal, doubts=() if refusal.instead else doubts)
+            return Judged(found.layer, found.line, digest, -1, refusal)
     key = str(crs), transformation
     if key not in known:
         # Where memory is refused nothing is added.
         added = spelled_by(crs, transformation, rules)
         known[key] = len(spelled)
         spelled.append(added)
-    return Judged(
-        found.layer, found.line, digest, known[key], None, read_by, not read_by or b"AXIS" in found.text.upper()
-    )
+    filled = NO_AXES if read_by and b"AXIS" not in found.text.upper() else NOTHING
+    return Judged(found.layer, found.line, digest, known[key], None, read_by, filled)
 
 
 def spelled_by(crs: Crs, transformation: str, rules: Optional[Rules]) -> Spelled:
@@ -175,21 +183,23 @@ def spelled_by(crs: Crs, transformation: str, rules: Optional[Rules]) -> Spelled
     return Spelled(str(crs), definition, form, crs.kind, crs.name, crs.identifiers, boxes, transformation)
 
 
-def refusal_of(refused: Refused, line: int, form: str) -> Refusal:
+def refusal_of(refused: Refused, found: Text) -> Refusal:
     """A refusal's words, as they are said of files."""
-    hint = "; ".join([*refused.hints_of_file(line), *filter(None, [refused.proj])])
+    instead = kind_of_text(found.text)
     return Refusal(
         refused.number,
         refused.name,
         refused.place,
         refused.line,
         refused.column,
-        refused.piece(),
+        "" if instead else refused.piece(),
         refused.expected,
         refused.meaning,
-        hint,
-        form=form,
-        keyword=refused.keyword,
+        "" if instead else "; ".join([*refused.hints_of_file(found.line), *filter(None, [refused.proj])]),
+        form="" if instead else form_of(found.text.decode("utf-8", "replace")) or "",
+        keyword="" if instead else refused.keyword,
+        instead=instead,
+        length=len(found.text),
     )
 
 

@@ -1,4 +1,5 @@
-"""What kind of difference the parts are in which two CRSs differ: the datum, numbers, the axes, or names and digits.
+"""What kind of difference the parts are in which two CRSs differ: numbers, the axes, the datum, the transformation, or names
+and digits.
 
 Differences are the library's. A kind says which to look at first, and is no part of sameness.
 """
@@ -9,7 +10,7 @@ import enum
 import re
 import unicodedata
 from decimal import Decimal, InvalidOperation
-from typing import Dict, Iterator, List, NamedTuple, Optional, Sequence, Tuple
+from typing import Dict, FrozenSet, Iterator, List, NamedTuple, Optional, Sequence, Tuple
 
 from .. import Difference
 from .._tree import Node, nodes_in, text_of_node, tree_of, unquoted
@@ -18,23 +19,34 @@ from .._tree import Node, nodes_in, text_of_node, tree_of, unquoted
 class Kind(enum.IntEnum):
     """The kinds, those first that are looked at first.
 
-    ``DATUM``    another reference frame, epoch, geoid or transformation, or a CRS of another kind
     ``NUMBERS``  numbers that differ in more than their last digits; another method
     ``AXES``     directions or order of the axes, or how many there are
+    ``DATUM``    another reference frame, epoch or geoid, or a CRS of another kind
+    ``SHIFT``    another transformation, as ``TOWGS84`` brings it, or one beside none
     ``NAMES``    names, identifiers, usages, and numbers in their last digits
     """
 
-    DATUM = 0
-    NUMBERS = 1
-    AXES = 2
-    NAMES = 3
+    NUMBERS = 0
+    AXES = 1
+    DATUM = 2
+    SHIFT = 3
+    NAMES = 4
 
     @property
     def label(self) -> str:
         return LABELS[self]
 
 
-LABELS = {Kind.DATUM: "datum", Kind.NUMBERS: "numbers", Kind.AXES: "axes", Kind.NAMES: "names and digits"}
+LABELS = {
+    Kind.NUMBERS: "numbers",
+    Kind.AXES: "axes",
+    Kind.DATUM: "datum",
+    Kind.SHIFT: "transformation",
+    Kind.NAMES: "names and digits",
+}
+# The kinds of parts that a reader fills in where a text, or a format, has no place for them.
+NOTHING: FrozenSet[Kind] = frozenset()
+NO_AXES = frozenset((Kind.AXES,))
 # Numbers that differ by less than this part of the larger one differ in digits alone. It is less than the difference of
 # the flattenings of WGS 84 and GRS 1980, which is 5 parts in 10^9.
 NEAR = 1e-9
@@ -56,9 +68,9 @@ class Row(NamedTuple):
     kind: Kind
 
 
-def kind_of(parts: Sequence[Difference]) -> Kind:
-    """The kind of a pair of CRSs: the first of those of its parts."""
-    return min((row.kind for row in rows_of(parts)), default=Kind.NAMES)
+def kind_of(parts: Sequence[Difference], filled: FrozenSet[Kind] = NOTHING) -> Kind:
+    """The kind of a pair of CRSs: the first of those of its parts, but for kinds that a reader filled in on a side."""
+    return min((row.kind for row in rows_of(parts) if row.kind not in filled), default=Kind.NAMES)
 
 
 def rows_of(parts: Sequence[Difference]) -> List[Row]:
@@ -94,7 +106,7 @@ def kind_of_part(part: Difference, by_path: Dict[str, Difference]) -> Kind:
     if first in ("dynamic", "geoid"):
         return Kind.DATUM if part.first is not None and part.second is not None else Kind.NAMES
     if first == TRANSFORMATION:
-        return Kind.DATUM
+        return Kind.SHIFT
     return kind_of_methods(part, by_path) if part.path.endswith("method/name") else Kind.NAMES
 
 

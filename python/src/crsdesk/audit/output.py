@@ -5,15 +5,19 @@ from __future__ import annotations
 import contextlib
 import os
 import stat
+import sys
 import tempfile
 from typing import Callable, Dict, List, TextIO
+
+# The name of standard output.
+STANDARD = "-"
 
 
 class Outputs:
     """The files of a run, in a ``with``: what is written goes to files beside them, which take their names at the end,
     by ``finish``. Where that isn't reached, nothing is left, and older files of these names stay as they are.
 
-    What is no regular file, such as a device, is written to as it is.
+    What is no regular file, such as a device, is written to as it is; ``-`` is standard output.
     """
 
     def __init__(self, names: List[str]) -> None:
@@ -47,8 +51,10 @@ class Outputs:
 
     def write(self, name: str, write: Callable[[TextIO], None]) -> None:
         """Writes one of the files, in UTF-8."""
+        is_standard = name == STANDARD
+        path = sys.stdout.fileno() if is_standard else self.temporary.get(name, name)
         try:
-            with open(self.temporary.get(name, name), "w", encoding="utf-8", newline="") as file:
+            with open(path, "w", encoding="utf-8", newline="", closefd=not is_standard) as file:
                 write(file)
         except OSError as error:
             error.filename = name
@@ -72,6 +78,8 @@ class Outputs:
 
 def is_special(name: str) -> bool:
     """Whether a name is that of something other than a file, such as a device; a folder is, and can't be opened."""
+    if name == STANDARD:
+        return True
     try:
         return not stat.S_ISREG(os.stat(name).st_mode)
     except FileNotFoundError:

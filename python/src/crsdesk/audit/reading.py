@@ -10,6 +10,7 @@ import contextlib
 import enum
 import errno
 import os
+import re
 import shutil
 import sqlite3
 import stat
@@ -20,7 +21,7 @@ import zlib
 from typing import Any, BinaryIO, Callable, Dict, Iterable, Iterator, List, NamedTuple, Optional, Tuple, Union
 
 from .._crs import is_blank
-from .damage import OF_CRS, damage_beside, invalid, unknown_in_geojson, warnings_of
+from .damage import OF_CRS, damage_beside, entities_in, invalid, strange_beside, unknown_in_geojson, warnings_of
 from .drivers import DRIVERS, DRIVERS_OF_MEMBERS
 from .offline import gdal_of, in_own_thread
 
@@ -36,6 +37,12 @@ MOST_CHARACTERS = 1000
 # The most bytes of a database with a log that is copied.
 MOST_COPIED = 1 << 30
 DATABASE = b"SQLite format 3\0"
+# The flattening of an ellipsoid, how many characters one has that GDAL reckons, and by what part of it that is off.
+FLATTENING = re.compile(rb'(ELLIPSOID\["(?:[^"]|"")*",[^,\]]+,)([0-9.]+)')
+RECKONED = 15
+LAST_DIGITS = 1e-13
+# The flag of a zip's member that has a password.
+ENCRYPTED = 1
 
 
 class Way(enum.Enum):
@@ -94,6 +101,9 @@ DATABASES = frozenset((".gpkg", ".sqlite", ".sqlite3", ".db"))
 ARCHIVES = frozenset((".zip",))
 # A folder that is one data set.
 FOLDERS = frozenset((".gdb",))
+# The formats whose CRS is in the .prj beside.
+BY_PRJ = frozenset((".shp", ".asc"))
+XML = frozenset((".gml", ".kml"))
 OPEN_OPTIONS = {".gml": ["WRITE_GFS=NO", "DOWNLOAD_SCHEMA=NO"]}
 
 
@@ -208,6 +218,8 @@ def unchanged(path: str) -> Iterator[str]:
     has it open, it is read from a copy: SQLite makes a file to read a log."""
     address = "file:" + urllib.parse.quote(os.fsencode(path)) + "?mode=ro"
     log = path + "-wal"
+    if os.path.islink(log) or os.path.islink(path + "-shm"):
+        raise sqlite3.OperationalError("its log is a link, which isn't followed")
     if not os.path.exists(log) or os.path.getsize(log) == 0:
         yield address + "&immutable=1"
     elif os.path.exists(path + "-shm"):
@@ -311,6 +323,9 @@ def found_by_gdal(gdal: Any, path: str, member: str, names: Tuple[str, ...]) -> 
         yield Skipped(f"GDAL's driver {names[0]}", member)
         return
     options = OPEN_OPTIONS.get(suffix_of(path), [])
+    if suffix_of(path) in XML and (words := entities_in(gdal, path)):
+        yield Unread(words[0], member)
+        return
     try:
         with warnings_of(gdal) as words:
             data_set = gdal.OpenEx(path, gdal.OF_READONLY, allowed_drivers=drivers, open_options=options)
@@ -323,7 +338,27 @@ def found_by_gdal(gdal: Any, path: str, member: str, names: Tuple[str, ...]) -> 
     doubts = [word for word in words if OF_CRS.search(word)]
     if suffix_of(path) == ".geojson":
         doubts = unknown_in_geojson(gdal, path) or doubts
-    yield from layers_of_data_set(gdal, data_set, path, member, doubts)
+    is_geotiff = data_set.GetDriver().ShortName == "GTiff"
+    for found in layers_of_data_set(gdal, data_set, path, member, doubts):
+        yield with_flattening(gdal, path, found) if is_geotiff else found
+
+
+def with_flattening(gdal: Any, path: str, found: Found) -> Found:
+    """What a GeoTIFF states, with the flattening of its code in place of the one that GDAL reckons by the minor axis, and
+    whose last digits aren't the file's. Where the two differ in more than these digits it is as it was."""
+    number = FLATTENING.search(found.text) if isinstance(found, Text) else None
+    if not isinstance(found, Text) or number is None or len(number[2]) < RECKONED:
+        return found
+    gdal.SetThreadLocalConfigOption("GTIFF_SRS_SOURCE", "EPSG")
+    try:
+        other = reference_found(raster_reference(gdal.OpenEx(path, gdal.OF_RASTER)), found.layer, [])
+    finally:
+        gdal.SetThreadLocalConfigOption("GTIFF_SRS_SOURCE", None)
+    its = FLATTENING.search(other.text) if isinstance(other, Text) else None
+    if its is None or not isinstance(other, Text):
+        return found
+    is_near = abs(float(number[2]) - float(its[2])) <= LAST_DIGITS * float(its[2])
+    return other if is_near and FLATTENING.sub(rb"\1", other.text) == FLATTENING.sub(rb"\1", found.text) else found
 
 
 def told_by_gdal(error: RuntimeError, path: str) -> str:
@@ -338,13 +373,17 @@ def layers_of_data_set(gdal: Any, data_set: Any, path: str, member: str, doubts:
     """What the layers and rasters state; nothing does where there are doubts."""
 
     def stated(reference_of: Callable[[], Any], label: str) -> Found:
+        if strange:
+            return Unread(strange[0], label)
         try:
             with warnings_of(gdal) as words:
                 reference = reference_of()
-            beside = damage_beside(gdal, data_set, reference)
+            damage = damage_beside(gdal, data_set, reference)
         except RuntimeError as error:
             return Unread(f"GDAL: {told_by_gdal(error, path)}", label)
-        return reference_found(reference, label, doubts + beside + words)
+        return reference_found(reference, label, doubts + damage + words)
+
+    strange = strange_beside(gdal, path) if suffix_of(path) in BY_PRJ else []
 
     is_told = False
     for index in range(min(data_set.GetLayerCount(), MOST_LAYERS)):
@@ -380,7 +419,8 @@ def reference_found(reference: Any, layer: str, doubts: List[str]) -> Found:
         doubts = [" ".join(str(error).split())]
     if doubts:
         return Unread(f"GDAL: {'; '.join(doubts)}", layer)
-    return text_found(text.encode("utf-8", "surrogateescape"), layer)
+    # The bindings answer bytes where a text isn't UTF-8.
+    return text_found(text if isinstance(text, bytes) else text.encode("utf-8", "surrogateescape"), layer)
 
 
 # Archives.
@@ -398,13 +438,19 @@ def read_archive(path: str) -> Iterator[Found]:
 
 def members_of(archive: zipfile.ZipFile, path: str) -> Iterator[Found]:
     is_told = False
+    closed = [it.filename for it in archive.infolist() if it.flag_bits & ENCRYPTED]
     for entry in sorted(archive.infolist(), key=lambda it: it.filename):
         suffix = suffix_of(entry.filename)
         if entry.is_dir() or suffix not in TEXTS and suffix not in DRIVERS_OF_MEMBERS:
             continue
         is_told = True
-        if suffix in TEXTS:
+        front = entry.filename[: -len(suffix)] + "."
+        if entry.filename in closed:
+            yield Unread("zip: encrypted", entry.filename)
+        elif suffix in TEXTS:
             yield member_found(archive, entry)
+        elif its := [it for it in closed if it.startswith(front)]:
+            yield Unread(f"zip: its {os.path.basename(its[0])} is encrypted", entry.filename)
         else:
             yield from read_data_set(f"/vsizip/{path}/{entry.filename}", entry.filename, DRIVERS_OF_MEMBERS[suffix])
     if not is_told:

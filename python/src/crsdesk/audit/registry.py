@@ -8,12 +8,12 @@ from __future__ import annotations
 
 import enum
 from dataclasses import dataclass, field
-from typing import List, NamedTuple, Optional, Tuple
+from typing import FrozenSet, List, NamedTuple, Optional, Sequence, Tuple
 
 from .. import Difference, Refused, Rules, canon, differences
 from .._tree import Node, text_of_node, tree_of
 from .judging import rules_of
-from .kinds import Kind, folded, is_placeholder, kind_of, with_whole_sets
+from .kinds import NOTHING, Kind, folded, is_placeholder, kind_of, with_whole_sets
 from .proj import Candidate, Context, context
 
 
@@ -21,9 +21,9 @@ class Verdict(enum.Enum):
     """What a comparison with the registry says, those first that are looked at first."""
 
     OTHER_NAME = "bears another code's name"
-    DATUM = "datum"
     NUMBERS = "numbers"
     AXES = "axes"
+    DATUM = "datum"
     UNKNOWN_CODE = "code isn't in the registry"
     UNREAD = "the registry's CRS isn't read"
     FILLED_IN = "axes that the text doesn't state"
@@ -37,21 +37,22 @@ class Verdict(enum.Enum):
         return self in FINDINGS
 
 
-FINDINGS = (Verdict.OTHER_NAME, Verdict.DATUM, Verdict.NUMBERS, Verdict.AXES, Verdict.UNKNOWN_CODE)
+FINDINGS = (Verdict.OTHER_NAME, Verdict.NUMBERS, Verdict.AXES, Verdict.DATUM, Verdict.UNKNOWN_CODE)
 OF_KIND = {
-    Kind.DATUM: Verdict.DATUM,
     Kind.NUMBERS: Verdict.NUMBERS,
     Kind.AXES: Verdict.AXES,
+    Kind.DATUM: Verdict.DATUM,
     Kind.NAMES: Verdict.NAMES,
 }
 
 
 class Asked(NamedTuple):
-    """A CRS to look for: its canonical text, name and own identifiers."""
+    """A CRS to look for: its canonical text, name and own identifiers, and what no text of it states."""
 
     text: str
     name: str
     identifiers: Tuple[str, ...]
+    filled: FrozenSet[Kind] = NOTHING
 
 
 class Guess(NamedTuple):
@@ -118,7 +119,15 @@ def without_identifiers(text: str) -> str:
 
 
 def severity(found: Registered) -> Tuple[int, int]:
-    order = (Verdict.SAME, Verdict.NAMES, Verdict.AXES, Verdict.OTHER_NAME, Verdict.NUMBERS, Verdict.DATUM)
+    order = (
+        Verdict.SAME,
+        Verdict.NAMES,
+        Verdict.FILLED_IN,
+        Verdict.AXES,
+        Verdict.OTHER_NAME,
+        Verdict.NUMBERS,
+        Verdict.DATUM,
+    )
     return order.index(found.verdict) if found.verdict in order else len(order), -found.confidence
 
 
@@ -131,12 +140,18 @@ def compared(proj: Context, asked: Asked, rules: Optional[Rules], its: Candidate
     except Refused:
         return Registered(Verdict.UNREAD, identifier, "", confidence, is_own)
     name = tree_of(text).name
-    verdict = OF_KIND[kind_of(parts)] if parts else Verdict.SAME
-    found = Registered(verdict, identifier, name, confidence, is_own, parts)
+    found = Registered(verdict_of(parts, asked.filled), identifier, name, confidence, is_own, parts)
     found.other = other_of_name(proj, asked.name, identifier, name)
     if found.other:
         found.verdict = Verdict.OTHER_NAME
     return found
+
+
+def verdict_of(parts: Sequence[Difference], filled: FrozenSet[Kind]) -> Verdict:
+    kind = kind_of(parts, filled)
+    if kind is Kind.NAMES and kind_of(parts) is Kind.AXES:
+        return Verdict.FILLED_IN
+    return OF_KIND[kind] if parts else Verdict.SAME
 
 
 def other_of_name(proj: Context, name: str, identifier: str, registered_name: str) -> str:

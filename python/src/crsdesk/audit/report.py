@@ -4,28 +4,54 @@ from __future__ import annotations
 
 import collections
 import functools
+import itertools
 from dataclasses import dataclass, field
-from typing import Dict, Iterable, Iterator, List, NamedTuple, Optional, Protocol, Sequence, Set, Tuple
+from typing import Dict, FrozenSet, Iterable, Iterator, List, NamedTuple, Optional, Protocol, Sequence, Set, Tuple
 
 from .. import Difference
 from .collecting import Listing, Odd
 from .datasets import Belongs, belongs_to
 from .judging import Box, Refusal, Spelled, Told, Two
-from .kinds import Kind, folded, is_placeholder, kind_of
+from .kinds import NOTHING, Kind, folded, is_placeholder, kind_of
 from .reading import File
 from .registry import Asked, Registered, Verdict
 
 FULL, DEFINITION = "full", "definition"
+# What is wrong in a text that is refused by a number (docs/REFUSALS.md).
+WRONG = {
+    1: "a character out of place",
+    2: "a malformed number",
+    3: "a number out of bounds",
+    4: "not UTF-8",
+    5: "an open quote",
+    6: "a comma or bracket out of place",
+    7: "cut off, or a bracket is open",
+    8: "nested too deep",
+    11: "an unknown keyword",
+    12: "a part out of place",
+    13: "a part is missing",
+    21: "an unknown type or direction",
+    22: "a part twice",
+    23: "coordinate system of another kind of CRS",
+    24: "a compound CRS of other parts",
+    25: "another number of axes",
+    26: "order of the axes",
+    27: "a unit is missing or doesn't fit",
+    28: "a value out of range",
+    29: "a dynamic ensemble",
+}
 
 
 class Place(NamedTuple):
     """Where a text is: its file, with the layer or member in it, or the line, counted from 1. ``read_by`` is the version
-    of PROJ that has read the text, where it isn't read as it is."""
+    of PROJ that has read the text, where it isn't read as it is; ``filled`` has the kinds of parts that a reader filled in,
+    since the text doesn't state them."""
 
     file: str
     layer: str = ""
     line: int = 0
     read_by: str = ""
+    filled: FrozenSet[Kind] = NOTHING
 
 
 @dataclass
@@ -33,7 +59,7 @@ class Variant:
     """A CRS with everything, and where it is; ``number`` counts those of its definition.
 
     ``parts`` are those in which it differs from the first CRS of its definition: identifiers, usages, remarks.
-    ``registered`` is what the registry has of it, where that was asked; ``states_axes`` whether a text of it has its axes.
+    ``registered`` is what the registry has of it, where that was asked.
     """
 
     number: int
@@ -41,13 +67,18 @@ class Variant:
     places: List[Place] = field(default_factory=list)
     parts: List[Difference] = field(default_factory=list)
     registered: Optional[Registered] = None
-    states_axes: bool = False
+
+    @property
+    def filled(self) -> FrozenSet[Kind]:
+        """The kinds of parts that no text of it states."""
+        return frozenset.intersection(*(it.filled for it in self.places))
 
 
 @dataclass
 class Definition:
     """The CRSs that are the same by definition, or under rules, those of the most texts first; ``text`` is the canonical
-    text, or the form under rules. Bound CRSs of one source CRS are the same where their transformations are."""
+    text, or the form under rules. Bound CRSs of one source CRS are the same where their transformations are, or are with it
+    where the report takes source CRSs."""
 
     number: int
     text: str
@@ -73,9 +104,9 @@ class Definition:
         return list(dict.fromkeys(it for variant in self.variants for it in variant.crs.identifiers))
 
     @property
-    def states_axes(self) -> bool:
-        """Whether a text of it has its axes."""
-        return any(variant.states_axes for variant in self.variants)
+    def filled(self) -> FrozenSet[Kind]:
+        """The kinds of parts that no text of it states."""
+        return frozenset.intersection(*(variant.filled for variant in self.variants))
 
     @property
     def texts(self) -> int:
@@ -85,40 +116,54 @@ class Definition:
 
 @dataclass
 class Pair:
-    """Two definitions, by their numbers, that differ in parts; ``identifiers`` are those that both have, ``states_axes``
-    whether both have texts with axes."""
+    """Two definitions, by their numbers, that differ in parts; ``identifiers`` are those that both have, ``filled``
+    has the kinds of parts that on a side no text states: of a near miss any of the definition, of a data set its own.
+    """
 
     first: int
     second: int
     identifiers: List[str]
-    states_axes: bool = True
+    filled: FrozenSet[Kind]
     parts: List[Difference] = field(default_factory=list)
 
     @functools.cached_property
     def kind(self) -> Kind:
-        """That of the parts, once they are there; axes that no text states are no difference of axes."""
-        kind = kind_of(self.parts)
-        return Kind.NAMES if kind is Kind.AXES and not self.states_axes else kind
+        """That of the parts, once they are there."""
+        return kind_of(self.parts, self.filled)
 
 
 @dataclass
 class NearMiss:
     """Definitions that differ, of one name or of one identifier: ``by`` says which, and ``value`` has it. Each pair is
-    the definition of the most texts, and one of the others; what is to be looked at first comes first."""
+    the definition of the most texts, and one of the others; what is to be looked at first comes first. Where no text of
+    that one states its axes, those in ``of_axes`` are of the most texts of the others, and are pairs where axes differ.
+    """
 
     by: str
     value: str
     pairs: List[Pair]
+    of_axes: List[Pair] = field(default_factory=list)
+
+    @property
+    def crss(self) -> int:
+        """How many definitions there are."""
+        return len({number for pair in self.pairs for number in (pair.first, pair.second)})
 
     @functools.cached_property
     def kind(self) -> Kind:
         return min(pair.kind for pair in self.pairs)
 
+    @property
+    def is_likely(self) -> bool:
+        """Whether it is likely a mistake: numbers, axes or datums differ."""
+        return self.kind < Kind.SHIFT
+
 
 @dataclass
 class DataSet:
     """Files that belong to one data set, and the pairs of their CRSs that aren't the same by definition: each beside what
-    the data set itself says, or else its first text. ``path`` has no suffix."""
+    the data set itself says, or else its first text, and texts beside that have axes of their own beside each other.
+    ``path`` has no suffix."""
 
     path: str
     rows: List[Row]
@@ -174,7 +219,6 @@ class Row:
     definition: Optional[Definition] = None
     variant: Optional[Variant] = None
     refusal: Optional[Refusal] = None
-    states_axes: bool = True
 
 
 class Cause(NamedTuple):
@@ -198,7 +242,7 @@ class Summary:
                      ``respellings`` together
     ``alone``        CRSs that differ from another in identifiers, usages or remarks alone, or in what rules take away;
                      ``alone_definitions`` theirs
-    ``converted``    of the accepted texts those that PROJ has read, and ``read_by`` its version
+    ``converted``    of the accepted texts those that PROJ has read, and ``read_by`` its version; ``bound`` those of bound CRSs
     ``data_sets``    those of several texts, and of them how many disagree in more than names and digits
     ``registry``     accepted texts by what the registry has of their CRSs, where that was asked
     """
@@ -218,6 +262,7 @@ class Summary:
     alone_definitions: int = 0
     causes: List[Cause] = field(default_factory=list)
     converted: int = 0
+    bound: int = 0
     read_by: str = ""
     data_sets: int = 0
     disagreeing: int = 0
@@ -233,7 +278,8 @@ class RulesFile(NamedTuple):
 
 @dataclass
 class Report:
-    """All that an audit found, and the rules under which it compared, of no files where there were none."""
+    """All that an audit found, and the rules under which it compared, of no files where there were none; ``takes_source`` says
+    whether a bound CRS is in the group of its source CRS."""
 
     paths: List[str]
     rules: List[RulesFile]
@@ -248,6 +294,7 @@ class Report:
     skipped: List[Untold]
     passed: List[Untold]
     rows: List[Row]
+    takes_source: bool = False
 
     @property
     def status(self) -> int:
@@ -266,11 +313,16 @@ class Asks(Protocol):
 
 
 def report_of(
-    paths: Sequence[str], listing: Listing, told: Sequence[Told], asks: Asks, rules: Sequence[RulesFile] = ()
+    paths: Sequence[str],
+    listing: Listing,
+    told: Sequence[Told],
+    asks: Asks,
+    rules: Sequence[RulesFile] = (),
+    takes_source: bool = False,
 ) -> Report:
     """The report of what each of the listed files states, which was told under the same rules."""
     summary = Summary(files=len(listing.files))
-    report = Report(list(paths), list(rules), summary, [], [], [], [], [], [], [], [], [], [])
+    report = Report(list(paths), list(rules), summary, [], [], [], [], [], [], [], [], [], [], takes_source)
     report.summary.others = dict(sorted(listing.others.items()))
     report.unread += odd_ones(listing.unread)
     report.passed += odd_ones(listing.passed)
@@ -283,14 +335,13 @@ def report_of(
     report.data_sets = data_sets_of(report.rows)
     compare_all(report, asks)
     for miss in report.near_misses:
+        miss.pairs += [it for it in miss.of_axes if it.kind is Kind.AXES]
         miss.pairs.sort(key=lambda it: it.kind)
     report.near_misses.sort(key=rank)
     report.data_sets.sort(key=lambda it: Kind.NAMES + 1 if it.kind is None else it.kind)
     variants = [variant for definition in report.definitions for variant in definition.variants]
-    wanted = [Asked(it.crs.full, it.crs.name, it.crs.identifiers) for it in variants]
+    wanted = [Asked(it.crs.full, it.crs.name, it.crs.identifiers, it.filled) for it in variants]
     for variant, found in zip(variants, asks.register(wanted)):
-        if found.verdict is Verdict.AXES and not variant.states_axes:
-            found.verdict = Verdict.FILLED_IN
         variant.registered = found
     report.areas = areas_of(report.definitions)
     count(report)
@@ -306,8 +357,8 @@ def rows_of(files: Sequence[File], told: Sequence[Told], report: Report) -> Iter
     seen: Set[bytes] = set()
     for file, its in zip(files, told):
         for text in its.texts:
-            place = Place(file.path, text.layer, text.line, text.read_by)
-            row = Row(place, refusal=text.refusal, states_axes=text.states_axes)
+            place = Place(file.path, text.layer, text.line, text.read_by, text.filled)
+            row = Row(place, refusal=text.refusal)
             report.rows.append(row)
             if text.refusal:
                 report.refused.append(RefusedText(row.place, text.refusal))
@@ -326,14 +377,14 @@ def definitions_of(rows: Iterable[Tuple[Row, Optional[Spelled]]], report: Report
     for row, crs in rows:
         if crs is None:
             continue
-        way = crs.transformation
+        way = "" if report.takes_source else crs.transformation
         row.definition = found.setdefault((crs.form, way), Definition(0, crs.form, way))
-        if (crs.full, way) not in variants:
-            variants[crs.full, way] = Variant(0, crs)
-            row.definition.variants.append(variants[crs.full, way])
-        row.variant = variants[crs.full, way]
+        key = crs.full, crs.transformation
+        if key not in variants:
+            variants[key] = Variant(0, crs)
+            row.definition.variants.append(variants[key])
+        row.variant = variants[key]
         row.variant.places.append(row.place)
-        row.variant.states_axes |= row.states_axes
     definitions = sorted(found.values(), key=lambda it: -it.texts)
     for number, definition in enumerate(definitions, 1):
         definition.number = number
@@ -376,7 +427,9 @@ def near_misses_of(definitions: Sequence[Definition]) -> List[NearMiss]:
 
 
 def near_miss(by: str, value: str, first: Definition, others: Sequence[Definition]) -> NearMiss:
-    return NearMiss(by, value, [pair_of(first, it) for it in others])
+    stating = [it for it in others if Kind.AXES not in it.filled] if Kind.AXES in first.filled else []
+    of_axes = [pair_of(stating[0], it) for it in stating[1:]]
+    return NearMiss(by, value, [pair_of(first, it) for it in others], of_axes)
 
 
 def bearing(definition: Definition, miss: NearMiss) -> List[Place]:
@@ -391,9 +444,20 @@ def bearing(definition: Definition, miss: NearMiss) -> List[Place]:
     return [] if len(its) == len(definition.variants) else [place for it in its for place in it.places]
 
 
+def stating(definition: Definition, kind: Kind) -> List[Place]:
+    """The texts of a definition that state parts of a kind, which a reader filled in for the others; none where all do."""
+    places = [place for variant in definition.variants for place in variant.places]
+    its = [place for place in places if kind not in place.filled]
+    return [] if len(its) == len(places) else its
+
+
 def pair_of(first: Definition, second: Definition) -> Pair:
-    both = [it for it in first.identifiers if it in second.identifiers]
-    return Pair(first.number, second.number, both, first.states_axes and second.states_axes)
+    return Pair(first.number, second.number, common(first, second), first.filled | second.filled)
+
+
+def common(first: Definition, second: Definition) -> List[str]:
+    """The identifiers that both have."""
+    return [it for it in first.identifiers if it in second.identifiers]
 
 
 def data_sets_of(rows: Iterable[Row]) -> List[DataSet]:
@@ -409,10 +473,27 @@ def data_sets_of(rows: Iterable[Row]) -> List[DataSet]:
             # What the data set itself says comes first.
             its.sort(key=lambda it: it[0].is_beside)
             data_set = DataSet(f"{archive} ({path})" if archive else path, [row for _, row in its])
-            definitions = list({row.definition.number: row.definition for _, row in its if row.definition}.values())
-            data_set.pairs = [pair_of(definitions[0], it) for it in definitions[1:]]
+            data_set.pairs = list(pairs_of(data_set.rows))
             sets.append(data_set)
     return sets
+
+
+def pairs_of(rows: Sequence[Row]) -> Iterator[Pair]:
+    """The pairs of the CRSs of a data set. What a text says of axes or of a transformation is compared with what another
+    of these texts says, and with nothing that a reader filled in, or that another text leaves out."""
+    found: Dict[int, Definition] = {}
+    filled: Dict[int, FrozenSet[Kind]] = {}
+    for row in rows:
+        if row.definition:
+            number = row.definition.number
+            found[number] = row.definition
+            filled[number] = filled.get(number, row.place.filled) & row.place.filled
+    for one, other in itertools.combinations(found.values(), 2):
+        first, both = next(iter(found)), filled[one.number] | filled[other.number]
+        if not (one.transformation and other.transformation):
+            both |= {Kind.SHIFT}
+        if (one.text != other.text or Kind.SHIFT not in both) and (one.number == first or filled[first] - both):
+            yield Pair(one.number, other.number, common(one, other), both)
 
 
 def compare_all(report: Report, asks: Asks) -> None:
@@ -429,10 +510,11 @@ def compare_all(report: Report, asks: Asks) -> None:
         puts[places[two]].append(put)
 
     for definition in report.definitions:
-        first = definition.variants[0].crs.full
+        first = definition.variants[0].crs
         for variant in definition.variants[1:]:
-            add(Two(first, variant.crs.full, "full"), variant.parts)
-    of_misses = [pair for miss in report.near_misses for pair in miss.pairs]
+            ways = first.transformation, variant.crs.transformation
+            add(Two(first.full, variant.crs.full, "full", ways), variant.parts)
+    of_misses = [pair for miss in report.near_misses for pair in miss.pairs + miss.of_axes]
     for pair in of_misses + [pair for data_set in report.data_sets for pair in data_set.pairs]:
         one, other = (report.definitions[number - 1] for number in (pair.first, pair.second))
         add(Two(one.text, other.text, "definition", (one.transformation, other.transformation)), pair.parts)
@@ -495,7 +577,8 @@ def count(report: Report) -> None:
     summary.definitions = len(report.definitions)
     summary.crss = sum(len(it.variants) for it in report.definitions)
     variants = [variant for definition in report.definitions for variant in definition.variants]
-    summary.without_rules = len({(it.crs.definition, it.crs.transformation) for it in variants})
+    ways = {(it.crs.definition, "" if report.takes_source else it.crs.transformation) for it in variants}
+    summary.without_rules = len(ways)
     summary.respellings = summary.accepted - summary.crss - summary.copies
     several = [len(it.variants) for it in report.definitions if len(it.variants) > 1]
     summary.alone, summary.alone_definitions = sum(several), len(several)
@@ -503,6 +586,7 @@ def count(report: Report) -> None:
     summary.causes = [Cause(name, texts) for name, texts in causes.most_common()]
     read_by = [row.place.read_by for row in report.rows if row.place.read_by]
     summary.converted, summary.read_by = len(read_by), next(iter(read_by), "")
+    summary.bound = sum(len(it.places) for it in variants if it.crs.transformation)
     summary.data_sets = len(report.data_sets)
     summary.disagreeing = sum(it.disagrees for it in report.data_sets)
     counts: Dict[Verdict, int] = collections.Counter()
@@ -513,6 +597,7 @@ def count(report: Report) -> None:
 
 
 def cause_of(refusal: Refusal) -> str:
-    """Why a text is refused, in a word or two: what it is instead, a keyword that isn't read, or the refusal's name."""
-    name = refusal.form.removeprefix("a ") or refusal.keyword or refusal.name
+    """Why a text is refused, in a few words: what it is instead, a keyword that isn't read, or what is wrong in it."""
+    wrong = WRONG.get(refusal.number, refusal.name)
+    name = refusal.instead or refusal.form.removeprefix("a ") or refusal.keyword or wrong
     return f"{name}, damaged or not known to PROJ" if refusal.doubts else name

@@ -22,6 +22,8 @@ HEAD = (
     "registry",
     "rules",
 )
+# What a formula begins with, also in the wide forms of these characters; and the apostrophe itself.
+FORMULA = tuple("=+-@\t\r\n＝＋－＠'")
 
 
 def write_csv(report: Report, file: TextIO) -> None:
@@ -31,7 +33,13 @@ def write_csv(report: Report, file: TextIO) -> None:
     table.writerow(HEAD)
     paths = {it.place: data_set.path for data_set in report.data_sets for it in data_set.rows}
     rules = "; ".join(readable(it.name) for it in report.rules)
-    table.writerows([*cells_of(row, paths.get(row.place, "")), rules] for row in report.rows)
+    table.writerows(map(harmless, [*cells_of(row, paths.get(row.place, "")), rules]) for row in report.rows)
+
+
+def harmless(cell: str) -> str:
+    """A cell that no program takes for a formula: one that begins as one has an apostrophe before it, and so has one that
+    begins with an apostrophe."""
+    return f"'{cell}" if cell.startswith(FORMULA) else cell
 
 
 def cells_of(row: Row, data_set: str) -> List[str]:

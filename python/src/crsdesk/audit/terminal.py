@@ -7,32 +7,36 @@ import os
 from typing import Iterable, Iterator, Optional, Sequence, Tuple
 
 from .. import Difference
-from .kinds import rows_of
+from .kinds import Kind, rows_of
 from .names import counted, place_shown, readable, visible
-from .report import Definition, NearMiss, Pair, Report, Summary, bearing, findings_of, verdict_told
+from .report import Definition, NearMiss, Pair, Report, Summary, bearing, findings_of, stating, verdict_told
 
-# How many near misses are shown, and of each how many pairs, parts, and characters of a value.
+# How many near misses are shown, beside all that are likely mistakes; and of each how many pairs, parts, and characters of
+# a value.
 MOST_MISSES = 20
 MOST_PAIRS = 20
 MOST_PARTS = 8
 MOST_CHARACTERS = 60
+SOURCE = ", in the groups of their source CRSs"
 
 
 def lines_of(report: Report) -> Iterator[str]:
     """The summary, and the near misses, those that are most likely mistakes first."""
-    for label, value in summary_rows(report):
+    causes = "; ".join(f"{visible(it.name)}: {it.texts:,}" for it in report.summary.causes)
+    for label, value in [*summary_rows(report), *([("causes", causes)] if causes else [])]:
         yield f"{label:<13}{value}"
     for data_set in [it for it in report.data_sets if it.disagrees][:MOST_MISSES]:
         yield ""
         yield f"the texts of {readable(data_set.path)} disagree"
         yield from pair_lines(report, data_set.pairs, None, [place_shown(row.place) for row in data_set.rows])
     yield from registry_lines(report)
-    for miss in report.near_misses[:MOST_MISSES]:
+    shown = max(MOST_MISSES, sum(it.is_likely for it in report.near_misses))
+    for miss in report.near_misses[:shown]:
         yield ""
         yield from near_miss_lines(report, miss)
-    if len(report.near_misses) > MOST_MISSES:
+    if len(report.near_misses) > shown:
         yield ""
-        yield f"{len(report.near_misses) - MOST_MISSES:,} more near misses: --html and --json have all"
+        yield f"{len(report.near_misses) - shown:,} more near misses: --html and --json have all"
 
 
 def summary_rows(report: Report) -> Iterator[Tuple[str, str]]:
@@ -42,19 +46,14 @@ def summary_rows(report: Report) -> Iterator[Tuple[str, str]]:
     yield "texts", f"{summary.texts:,}: {summary.accepted:,} accepted, {summary.refused:,} refused"
     if report.rules:
         yield "rules", ", ".join(readable(it.name) for it in report.rules)
-    under = f", under the rules {summary.definitions:,}" if report.rules else ""
-    yield "CRSs", f"{summary.crss:,}; by definition {summary.without_rules:,}{under}"
-    yield "repeats", f"{counted(summary.copies, 'copy', 'copies')} of a text, {counted(summary.respellings, 'respelling')} of a CRS"
-    if summary.alone:
-        definitions = counted(summary.alone_definitions, "definition")
-        rules = ", or in what the rules take away" if report.rules else ""
-        yield "alone", f"{summary.alone:,} CRSs of {definitions} differ in identifiers, usages or remarks alone{rules}"
+    under = f", {summary.definitions:,} under the rules" if report.rules else ""
+    differ = f"{summary.without_rules:,} differ in more than identifiers, usages and remarks{under}"
+    yield "CRSs", f"{summary.crss:,}, of which {differ}"
+    yield "repeats", f"{counted(summary.copies, 'copy', 'copies')} of a text, {counted(summary.respellings, 'other spelling')} of a CRS"
     if summary.converted:
         yield "converted", f"{counted(summary.converted, 'text')} by {summary.read_by}"
-    if summary.causes:
-        yield "causes", "; ".join(f"{visible(it.name)}: {it.texts:,}" for it in summary.causes)
-    for refused in summary.refused_by_number:
-        yield "refused", f"{refused.number} {refused.name}: {counted(refused.texts, 'text')}"
+    if summary.bound:
+        yield "bound", f"{counted(summary.bound, 'text')} with a transformation{SOURCE if report.takes_source else ''}"
     if summary.data_sets:
         yield "data sets", f"{summary.data_sets:,} of several texts, of which {summary.disagreeing:,} disagree"
     if summary.registry:
@@ -93,7 +92,7 @@ def near_misses_told(report: Report) -> str:
 
 def near_miss_lines(report: Report, miss: NearMiss) -> Iterator[str]:
     head = f"of the {miss.by} {cut(visible(miss.value))}"
-    yield f"{counted(len(miss.pairs) + 1, 'CRS', 'CRSs')} {head}: {miss.kind.label}"
+    yield f"{counted(miss.crss, 'CRS', 'CRSs')} {head}: {miss.kind.label}"
     yield from pair_lines(report, miss.pairs, miss)
 
 
@@ -101,27 +100,34 @@ def pair_lines(
     report: Report, pairs: Sequence[Pair], miss: Optional[NearMiss] = None, files: Sequence[str] = ()
 ) -> Iterator[str]:
     """The first definition of pairs, and each other one with the parts in which it differs."""
-    yield from definition_lines(report.definitions[pairs[0].first - 1], miss)
+    first = 0
     for pair in pairs[:MOST_PAIRS]:
-        yield from definition_lines(report.definitions[pair.second - 1], miss)
+        if pair.first != first:
+            first = pair.first
+            yield from definition_lines(report.definitions[first - 1], miss, pair.kind)
+        yield from definition_lines(report.definitions[pair.second - 1], miss, pair.kind)
         yield from part_lines(pair.parts)
     if len(pairs) > MOST_PAIRS:
         yield f"  .. and {counted(len(pairs) - MOST_PAIRS, 'CRS', 'CRSs')} more"
     yield from (f"  {file}" for file in files)
 
 
-def definition_lines(definition: Definition, miss: Optional[NearMiss]) -> Iterator[str]:
-    """A definition, and which of its texts have the near miss's name or identifier, where not all have it."""
+def definition_lines(definition: Definition, miss: Optional[NearMiss], kind: Kind) -> Iterator[str]:
+    """A definition, and which of its texts have the near miss's name or identifier, or axes of their own where these
+    differ, where not all have."""
     yield f"  {told_of(definition)}"
     places = bearing(definition, miss) if miss else []
     if miss and places:
         yield f"    with this {miss.by} {counted(len(places), 'text')}, first {place_shown(places[0])}"
+    places = stating(definition, kind) if miss else []
+    if places:
+        yield f"    with {kind.label} of its own {counted(len(places), 'text')}, first {place_shown(places[0])}"
 
 
 def part_lines(parts: Sequence[Difference]) -> Iterator[str]:
     rows = sorted(rows_of(parts), key=lambda it: it.kind)
     for row in rows[:MOST_PARTS]:
-        yield f"    {cut_both(Difference(row.path, row.first, row.second))}"
+        yield f"    {visible(str(cut_both(Difference(row.path, row.first, row.second))))}"
     if len(rows) > MOST_PARTS:
         yield f"    .. and {counted(len(rows) - MOST_PARTS, 'part')} more"
 
