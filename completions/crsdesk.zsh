@@ -2,12 +2,13 @@
 # Completion of crsdesk's command line for zsh.
 
 _crsdesk() {
-    local -a commands level rules lines repeated names files json first verbose help
+    local -a commands level rules lines repeated names files whole name json first verbose help
     local file=_files
     commands=(
         'canon:write the canonical text'
+        'digest:write the SHA-256 of the canonical text'
         'check:tell what kind of CRS a text spells, or where it is refused'
-        'group:group lines by the CRSs that they spell'
+        'group:group lines or files by the CRSs that they spell'
         'same:compare two texts'
         'explain:explain a refusal, or all parts in which two texts differ'
         'help:print help'
@@ -15,9 +16,11 @@ _crsdesk() {
     level=('--level=[what counts]:level:(full definition)')
     rules=('*--rules=[count as the same what the rules in a file say]:file:_files')
     lines=('--lines[take each line as a text]')
-    repeated=('--repeated[write the groups of two lines or more alone]')
+    repeated=('--repeated[write the groups of two texts or more alone]')
     names=('--names[take names from the fronts of lines, and write them for numbers]')
     files=('--files[take the operands as names of files]')
+    whole=('--files[take each file as a text]')
+    name=('(-H --with-name)'{-H,--with-name}'[begin each line with the name of the file]')
     json=('--json[write objects of JSON, one a line]')
     first=('*--first=[tell the parts first whose paths have these words]:words:_sequence compadd - accuracy anchor anchorepoch axis base conversion datum dimension direction dynamic ellipsoid epoch flattening geoid horizontal id kind longitude members meridian method model name parameters remark semimajor system type unit usage vertical')
     verbose=('(-v --verbose)'{-v,--verbose}'[tell the reason of a fault too]')
@@ -39,10 +42,10 @@ _crsdesk() {
     # A word that begins with - is a file after -- alone.
     [[ $PREFIX == -* && ${words[(i)--]} -ge CURRENT ]] && file=false
     case $command in
-        canon) _arguments -S $level $rules $lines $verbose $help '*:file:'$file ;;
-        check) _arguments -S $lines $verbose $help '*:file:'$file ;;
-        group) _arguments -S $level $rules $json $repeated $names $verbose $help '*:file:'$file ;;
-        same) _arguments -S $files $level $rules $verbose $help '1:first:'$file '2:second:'$file ;;
+        canon|digest) _arguments -S $level $rules $lines $name $verbose $help '*:file:'$file ;;
+        check) _arguments -S $json $lines $name $verbose $help '*:file:'$file ;;
+        group) _arguments -S $level $rules $json $repeated $names $whole $name $verbose $help '*:file:'$file ;;
+        same) _arguments -S $files $json $level $rules $verbose $help '1:first:'$file '2:second:'$file ;;
         explain) _arguments -S $files $first $json $level $rules $verbose $help '1:first:'$file '2:second:'$file ;;
         help) (( CURRENT == 2 )) && _describe command commands ;;
     esac

@@ -3,6 +3,7 @@
        SELECT load_extension('crsdesk_sqlite');
 
    crs_canon(text [, level [, rules]])      the canonical text; NULL of a text that spells no CRS
+   crs_digest(text [, level [, rules]])     the SHA-256 of that in hexadecimal, a key of 64 characters
    crs_kind(text)                           geodetic, geographic, projected, vertical or compound; NULL of such a text
    crs_same(a, b [, level [, rules]])       1 where both spell the same CRS, else 0; NULL where either spells none
    crs_difference(a, b [, level [, rules]]) the path of the first part that differs, or the word same; NULL where either
@@ -354,6 +355,31 @@ static void crs_canon(sqlite3_context *context, int count, sqlite3_value **value
     give_none(context, code);
 }
 
+static void crs_digest(sqlite3_context *context, int count, sqlite3_value **values)
+{
+    struct crsdesk_refusal refusal;
+    struct crsdesk_rules *rules;
+    struct text text;
+    uint32_t level, code;
+    size_t length;
+    char digest[CRSDESK_DIGEST_LENGTH], shown[HEX_LENGTH], *form = NULL;
+
+    if (any_null(count, values) || !take_level(context, count, values, 1, &level) ||
+        !take_rules(context, count, values, 2, &rules) || !take_text(context, values[0], &text))
+        return;
+    /* A form is its own canonical text. */
+    if (rules != NULL && !take_form(context, rules, level, &text, &form))
+        return;
+    code = crsdesk_digest(text.bytes, text.length, level, digest, sizeof digest, &length, &refusal);
+    sqlite3_free(form);
+    if (code != CRSDESK_OK) {
+        give_none(context, code);
+        return;
+    }
+    in_hexadecimal(digest, shown);
+    sqlite3_result_text(context, shown, sizeof shown, SQLITE_TRANSIENT);
+}
+
 static const char *const KINDS[] = {"", "geodetic", "geographic", "projected", "vertical", "compound"};
 
 static void crs_kind(sqlite3_context *context, int count, sqlite3_value **values)
@@ -568,6 +594,9 @@ int sqlite3_crsdesksqlite_init(sqlite3 *db, char **error, const sqlite3_api_rout
         {"crs_canon", 1, PURE, crs_canon},
         {"crs_canon", 2, PURE, crs_canon},
         {"crs_canon", 3, PURE, crs_canon},
+        {"crs_digest", 1, PURE, crs_digest},
+        {"crs_digest", 2, PURE, crs_digest},
+        {"crs_digest", 3, PURE, crs_digest},
         {"crs_kind", 1, PURE, crs_kind},
         {"crs_same", 2, PURE, crs_same},
         {"crs_same", 3, PURE, crs_same},

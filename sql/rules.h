@@ -1,4 +1,4 @@
-/* Rules files and the forms of texts under them (docs/RULES.md), for both extensions for SQL. */
+/* Rules files and the forms of texts under them (docs/RULES.md), and digests, for both extensions for SQL. */
 #ifndef CRSDESK_SQL_RULES_H
 #define CRSDESK_SQL_RULES_H
 
@@ -39,6 +39,20 @@ static void copy_form(struct crsdesk_rules *rules, char *out, size_t length)
     for (from = 0; from < length; from += piece.length) {
         piece = crsdesk_rules_piece(rules, from);
         memcpy(out + from, piece.bytes, piece.length);
+    }
+}
+
+/* How many characters a digest has in hexadecimal. */
+#define HEX_LENGTH (2 * CRSDESK_DIGEST_LENGTH)
+
+/* Writes a digest in hexadecimal. */
+static void in_hexadecimal(const char *digest, char *out)
+{
+    int i;
+
+    for (i = 0; i < CRSDESK_DIGEST_LENGTH; i++) {
+        out[2 * i] = "0123456789abcdef"[(unsigned char)digest[i] >> 4];
+        out[2 * i + 1] = "0123456789abcdef"[digest[i] & 15];
     }
 }
 

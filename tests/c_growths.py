@@ -196,6 +196,7 @@ def trials_of(case: rows.Case) -> Iterator[Trial]:
         yield direct("check", text)
         yield direct("canon", text, level)
         yield direct("canon", text, level, room=3)
+        yield direct("digest", text, level)
 
 
 def main(hook: str) -> int:

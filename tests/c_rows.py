@@ -7,6 +7,7 @@ doesn't answer must be as before. Calls of one text, or of two, must agree with 
 from __future__ import annotations
 
 import ctypes
+import hashlib
 import re
 from typing import Any, Callable, Iterable, Iterator, List, Optional, Tuple
 
@@ -57,7 +58,7 @@ def is_asked(case: rows.Case) -> bool:
     takes_rules = words[0] in (b"canon", b"group", b"same") and b"--lines" not in words
     if names and not (takes_rules and all(it in case.files for it in names)):
         return False
-    inputs = ([b"canon"], [b"check"], [b"explain"], [b"group"], [b"canon", b"--lines"])
+    inputs = ([b"canon"], [b"digest"], [b"check"], [b"explain"], [b"group"], [b"canon", b"--lines"])
     of_two = len(words) == 3 and words[0] in (b"same", b"explain") and not {b"--json", b"--files"} & set(words)
     return words in inputs or of_two
 
@@ -320,9 +321,9 @@ class Asker:
     # Many texts.
 
     def each(
-        self, texts: bytes, places: List[Tuple[int, int]], level: int, room: int
+        self, texts: bytes, places: List[Tuple[int, int]], level: int, room: int, name: str = "canon_each"
     ) -> Iterator[Tuple[int, bytes, Tuple[int, int]]]:
-        """What canon_each says of all texts of a buffer, in as many calls as the room needs."""
+        """What such a call says of all texts of a buffer, in as many calls as the room needs."""
         kind, done = TYPES["crsdesk_entry"], ctypes.c_size_t(UNTOLD)
         entries = (kind * len(places))(*((begin, end, *[UNTOLD] * 4) for begin, end in places))
         size, block, before = ctypes.sizeof(kind), Block(len(texts), self.begins, texts), bytes(entries)
@@ -332,7 +333,7 @@ class Asker:
             for asked in (2, level):
                 out = Block(room, self.begins)
                 given = block.at, len(texts), at, len(places) - start, asked, out.at, room, ctypes.byref(done)
-                code = self.call("canon_each", *given)
+                code = self.call(name, *given)
                 assert asked != 2 or (code, done.value, bytes(entries)[start * size :]) == (
                     NO_LEVEL,
                     UNTOLD,
@@ -382,6 +383,9 @@ class Asker:
             answers = zip(self.each(case.input, places, level, 2 * len(case.input) + 1000), lines)
             return b"".join((it[1] or (self.refusal(it[2]) if line.strip() else b"")) + b"\n" for it, line in answers)
         found, kind, explained = self.one(case.input, level)
+        if words == [b"digest"]:
+            found = self.text("digest", case.input, level)
+            kind = found[1].hex().encode()
         good = found[1] if words == [b"canon"] else kind
         if found[0] == OK:
             return good + b"\n"
@@ -422,6 +426,8 @@ def hold_together(asker: Asker, level: int, room: int) -> None:
         other = [2**64 - 1 - index, end + 5, begin + index % 3 - 2, begin + index % 3 - 3][index % 4]
         places += [(begin, end), (begin + index % 3, max(other, 0))]
         whole += text
-    for found, (begin, end) in zip(asker.each(whole, places, level, room), places):
+    digests = asker.each(whole, places, level, room, "digest_each")
+    for found, digest, (begin, end) in zip(asker.each(whole, places, level, room), digests, places):
         code, written, why = asker.text("canon", whole[begin : max(begin, end)], level)
         assert found == (code, written, (0, 0) if code == OK else why), (begin, end)
+        assert digest == (code, hashlib.sha256(written).digest() if code == OK else b"", found[2]), (begin, end)

@@ -3,6 +3,7 @@ and what they promise alike. A database's own spelling of it is a Dialect."""
 
 from __future__ import annotations
 
+import hashlib
 from typing import Callable, Iterable, Iterator, List, NamedTuple, Optional, Sequence, Tuple
 
 import rows
@@ -58,6 +59,10 @@ def of_case(case: rows.Case, is_blob: bool, dialect: Dialect) -> Iterator[Statem
         yield case.place, f"SELECT {call}, crs_refusal({texts[0]});", f"{canonical}|{refusal}"
         under = ", ".join([texts[0], *(level or ["'full'"]), "''"])
         yield f"{case.place} under no rules", f"SELECT {dialect.hex(f'crs_canon({under})')};", canonical
+    elif words == [b"digest"]:
+        under = ", ".join([texts[0], *(level or ["'full'"]), "''"])
+        told = "" if refusal else wanted.decode()
+        yield case.place, f"SELECT crs_digest({', '.join([texts[0], *level])}), crs_digest({under});", f"{told}|{told}"
     elif words == [b"check"]:
         kind = "" if refusal else wanted.decode().split()[1]
         yield case.place, f"SELECT crs_kind({texts[0]}), crs_refusal({texts[0]});", f"{kind}|{refusal}"
@@ -208,7 +213,7 @@ RULES = '# of heights\nSAME[VDATUM["D"],VDATUM["E"]]\n\nUNCOUNTED[axisName]\n'
 OTHER = HEIGHT.replace('"D"', '"E"').replace('"h"', '"x"')
 FORM = CANONICAL_HEIGHT.replace('"h"', '""')
 # The calls that take rules, with what they are given before these.
-UNDER = [f"crs_canon('{HEIGHT}', 'full', "] + [
+UNDER = [f"{call}('{HEIGHT}', 'full', " for call in ("crs_canon", "crs_digest")] + [
     f"{call}('{HEIGHT}', '{OTHER}', 'full', " for call in ("crs_same", "crs_difference", "crs_differences")
 ]
 
@@ -216,6 +221,8 @@ UNDER = [f"crs_canon('{HEIGHT}', 'full', "] + [
 def of_rules(dialect: Dialect) -> Iterator[Statement]:
     """Under rules forms are answered and compared."""
     yield "a form", f"SELECT crs_canon('{OTHER}', 'full', '{RULES}'), crs_canon('{FORM}', 'full', '{RULES}');", f"{FORM}|{FORM}"
+    digest = hashlib.sha256(FORM.encode()).hexdigest()
+    yield "a digest of a form", f"SELECT crs_digest('{OTHER}', 'full', '{RULES}');", digest
     for rules, is_same, path in ((RULES, 1, "same"), (RULES.partition("SAME")[0], 0, "datum/name")):
         for text, twin in ((HEIGHT, OTHER), (OTHER, HEIGHT)):
             given = f"'{text}', '{twin}', 'full', '{rules}'"

@@ -80,7 +80,8 @@ def test_group(files: Files) -> None:
     groups = "group 1: height.wkt again.wkt\ngroup 2: 'other name.wkt'\nblank.wkt: blank\n"
     assert (status, output) == (1, f"{groups}old.prj: refused 11 UnknownKeyword at 0\n")
     assert error.startswith("old.prj: refused 11 UnknownKeyword at 0, line 1, column 1\n") and "WKT1" in error
-    assert files.run("group", "height.wkt", "noted.wkt")[1] == "group 1: height.wkt\ngroup 2: noted.wkt\n"
+    for words in (["group"], ["group", "--files"]):
+        assert files.run(*words, "height.wkt", "noted.wkt")[1] == "group 1: height.wkt\ngroup 2: noted.wkt\n"
     wanted = (0, "group 1: height.wkt noted.wkt\n", "")
     assert files.run("group", "height.wkt", "noted.wkt", "--level=definition") == wanted
     assert files.run("group", "height.wkt", "missing", "again.wkt")[:2] == (2, "group 1: height.wkt again.wkt\n")

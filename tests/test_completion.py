@@ -73,7 +73,7 @@ STARTS = {
     "fish by source": f"source {ROOT}/completions/crsdesk.fish",
 }
 SHELLS = ["bash", "zsh", "fish"]
-COMMANDS = ["canon", "check", "explain", "group", "same"]
+COMMANDS = ["canon", "check", "digest", "explain", "group", "same"]
 # How the README's commands that begin with ./crsdesk are typed.
 README = {
     "./crs\tsa\t--f\t--le\td\tex\tpoland.\tex\tpoland_g\t": (
@@ -278,7 +278,7 @@ def test_shown(start: str, shells: Shells, program: pathlib.Path) -> None:
     tab = "\t\t" if start == "bash" else "\t"
     shell.shows(f"crsdesk {tab}", [*COMMANDS, "help"])
     for command in COMMANDS:
-        options = re.findall(r"^ +(?:-\w, )?(--\w+)", run([program, "help", command]).stdout, re.M)
+        options = re.findall(r"^ +(?:-\w, )?(--[\w-]+)", run([program, "help", command]).stdout, re.M)
         shell.shows(f"crsdesk {command} -{tab}", options)
         shell.shows(f"crsdesk {command} {tab}", ["-dash.wkt", "examples", "rules"])
     shell.shows(f"crsdesk same --level {tab}", ["full", "definition"])

@@ -38,7 +38,7 @@ FILES = {
     "share/man/man1/crsdesk.1",
 }
 FOLDER_OF_DOCUMENTS = "share/doc/crsdesk"
-COMMANDS = ("canon", "check", "explain", "group", "same")
+COMMANDS = ("canon", "check", "digest", "explain", "group", "same")
 # What has its files below the list's own folder and the prefix, which a user has.
 OWN = "share/crsdesk/own.txt"
 # Prints what the words before the last are completed to.
@@ -194,7 +194,7 @@ def test_manual(prefix: pathlib.Path) -> None:
 def helped(prefix: pathlib.Path, *words: str) -> Set[str]:
     """The commands and options that the program's help has."""
     lines = run([prefix / "bin/crsdesk", *words]).stdout.split("\n")
-    found = [re.match(r"  +(?:(\w+)  |(-\w), (--\w+)|(--\w+))", line) for line in lines]
+    found = [re.match(r"  +(?:(\w+)  |(-\w), (--[\w-]+)|(--[\w-]+))", line) for line in lines]
     return {it for match in found if match for it in match.groups() if it}
 
 

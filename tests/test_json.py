@@ -1,10 +1,10 @@
-"""`explain --json` and `group --json`: each line is of the schema, and says what the lines without the flag say."""
+"""`explain`, `group`, `check` and `same` with `--json`: each line is of the schema, and says what the lines without the flag say."""
 from __future__ import annotations
 
 import dataclasses
 import json
 import pathlib
-from typing import Any, Dict, Iterator, List
+from typing import Any, Callable, Dict, Iterable, Iterator, List
 
 import pytest
 import rows
@@ -15,12 +15,16 @@ MARK = "the same by the rules: "
 BROKEN: Dict[bytes, List[Dict[str, Any]]] = {
     b"explain": [{}, {"accepted": "local"}, {"same": False}, {"path": "id", "first": None}, {"refused": 7}],
     b"group": [{}, {"group": 1, "lines": [1]}, {"group": 1, "lines": [], "canonical": ""}, {"line": 1, "refused": 7}],
+    b"check": [{}, {"accepted": "local"}, {"refused": 7}, {"file": "a"}, {"accepted": "vertical", "blank": True}],
+    b"same": [{}, {"same": False}, {"same": True, "path": "id"}, {"refused": 7, "name": "a", "place": 0}],
 }
 # The cases that are answered in lines, but those of a whole answer on another stream.
 CASES = [
     case
     for case in rows.all_cases()
-    if case.words[:1] in ([b"explain"], [b"group"]) and case.status != 2 and case.output is not None
+    if case.words[:1] in ([b"explain"], [b"group"], [b"check"], [b"same"])
+    and case.status != 2
+    and case.output is not None
     if not {b"--help", b"--json"} & {*case.words}
 ]
 
@@ -58,13 +62,18 @@ def shown(value: Any) -> str:
     return "".join(names.get(c) or escaped(c) for c in value)
 
 
+# Ranges of what shows as a blank or as nothing.
+HIDING = [("\u2000", "\u200d"), ("\u205f", "\u206f"), ("\ufe00", "\ufe0f")]
+
+
 def escaped(c: str) -> str:
     if c < " " or c == "\x7f":
         return f"\\x{ord(c):02X}"
     steers = (
         "\x80" <= c <= "\x9f" or c in "\u061c\u200e\u200f" or "\u2028" <= c <= "\u202e" or "\u2066" <= c <= "\u2069"
     )
-    return f"\\u{ord(c):04X}" if steers else c
+    hides = c in "\xa0\xad\u034f\u202f\u3000\ufeff" or any(a <= c <= b for a, b in HIDING)
+    return f"\\u{ord(c):04X}" if steers or hides else c
 
 
 def explained(told: Dict[str, Any]) -> str:
@@ -79,11 +88,6 @@ def explained(told: Dict[str, Any]) -> str:
     return refusal(told)
 
 
-def text_of(text: Any) -> str:
-    """A text as characters, U+FFFD for what is no UTF-8."""
-    return text if isinstance(text, str) else bytes.fromhex(text["bytes"]).decode(errors="replace")
-
-
 def grouped(told: Dict[str, Any]) -> Iterator[str]:
     """What an object of `group` says, in a line."""
     if "file" in told:
@@ -92,19 +96,53 @@ def grouped(told: Dict[str, Any]) -> Iterator[str]:
         yield f"group {told['group']}:"
         if "line_names" in told:
             assert len(told["line_names"]) == len(told["lines"])
-            yield from ("\t" + shown(text_of(name)) for name in told["line_names"])
+            yield from ("\t" + name_shown(name) for name in told["line_names"])
         else:
-            yield from (f" {line}" for line in told["lines"])
+            yield from (f" {it}" for it in told.get("lines") or map(shown, told["files"]))
     else:
-        label = shown(text_of(told["line_name"])) if "line_name" in told else told["line"]
-        yield f"line {label}: refused {told['refused']} {told['name']} at {told['place']}"
+        if "line" in told:
+            yield f"line {name_shown(told['line_name']) if 'line_name' in told else told['line']}:"
+        yield " " + ("blank" if "blank" in told else summary(told))
     yield "\n"
+
+
+def name_shown(name: Any) -> str:
+    """A name as a line shows it; by its bytes where it is no UTF-8."""
+    if isinstance(name, str):
+        return shown(name)
+    return "".join(shown(chr(b)) if b < 128 else f"\\x{b:02X}" for b in bytes.fromhex(name["bytes"]))
+
+
+def summary(told: Dict[str, Any]) -> str:
+    return f"refused {told['refused']} {told['name']} at {told['place']}"
+
+
+def checked(told: Dict[str, Any]) -> str:
+    """What an object of `check` says, in a line."""
+    front = shown(told["file"]) + ":" if "file" in told else ""
+    if "blank" in told:
+        return front + "\n"
+    return front + (f"accepted {told['accepted']}" if "accepted" in told else summary(told)) + "\n"
+
+
+def compared(told: Dict[str, Any]) -> str:
+    """What the object of `same` says, in a line."""
+    if "same" in told:
+        return "same\n" if told["same"] else f"different {told['path']}\n"
+    return f"{told['text']} {summary(told)}\n"
+
+
+SAYS: Dict[bytes, Callable[[Dict[str, Any]], Iterable[str]]] = {
+    b"explain": explained,
+    b"group": grouped,
+    b"check": checked,
+    b"same": compared,
+}
 
 
 @pytest.mark.parametrize("case", CASES, ids=str)
 def test_says_the_same(case: rows.Case, program: pathlib.Path) -> None:
-    lines_of = explained if case.words[0] == b"explain" else grouped
-    said = "".join(piece for told in objects_of(program, case) for piece in lines_of(told))
+    said = "".join(piece for told in objects_of(program, case) for piece in SAYS[case.words[0]](told))
     assert said.encode() == case.output
 
 

@@ -6,6 +6,7 @@ from __future__ import annotations
 import contextlib
 import copy
 import doctest
+import hashlib
 import io
 import os
 import functools
@@ -28,7 +29,7 @@ import pytest
 import rows
 import sql_rows
 from rows import Case
-from support import CANONICAL_HEIGHT, EXAMPLES, HEIGHT, HERE, ROOT, run
+from support import CANONICAL_HEIGHT, EXAMPLES, HEIGHT, HERE, NOTED, ROOT, run
 
 import crsdesk
 from crsdesk import (
@@ -43,6 +44,7 @@ from crsdesk import (
     check,
     difference,
     differences,
+    digest,
     same,
 )
 from crsdesk.__main__ import lines_of
@@ -733,6 +735,28 @@ def test_a_crs_is_a_key() -> None:
     for twin in (pickle.loads(pickle.dumps(crs)), copy.copy(crs), copy.deepcopy(crs)):
         assert twin == crs and twin.text == crs.text
     assert not hasattr(crs, "__dict__")
+
+
+def test_digests() -> None:
+    for level in LEVELS:
+        for text in (HEIGHT, NOTED):
+            wanted = hashlib.sha256(canon(text, level).encode()).hexdigest()
+            assert digest(text, level) == Crs(text).digest(level) == digest(Crs(text), level) == wanted
+    assert digest(CANONICAL_HEIGHT) == digest(HEIGHT) != digest(HEIGHT.replace('"H"', '"K"'))
+    rules = Rules('SAME[VDATUM["D"],VDATUM["E"]]')
+    other = HEIGHT.replace('"D"', '"E"')
+    assert digest(other, "full", rules) == Crs(other, rules=rules).digest() == digest(HEIGHT)
+    with pytest.raises(Refused):
+        digest("x")
+    with pytest.raises(ValueError, match="no such level"):
+        digest(HEIGHT, "half")  # type: ignore[arg-type]
+
+
+@pytest.mark.parametrize("case", [it for it in rows.all_cases() if it.words[:1] == [b"digest"] and it.asks], ids=str)
+def test_digests_of_rows(case: Case) -> None:
+    level, words = level_of(case)
+    if words == [b"digest"] and case.status == 0:
+        assert digest(case.input, level).encode() + b"\n" == case.output
 
 
 def test_levels() -> None:

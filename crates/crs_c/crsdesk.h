@@ -104,11 +104,23 @@ uint32_t crsdesk_check(const char *text, size_t text_length, uint32_t *kind, str
 uint32_t crsdesk_canon(const char *text, size_t text_length, uint32_t level, char *out, size_t room, size_t *length,
                        struct crsdesk_refusal *refusal);
 
+/* How many bytes a digest has. */
+#define CRSDESK_DIGEST_LENGTH 32
+
+/* A short key: the SHA-256 digest (FIPS 180-4) of the result of crsdesk_canon. The same CRS at the level has the same
+   digest; another CRS has another, except for a collision of SHA-256; none is known. `crsdesk digest` prints it in
+   hexadecimal.
+
+   CRSDESK_OK: the buffer begins with its CRSDESK_DIGEST_LENGTH bytes; *length is their number.
+   CRSDESK_REFUSED, CRSDESK_NO_ROOM, CRSDESK_NO_MEMORY, CRSDESK_NO_LEVEL: as for crsdesk_canon. */
+uint32_t crsdesk_digest(const char *text, size_t text_length, uint32_t level, char *out, size_t room, size_t *length,
+                        struct crsdesk_refusal *refusal);
+
 /* One of many texts. */
 struct crsdesk_entry {
     size_t begin;       /* the caller's: where it begins among the bytes of all texts */
     size_t end;         /* the caller's: where it ends */
-    size_t written_end; /* where its canonical text ends in `out`; it begins where the one before ends, or at 0 */
+    size_t written_end; /* where its result ends in `out`; it begins where the one before ends, or at 0 */
     size_t place;       /* where it is refused, in bytes from its own first, with CRSDESK_REFUSED; otherwise 0 */
     uint32_t number;    /* and why */
     uint32_t code;      /* CRSDESK_OK or CRSDESK_REFUSED */
@@ -126,6 +138,11 @@ struct crsdesk_entry {
    To continue, call again with the entries from the next one, and with an `out` that has room for at least its text. */
 uint32_t crsdesk_canon_each(const char *texts, size_t texts_length, struct crsdesk_entry *entries, size_t count,
                             uint32_t level, char *out, size_t room, size_t *done);
+
+/* The digests of many texts: the results of crsdesk_digest for each, CRSDESK_DIGEST_LENGTH bytes, one after the other,
+   in one call; everything else as for crsdesk_canon_each. */
+uint32_t crsdesk_digest_each(const char *texts, size_t texts_length, struct crsdesk_entry *entries, size_t count,
+                             uint32_t level, char *out, size_t room, size_t *done);
 
 /* Whether two texts spell the same CRS at a level.
 

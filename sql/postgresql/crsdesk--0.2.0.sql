@@ -13,6 +13,15 @@ CREATE FUNCTION crs_canon(wkt bytea, level text DEFAULT 'full') RETURNS text
     AS 'MODULE_PATHNAME', 'crsdesk_pg_canon_bytea'
     LANGUAGE C IMMUTABLE STRICT PARALLEL SAFE COST 300;
 
+-- the SHA-256 of the canonical text in hexadecimal; NULL of a text that spells no CRS
+CREATE FUNCTION crs_digest(wkt text, level text DEFAULT 'full') RETURNS text
+    AS 'MODULE_PATHNAME', 'crsdesk_pg_digest_text'
+    LANGUAGE C IMMUTABLE STRICT PARALLEL SAFE COST 400;
+
+CREATE FUNCTION crs_digest(wkt bytea, level text DEFAULT 'full') RETURNS text
+    AS 'MODULE_PATHNAME', 'crsdesk_pg_digest_bytea'
+    LANGUAGE C IMMUTABLE STRICT PARALLEL SAFE COST 400;
+
 -- geodetic, geographic, projected, vertical or compound; NULL of a text that spells no CRS
 CREATE FUNCTION crs_kind(wkt text) RETURNS text
     AS 'MODULE_PATHNAME', 'crsdesk_pg_kind_text'
@@ -100,6 +109,15 @@ CREATE FUNCTION crs_canon(wkt text, level text, rules text) RETURNS text
 CREATE FUNCTION crs_canon(wkt bytea, level text, rules text) RETURNS text
     AS 'MODULE_PATHNAME', 'crsdesk_pg_canon_under_bytea'
     LANGUAGE C IMMUTABLE STRICT PARALLEL SAFE COST 800;
+
+-- the SHA-256 of the form under rules in hexadecimal; NULL of a text that spells no CRS
+CREATE FUNCTION crs_digest(wkt text, level text, rules text) RETURNS text
+    AS 'MODULE_PATHNAME', 'crsdesk_pg_digest_under_text'
+    LANGUAGE C IMMUTABLE STRICT PARALLEL SAFE COST 1200;
+
+CREATE FUNCTION crs_digest(wkt bytea, level text, rules text) RETURNS text
+    AS 'MODULE_PATHNAME', 'crsdesk_pg_digest_under_bytea'
+    LANGUAGE C IMMUTABLE STRICT PARALLEL SAFE COST 1200;
 
 -- whether both have one form under rules; NULL where either spells no CRS
 CREATE FUNCTION crs_same(a text, b text, level text, rules text) RETURNS boolean

@@ -267,6 +267,44 @@ static Datum canon_under(FunctionCallInfo fcinfo, bool is_text)
     PG_RETURN_TEXT_P(text_of(form, length));
 }
 
+/* The digest of a text's canonical text in hexadecimal. */
+static Datum digest_at(FunctionCallInfo fcinfo, struct bytes given, uint32 level)
+{
+    char digest[CRSDESK_DIGEST_LENGTH], shown[HEX_LENGTH];
+    struct crsdesk_refusal refusal;
+    size_t length;
+    uint32 code;
+
+    begin_call();
+    code = crsdesk_digest(given.first, given.length, level, digest, sizeof digest, &length, &refusal);
+    hold_code(code);
+    if (code != CRSDESK_OK)
+        PG_RETURN_NULL();
+    in_hexadecimal(digest, shown);
+    PG_RETURN_TEXT_P(cstring_to_text_with_len(shown, sizeof shown));
+}
+
+static Datum digest_of(FunctionCallInfo fcinfo, bool is_text)
+{
+    uint32 level = level_of(fcinfo, 1);
+
+    return digest_at(fcinfo, bytes_of(fcinfo, 0, is_text), level);
+}
+
+static Datum digest_under(FunctionCallInfo fcinfo, bool is_text)
+{
+    uint32 level = level_of(fcinfo, 1);
+    struct crsdesk_rules *rules = rules_of(fcinfo, 2);
+    struct bytes given;
+    text *form = form_of(rules, level, bytes_of(fcinfo, 0, is_text), &given.length);
+
+    if (form == NULL)
+        PG_RETURN_NULL();
+    /* A form is its own canonical text. */
+    given.first = VARDATA(form);
+    return digest_at(fcinfo, given, level);
+}
+
 static const char *const KINDS[] = {"", "geodetic", "geographic", "projected", "vertical", "compound"};
 
 static Datum kind_of(FunctionCallInfo fcinfo, bool is_text)
@@ -514,6 +552,8 @@ static Datum version_of(void)
 
 FUNCTION(crsdesk_pg_canon_text, canon_of(fcinfo, true))
 FUNCTION(crsdesk_pg_canon_bytea, canon_of(fcinfo, false))
+FUNCTION(crsdesk_pg_digest_text, digest_of(fcinfo, true))
+FUNCTION(crsdesk_pg_digest_bytea, digest_of(fcinfo, false))
 FUNCTION(crsdesk_pg_kind_text, kind_of(fcinfo, true))
 FUNCTION(crsdesk_pg_kind_bytea, kind_of(fcinfo, false))
 FUNCTION(crsdesk_pg_refusal_text, refusal_of(fcinfo, true))
@@ -522,6 +562,8 @@ FUNCTION(crsdesk_pg_explain_text, explain_of(fcinfo, true))
 FUNCTION(crsdesk_pg_explain_bytea, explain_of(fcinfo, false))
 FUNCTION(crsdesk_pg_canon_under_text, canon_under(fcinfo, true))
 FUNCTION(crsdesk_pg_canon_under_bytea, canon_under(fcinfo, false))
+FUNCTION(crsdesk_pg_digest_under_text, digest_under(fcinfo, true))
+FUNCTION(crsdesk_pg_digest_under_bytea, digest_under(fcinfo, false))
 
 /* The four functions that compare a text or bytes with either. */
 #define COMPARING(name, answer)                                                                                        \

@@ -75,12 +75,18 @@ static void texts(void)
     uint32_t kind = 0, same = 2;
     struct crsdesk_entry entries[2] = {{0, 0, 0, 0, 0, 0}, {0, 4, 0, 0, 0, 0}};
     struct crsdesk_explained explained;
+    char digest[CRSDESK_DIGEST_LENGTH];
     entries[0].end = height_length;
     HOLD(crsdesk_check(height, height_length, &kind, &why) == CRSDESK_OK && kind == CRSDESK_VERTICAL);
     HOLD(crsdesk_canon(height, height_length, CRSDESK_FULL, out, sizeof out, &length, &why) == CRSDESK_OK);
     HOLD(is(out, length, canonical));
     HOLD(crsdesk_canon_each(height, height_length, entries, 2, CRSDESK_FULL, out, sizeof out, &count) == CRSDESK_OK);
     HOLD(count == 2 && is(out, entries[0].written_end, canonical) && entries[1].code == CRSDESK_REFUSED);
+    HOLD(crsdesk_digest(height, height_length, CRSDESK_FULL, digest, sizeof digest, &length, &why) == CRSDESK_OK);
+    HOLD(length == CRSDESK_DIGEST_LENGTH);
+    HOLD(crsdesk_digest_each(height, height_length, entries, 2, CRSDESK_FULL, out, sizeof out, &count) == CRSDESK_OK);
+    HOLD(count == 2 && entries[0].written_end == length && memcmp(out, digest, length) == 0
+         && entries[1].code == CRSDESK_REFUSED);
     HOLD(crsdesk_same(height, height_length, other, other_length, CRSDESK_DEFINITION, &same, &why) == CRSDESK_OK && !same);
     HOLD(crsdesk_first_part(height, height_length, other, other_length, CRSDESK_FULL, out, sizeof out, &length, &why)
          == CRSDESK_OK);

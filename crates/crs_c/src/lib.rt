@@ -21,7 +21,7 @@ mod rules;
 mod texts;
 
 pub use calls::buffer::{give, give_pieces};
-pub use calls::canon::Entry;
+pub use calls::canon::{Entry, Wanted};
 pub use calls::catalogue::{
     Numbered, Standing, add_text, add_text_under, drop_catalogue, group_count, line_number,
     new_catalogue, text_piece,

@@ -1,12 +1,13 @@
 //! What a text spells, or why it is refused, and canonical texts.
-ghost use Rattle.crs_c.specs.Canon.{IsCanonAnswer};
+ghost use Rattle.crs_writer.specs.Canonical.{IsCanonicalOf};
+ghost use Rattle.crs_c.specs.Canon.{IsCanonAnswer, IsDigestAnswer, IsDigestOf};
 ghost use Rattle.crs_c.specs.Check.{IsCheckAnswer};
 ghost use Rattle.crs_c.specs.Each.{IsEachAnswer};
 ghost use Rattle.crs_c.specs.Explain.{IsExplainAnswer};
 ghost use Rattle.crs_c.specs.ExplainPieces.{IsRefusalPiecesAnswer};
 ghost use Rattle.crs_c.specs.PieceBuffers.{buffers_of};
 
-use crate::calls::canon::answer_entries;
+use crate::calls::canon::{Wanted, answer_entries};
 use crate::calls::codes::kind_number;
 use crate::calls::explain::{
     explained_refusal, explanation, give_refused, kind_of_text, refusal_and_numbers,
@@ -16,6 +17,7 @@ use crate::{
     Entry, Explained, NO_LEVEL, NO_MEMORY, OK, REFUSED, Refused, give, give_pieces, level_numbered,
 };
 use crs_canon::canon;
+use sha2::{Digest, Sha256};
 use std::alloc::Global;
 
 /// Whether a text spells a CRS, and of which kind; no value is built.
@@ -110,7 +112,7 @@ pub extern "C" fn crsdesk_refusal_pieces(
 /// why. 3: memory was refused. 4: there is no such level. 5: the canonical text has more bytes than `out`; `length`
 /// is their number. What a code doesn't mention is as before.
 #[unsafe(no_mangle)]
-#[tactic(auto, unfolding(crate::specs::Canon::IsCanonAt))]
+#[tactic(auto, unfolding(crate::specs::Canon::IsSpelledAt))]
 pub extern "C" fn crsdesk_canon(
     alloc: Global,
     text: &[u8],
@@ -126,6 +128,31 @@ pub extern "C" fn crsdesk_canon(
 {
     at_level!(level => match canon(alloc, text, level) {
         Ok(canonical) => give(canonical.bytes(), out, length),
+        Err(fault) => tell(fault, REFUSED, refused),
+    })
+}
+
+/// The digest, by SHA-256 (FIPS 180-4), of the canonical text, at a level, of the CRS that a text spells: 32 bytes.
+///
+/// 0: it is at the front of `out`; `length` is 32. 1: the text spells no CRS, and `refused` says why. 3: memory was
+/// refused. 4: there is no such level. 5: `out` has less room; `length` is 32. What a code doesn't mention is as before.
+#[unsafe(no_mangle)]
+#[tactic(auto, unfolding(crate::specs::Canon::IsSpelledAt))]
+pub extern "C" fn crsdesk_digest(
+    alloc: Global,
+    text: &[u8],
+    level: u32,
+    out: &mut [u8],
+    length: &mut usize,
+    refused: &mut Refused,
+) -> u32
+    ensures { IsDigestAnswer level text.now
+        (record { answer = record { items = out.old; told = length.old }; refused = refused.old })
+        (record { answer = record { items = out.new; told = length.new }; refused = refused.new })
+        result }
+{
+    at_level!(level => match canon(alloc, text, level) {
+        Ok(canonical) => give(&Sha256::digest(canonical.bytes()), out, length),
         Err(fault) => tell(fault, REFUSED, refused),
     })
 }
@@ -147,13 +174,37 @@ pub extern "C" fn crsdesk_canon_each(
     out: &mut [u8],
     done: &mut usize,
 ) -> u32
-    ensures { IsEachAnswer level texts.now
+    ensures { IsEachAnswer IsCanonicalOf level texts.now
         (record { entries = entries.old; out = out.old; done = done.old })
         (record { entries = entries.new; out = out.new; done = done.new })
         result }
 {
     at_level!(level => {
-        let (count, code) = answer_entries(alloc, texts, entries, level, out);
+        let (count, code) = answer_entries(alloc, texts, entries, Wanted::Canonical(level), out);
+        *done = count;
+        code
+    })
+}
+
+/// The digests of the canonical texts, at a level, of many texts in one buffer: as `crsdesk_canon_each`, but that of each
+/// text that spells a CRS its 32 bytes are written.
+#[unsafe(no_mangle)]
+#[tactic(auto, unfolding(crate::specs::Each::IsEachAt))]
+pub extern "C" fn crsdesk_digest_each(
+    alloc: Global,
+    texts: &[u8],
+    entries: &mut [Entry],
+    level: u32,
+    out: &mut [u8],
+    done: &mut usize,
+) -> u32
+    ensures { IsEachAnswer IsDigestOf level texts.now
+        (record { entries = entries.old; out = out.old; done = done.old })
+        (record { entries = entries.new; out = out.new; done = done.new })
+        result }
+{
+    at_level!(level => {
+        let (count, code) = answer_entries(alloc, texts, entries, Wanted::Digest(level), out);
         *done = count;
         code
     })

@@ -14,7 +14,7 @@ use Rattle.clap.specs.declared.parser.matches.ValueSource.TheVariants.{CommandLi
 use Rattle.clap.proofs.OnLiterals.{clap_on_literals}
 use Rattle.clap.proofs.WalkLemmas.{both}
 use Rattle.crs_desk.specs.Requests.{request_of}
-use Rattle.crs_desk.specs.CommandLine.{asked, desk, file_operands, first_option, flag, is_plain_word, level_option, rules_option, spare_operand, verbose_flag}
+use Rattle.crs_desk.specs.CommandLine.{asked, desk, file_operands, first_option, flag, is_plain_word, level_option, name_flag, rules_option, spare_operand, verbose_flag}
 use Rattle.crs_desk.specs.declared.line.requests.Request.{Request}
 use Rattle.crs_desk.specs.declared.line.requests.Request.TheVariants.{Other}
 use Rattle.crs_desk.specs.declared.line.requests.Task.{Task}
@@ -142,6 +142,7 @@ moves_run s w (word ∷ words) passes =
 
 pub data CommandName : Type 0 where
   canon : CommandName
+  digest : CommandName
   check : CommandName
   group : CommandName
   same : CommandName
@@ -149,6 +150,7 @@ pub data CommandName : Type 0 where
 
 abbrev pub name_of : CommandName → Text
 name_of canon = codes "canon"
+name_of digest = codes "digest"
 name_of check = codes "check"
 name_of group = codes "group"
 name_of same = codes "same"
@@ -163,9 +165,10 @@ built_with name own = record (new_shape name) {
 
 -- the commands, as `clap` builds them
 abbrev pub built_at : CommandName → Shape
-built_at canon = built_with (codes "canon") (level_option ∷ rules_option ∷ flag (codes "lines") ∷ file_operands ∷ verbose_flag ∷ help_rule ∷ [])
-built_at check = built_with (codes "check") (flag (codes "lines") ∷ file_operands ∷ verbose_flag ∷ help_rule ∷ [])
-built_at group = built_with (codes "group") (level_option ∷ rules_option ∷ flag (codes "json") ∷ flag (codes "repeated") ∷ flag (codes "names") ∷ file_operands ∷ verbose_flag ∷ help_rule ∷ [])
+built_at canon = built_with (codes "canon") (level_option ∷ rules_option ∷ flag (codes "lines") ∷ name_flag ∷ file_operands ∷ verbose_flag ∷ help_rule ∷ [])
+built_at digest = built_with (codes "digest") (level_option ∷ rules_option ∷ flag (codes "lines") ∷ name_flag ∷ file_operands ∷ verbose_flag ∷ help_rule ∷ [])
+built_at check = built_with (codes "check") (flag (codes "json") ∷ flag (codes "lines") ∷ name_flag ∷ file_operands ∷ verbose_flag ∷ help_rule ∷ [])
+built_at group = built_with (codes "group") (level_option ∷ rules_option ∷ flag (codes "json") ∷ flag (codes "repeated") ∷ flag (codes "names") ∷ flag (codes "files") ∷ name_flag ∷ file_operands ∷ verbose_flag ∷ help_rule ∷ [])
 built_at same = built_same
 built_at explain = built_with (codes "explain")
     (spare_operand (codes "first") ∷ spare_operand (codes "second") ∷ flag (codes "json") ∷ first_option ∷ level_option ∷ rules_option ∷ flag (codes "files") ∷ verbose_flag ∷ help_rule ∷ [])
@@ -219,6 +222,7 @@ IsLineOf n words line = (takes desk line ≡ (level_passes (built_at n) [] nothi
 command_line : (n : CommandName) (program : Text) (words : List Text) → IsLineOf n words (program ∷ name_of n ∷ words)
 unfolding clap_on_literals
 command_line canon program words = words_behind nothing_held (codes "canon") words
+command_line digest program words = words_behind nothing_held (codes "digest") words
 command_line check program words = words_behind nothing_held (codes "check") words
 command_line group program words = words_behind nothing_held (codes "group") words
 command_line same program words = words_behind nothing_held (codes "same") words
@@ -231,6 +235,7 @@ verbose_held = reacted top.rules (with_index 1 (filled verbose_flag)) [] nothing
 verbose_line : (n : CommandName) (program : Text) (words : List Text) → IsLineOf n words (program ∷ codes "-v" ∷ name_of n ∷ words)
 unfolding clap_on_literals
 verbose_line canon program words = words_behind verbose_held (codes "canon") words
+verbose_line digest program words = words_behind verbose_held (codes "digest") words
 verbose_line check program words = words_behind verbose_held (codes "check") words
 verbose_line group program words = words_behind verbose_held (codes "group") words
 verbose_line same program words = words_behind verbose_held (codes "same") words
@@ -298,7 +303,7 @@ is_file is_all word = is_all || is_plain_word word
 
 -- a task over files
 abbrev over_files : Task → List Text → Request
-over_files wanted names = Other (codes "full") [] (Files wanted names [])
+over_files wanted names = Other (codes "full") [] (Files wanted names [] false)
 
 -- a command goes to a first file and on to a next, and at the end its task is asked for over the files
 abbrev pub ReadsFiles : CommandName → Task → Bool → Type 0

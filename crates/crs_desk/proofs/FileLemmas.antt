@@ -1,5 +1,5 @@
 -- The answer for one file, of the run over it.
-use Rattle.std.proofs.Common.{◌≡◌, ◌≢◌, ◌∙◌, ◌++◌, ◌⊎◌, ◌∷◌, [], ℕ, arith, List, Option, Some, None, false, ap, append-nil, append_assoc, inr, refl, subst, sym, IfSome, max}
+use Rattle.std.proofs.Common.{◌≡◌, ◌≢◌, ◌∙◌, ◌++◌, ◌⊎◌, ◌∷◌, [], ℕ, Bool, arith, List, Option, Some, None, false, ap, append-nil, append_assoc, inr, refl, subst, sym, IfSome, max}
 use Rattle.std.proofs.KnownBytes.{Appends-trans}
 use Rattle.std.proofs.Math.Nat.{max-zero}
 use Rattle.std.specs.Io.KnownBytes.{Appends, Consumes}
@@ -9,7 +9,7 @@ use Rattle.crs_group.specs.declared.summary.Summary.{Summary}
 use Rattle.crs_streams.specs.declared.fault.RunFault.{RunFault}
 use Rattle.crs_streams.specs.declared.fault.RunFault.TheVariants.{ReadFailed, WriteFailed, TooLong, TooManyReads, Memory}
 use Rattle.crs_desk.specs.inner.FileAnswers.{Ends, IsAnswerSent, IsFileFault, IsFileSent, IsFrontSent, NoFront}
-use Rattle.crs_desk.specs.FilesRun.{AreFileOutputs, AreFilesAnswered, IsFileFront, IsFileOutput, IsTaskFront, name_prefix}
+use Rattle.crs_desk.specs.FilesRun.{AreFileOutputs, AreFilesAnswered, IsFileFront, IsFileOutput, IsTaskFront, are_named, name_prefix}
 use Rattle.crs_desk.specs.declared.runs.files.FileTask.{FileTask}
 use Rattle.crs_desk.specs.inner.LineCutting.{IsHealthy}
 use Rattle.crs_desk.specs.LinesRun.{HasBegun, HasSentAll, IsFrontOutput, IsLinesAnswered, IsLinesFault, IsLinesOutput, Outputs, PrefixParts}
@@ -124,12 +124,12 @@ file-more asked prefix known names rest left name one so-far own before now afte
 )
 
 -- all files were answered
-pub files-done : (asked : FileTask) (known : List ℕ → Option (List ℕ)) (names left : List (List ℕ)) (status : ℕ)
+pub files-done : (asked : FileTask) (named : Bool) (known : List ℕ → Option (List ℕ)) (names left : List (List ℕ)) (status : ℕ)
     (before after : SinkState) (written : List ℕ) → left ≡ [] → Appends before.contents after.contents written → IsHealthy after
-    → ((more : List ℕ) (others : ℕ) → AreFileOutputs asked (name_prefix asked names) known left more others
-    → AreFileOutputs asked (name_prefix asked names) known names (written ++ more) (max status others))
-    → AreFilesAnswered asked known names before after status
-files-done asked known names left status before after written none sent healthy goes =
+    → ((more : List ℕ) (others : ℕ) → AreFileOutputs asked (name_prefix asked (are_named named names)) known left more others
+    → AreFileOutputs asked (name_prefix asked (are_named named names)) known names (written ++ more) (max status others))
+    → AreFilesAnswered asked named known names before after status
+files-done asked named known names left status before after written none sent healthy goes =
     (written, simp (append-nil, max-zero) at (goes [] 0 (rw none (refl, refl))), sent, healthy.0)
 
 -- ---- one file

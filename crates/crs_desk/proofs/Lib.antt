@@ -1,9 +1,11 @@
 mod CheckLemmas
 mod CommandLemmas
+mod DigestLemmas
 mod AskedLemmas
 mod FaultLemmas
 mod FileLemmas
 mod FormsLemmas
+mod GroupFileLemmas
 mod HelpLemmas
 mod JudgedLemmas
 mod KnownText

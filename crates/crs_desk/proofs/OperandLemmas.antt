@@ -78,6 +78,10 @@ files_keep : (position : ℕ) → Keeps (with_index position (filled (flag (code
 files_keep position again [] rows passes have = afresh_keeps (codes "files") _ (codes "true") [] rows have
 files_keep position again (v ∷ vs) rows passes have = afresh_keeps (codes "files") _ v vs rows have
 
+objects_keep : (position : ℕ) → Keeps (with_index position (filled (flag (codes "json"))))
+objects_keep position again [] rows passes have = afresh_keeps (codes "json") _ (codes "true") [] rows have
+objects_keep position again (v ∷ vs) rows passes have = afresh_keeps (codes "json") _ v vs rows have
+
 verbose_keeps : (position : ℕ) → Keeps (with_index position (filled verbose_flag))
 verbose_keeps position again [] rows passes have = afresh_keeps (codes "verbose") _ (codes "true") [] rows have
 verbose_keeps position again (v ∷ vs) rows passes have = afresh_keeps (codes "verbose") _ v vs rows have
@@ -228,7 +232,7 @@ given_there id (r ∷ rows) have given =
 -- `same`, as `clap` builds it
 abbrev pub built_same : Shape
 built_same = record (new_shape (codes "same")) {
-  rules = filled_from 1 (operand (codes "first") ∷ operand (codes "second") ∷ level_option ∷ rules_option ∷ flag (codes "files") ∷ verbose_flag ∷ help_rule ∷ []);
+  rules = filled_from 1 (operand (codes "first") ∷ operand (codes "second") ∷ level_option ∷ rules_option ∷ flag (codes "files") ∷ flag (codes "json") ∷ verbose_flag ∷ help_rule ∷ []);
   disable_help_subcommand = true;
   is_built = true;
 }
@@ -240,7 +244,7 @@ given_texts : (words : List Text) → level_passes built_same [] nothing_held wo
 given_texts words passes =
     let rows = rows_after built_same.rules [] words in
     let level = level_rows built_same words
-    (operand_keeps (codes "first") 1, (operand_keeps (codes "second") 2, (level_keeps 3, (rules_keep 3, (files_keep 3, (verbose_keeps 3, ((λ again values rows uses have. have), tt))))))) passes in
+    (operand_keeps (codes "first") 1, (operand_keeps (codes "second") 2, (level_keeps 3, (rules_keep 3, (files_keep 3, (objects_keep 3, (verbose_keeps 3, ((λ again values rows uses have. have), tt)))))))) passes in
     let given = both (is_given (codes "first") rows) _ level.1 in
     (level.0, (given.0, (both (is_given (codes "second") rows) _ given.1).0))
 

@@ -1,10 +1,13 @@
 -- Lines after a prefix, one after another.
-use Rattle.std.proofs.Common.{◌≡◌, ◌∙◌, ◌++◌, ◌∷◌, [], ℕ, List, Bool, true, ap, ap₂, append-nil, append_assoc, inl, inr, refl, sym, ◌==◌, codes, if◌then◌else◌}
+use Rattle.std.proofs.Common.{◌≡◌, ◌∙◌, ◌++◌, ◌∷◌, [], ℕ, List, Bool, true, ap, ap₂, append-nil, append_assoc, inl, inr, refl, sym, ◌==◌, if◌then◌else◌}
 use Rattle.crs_value.specs.declared.values.level.Level.{Level}
 use Rattle.crs_desk.specs.inner.FileAnswers.{Ends}
 use Rattle.crs_desk.specs.LinesRun.{AreOutputs, IsLineOutput, IsLinesOutput, Outputs, IsPrefixed, PrefixParts, begun, prefixed, prefixed_from}
 use Rattle.crs_text.specs.inner.Prelude.{refused_text}
-use Rattle.crs_desk.specs.Output.{IsCanonOutput, IsCheckOutput, kind_word}
+use Rattle.crs_desk.specs.DigestOutput.{IsDigestOutput, hex_digest}
+use Rattle.crs_desk.specs.Output.{IsCanonOutput, IsCheckOutput, kind_told, refusal_told}
+use Rattle.crs_desk.specs.declared.runs.digest.Spelled.{Spelled}
+use Rattle.crs_desk.specs.declared.runs.manner.Manner.{Manner}
 use Rattle.crs_desk.specs.RulesOutput.{IsFormOutput}
 use Rattle.crs_rules.specs.Rules.{RulesParts}
 
@@ -31,15 +34,20 @@ unfolding Ends IsFormOutput
 form-ends rules level text line status (inl (form, of-text, is)) = (form, is.line)
 form-ends rules level text line status (inr (refusal, of-text, is)) = (refused_text refusal.number refusal.place, is.line)
 
-pub check-ends : Ends IsCheckOutput
+pub check-ends : (how : Manner) → Ends (IsCheckOutput how)
 unfolding Ends IsCheckOutput
-check-ends text line status (inl (found, of-text, is)) = (codes "accepted " ++ kind_word found, is.line)
-check-ends text line status (inr (refusal, of-text, is)) = (refused_text refusal.number refusal.place, is.line)
+check-ends how text line status (inl (found, of-text, is)) = (kind_told how found, is.line)
+check-ends how text line status (inr (refusal, of-text, is)) = (refusal_told how [] refusal, is.line)
 
-pub line-ends : (Output : Outputs) → Ends Output → Ends (IsLineOutput Output)
+pub digest-ends : (by : Spelled) → Ends (IsDigestOutput by)
+unfolding Ends IsDigestOutput
+digest-ends by text line status (inl (bytes, of-text, is)) = (hex_digest bytes, is.line)
+digest-ends by text line status (inr (refusal, of-text, is)) = (refused_text refusal.number refusal.place, is.line)
+
+pub line-ends : (blank : List ℕ) (Output : Outputs) → Ends Output → Ends (IsLineOutput blank Output)
 unfolding Ends
-line-ends Output ends text line status (inl (blank, is)) = ([], is.line)
-line-ends Output ends text line status (inr (plain, is)) = ends text line status is
+line-ends blank Output ends text line status (inl (white, is)) = (blank, is.line)
+line-ends blank Output ends text line status (inr (plain, is)) = ends text line status is
 
 abbrev pub PrefixedOutputs : PrefixParts → Outputs → Outputs
 PrefixedOutputs prefix Output = λ text written status. IsPrefixed prefix (Output text) written status

@@ -18,7 +18,7 @@ use Rattle.crs_desk.proofs.AskedLemmas.{none_met}
 abbrev rules : List Rule
 rules = built_same.rules
 
--- `--level`, `--rules`, `--files`, `--verbose` and the flag that asks for help, as `clap` builds them
+-- `--level`, `--rules`, `--files`, `--json`, `--verbose` and the flag that asks for help, as `clap` builds them
 abbrev level : Rule
 level = with_index 3 (filled level_option)
 
@@ -28,14 +28,17 @@ ruling = with_index 3 (filled rules_option)
 abbrev files : Rule
 files = with_index 3 (filled (flag (codes "files")))
 
+abbrev objects : Rule
+objects = with_index 3 (filled (flag (codes "json")))
+
 abbrev verbose : Rule
 verbose = with_index 3 (filled verbose_flag)
 
 abbrev help : Rule
 help = with_index 3 (filled help_rule)
 
--- what a walk of `same` met before its first operand: nothing; `--level` or `--rules`, alone or with a word; `--files`;
--- or `--verbose`
+-- what a walk of `same` met before its first operand: nothing; `--level` or `--rules`, alone or with a word; `--files`,
+-- `--json` or `--verbose`
 data Met : Type 0 where
   no_flag_met : Met
   level_wanted : Met
@@ -43,12 +46,14 @@ data Met : Type 0 where
   rules_wanted : Met
   rules_met : Text → Met
   files_met : Met
+  objects_met : Met
   verbose_met : Met
 
 abbrev rows_met : Met → List Row
 rows_met (level_met v) = used level (v ∷ []) []
 rows_met (rules_met v) = used ruling (v ∷ []) []
 rows_met files_met = used files [] []
+rows_met objects_met = used objects [] []
 rows_met verbose_met = used verbose [] []
 rows_met _ = []
 
@@ -84,19 +89,19 @@ flag_lacks at word outcome = grind arith
 verbose_lacks : (at : Met) (word : Text) → Lacks at word (after_flag rules (waiting_at at) word (verbose_at at) done)
 verbose_lacks at word = grind arith
 
--- the flags of `same` are a level, rules, `--files`, `--verbose` and the call for help
-abbrev flag_named : Bool → Bool → Bool → Bool → Bool → Option Rule
-flag_named is_level are_rules are_files is_verbose is_help =
-    cond is_level (Some level) (cond are_rules (Some ruling) (cond are_files (Some files) (short_named is_verbose is_help)))
+-- the flags of `same` are a level, rules, `--files`, `--json`, `--verbose` and the call for help
+abbrev flag_named : Bool → Bool → Bool → Bool → Bool → Bool → Option Rule
+flag_named is_level are_rules are_files are_objects is_verbose is_help =
+    cond is_level (Some level) (cond are_rules (Some ruling) (cond are_files (Some files) (cond are_objects (Some objects) (short_named is_verbose is_help))))
 
-help_fails : (at : Met) (is_help : Bool) (v : Option Text) → long_passes rules false (flag_named false false false false is_help) v (held_at at) ≡ true → ⊥
+help_fails : (at : Met) (is_help : Bool) (v : Option Text) → long_passes rules false (flag_named false false false false false is_help) v (held_at at) ≡ true → ⊥
 help_fails at is_help v passes = grind arith
 
-long_lacks : (at : Met) (word : Text) (is_level are_rules are_files is_verbose is_help : Bool) (v : Option Text)
-    → long_passes rules false (flag_named is_level are_rules are_files is_verbose is_help) v (held_at at) ≡ true
-    → let met = long_met rules (flag_named is_level are_rules are_files is_verbose is_help) v (held_at at) in
+long_lacks : (at : Met) (word : Text) (is_level are_rules are_files are_objects is_verbose is_help : Bool) (v : Option Text)
+    → long_passes rules false (flag_named is_level are_rules are_files are_objects is_verbose is_help) v (held_at at) ≡ true
+    → let met = long_met rules (flag_named is_level are_rules are_files are_objects is_verbose is_help) v (held_at at) in
     Lacks at word (after_flag rules (waiting_at at) word met.0 met.1)
-long_lacks at word is_level are_rules are_files is_verbose is_help v passes = grind arith
+long_lacks at word is_level are_rules are_files are_objects is_verbose is_help v passes = grind arith
 
 -- `-h` doesn't pass, and behind `-v` no letter does
 short_help_fails : (at : Met) (is_help : Bool) (rest : Text) (test : Held → Bool)
@@ -158,13 +163,18 @@ short_lacks at word (Some flags) passes = bundle_lacks at word (length flags) fl
 named_lacks : (at : Met) (word : Text) (name : Option (Text × Option Text)) → flag_word_passes rules false name word (held_at at) ≡ true
     → Lacks at word (long_or_other rules (waiting_at at) word name (held_at at))
 named_lacks at word (Some p) passes = long_lacks at word (bytes_eq (codes "level") p.0 || false)
-    (bytes_eq (codes "rules") p.0 || false) (bytes_eq (codes "files") p.0 || false) (bytes_eq (codes "verbose") p.0 || false)
+    (bytes_eq (codes "rules") p.0 || false) (bytes_eq (codes "files") p.0 || false) (bytes_eq (codes "json") p.0 || false)
+    (bytes_eq (codes "verbose") p.0 || false)
     (bytes_eq (codes "help") p.0 || false) p.1 passes
 named_lacks at word None passes = short_lacks at word (short_of word) passes
 
+trailing_lacks : (at : Met) (word : Text) → Lacks at word (held_at at, trailing 1)
+trailing_lacks at word = grind arith
+
 either_lacks : (at : Met) (word : Text) (b : Bool) (x : Held × Step) (q : Bool) → (q ≡ true → Lacks at word x) → (b || q) ≡ true
     → Lacks at word (cond b (held_at at, trailing 1) x)
-either_lacks at word b x q lacks passes = grind arith
+either_lacks at word true x q lacks passes = trailing_lacks at word
+either_lacks at word false x q lacks passes = lacks passes
 
 -- whatever the word is, it is no second text
 word_lacks : (at : Met) (word : Text) → word_passes built_same [] false (waiting_at at) word (held_at at) ≡ true
@@ -220,21 +230,23 @@ short_flag_met byte rest low passes =
 abbrev Stands : Text → Held × Step → Type 0
 Stands word met = (at : Met) × (after_step rules word (walk_at no_flag_met) met.0 met.1 ≡ walk_at at)
 
-long_stands : (word : Text) (is_level are_rules are_files is_verbose is_help : Bool) (v : Option Text)
-    → long_passes rules false (flag_named is_level are_rules are_files is_verbose is_help) v nothing_held ≡ true
-    → let met = long_met rules (flag_named is_level are_rules are_files is_verbose is_help) v nothing_held in
+long_stands : (word : Text) (is_level are_rules are_files are_objects is_verbose is_help : Bool) (v : Option Text)
+    → long_passes rules false (flag_named is_level are_rules are_files are_objects is_verbose is_help) v nothing_held ≡ true
+    → let met = long_met rules (flag_named is_level are_rules are_files are_objects is_verbose is_help) v nothing_held in
     Stands word (after_flag rules idle word met.0 met.1)
-long_stands word true are_rules are_files is_verbose is_help (Some v) passes = (level_met v, refl)
-long_stands word true are_rules are_files is_verbose is_help None passes = (level_wanted, refl)
-long_stands word false true are_files is_verbose is_help (Some v) passes = (rules_met v, refl)
-long_stands word false true are_files is_verbose is_help None passes = (rules_wanted, refl)
-long_stands word false false true is_verbose is_help (Some v) passes = cc
-long_stands word false false true is_verbose is_help None passes = (files_met, refl)
-long_stands word false false false true is_help (Some v) passes = cc
-long_stands word false false false true is_help None passes = (verbose_met, refl)
-long_stands word false false false false is_help v passes = absurd (help_fails no_flag_met is_help v passes)
+long_stands word true are_rules are_files are_objects is_verbose is_help (Some v) passes = (level_met v, refl)
+long_stands word true are_rules are_files are_objects is_verbose is_help None passes = (level_wanted, refl)
+long_stands word false true are_files are_objects is_verbose is_help (Some v) passes = (rules_met v, refl)
+long_stands word false true are_files are_objects is_verbose is_help None passes = (rules_wanted, refl)
+long_stands word false false true are_objects is_verbose is_help (Some v) passes = cc
+long_stands word false false true are_objects is_verbose is_help None passes = (files_met, refl)
+long_stands word false false false true is_verbose is_help (Some v) passes = cc
+long_stands word false false false true is_verbose is_help None passes = (objects_met, refl)
+long_stands word false false false false true is_help (Some v) passes = cc
+long_stands word false false false false true is_help None passes = (verbose_met, refl)
+long_stands word false false false false false is_help v passes = absurd (help_fails no_flag_met is_help v passes)
 
--- a word that begins as a flag, and passes, is `--level`, `--rules`, `--files` or `--verbose`
+-- a word that begins as a flag, and passes, is `--level`, `--rules`, `--files`, `--json` or `--verbose`
 flag_stands : (byte : ℕ) (rest : Text) (is : Bool) → (byte == 45) ≡ is → byte < 128 → bytes_eq (45 ∷ byte ∷ rest) (45 ∷ 45 ∷ []) ≡ false
     → let name = option_and_then long_of_rest (cond is (Some rest) None) in
     flag_word_passes rules false name (45 ∷ byte ∷ rest) nothing_held ≡ true
@@ -245,7 +257,8 @@ flag_stands byte [] true hyphen low dashes passes =
 flag_stands byte (b ∷ rest) true hyphen low dashes passes =
     let p = name_and_value (b ∷ rest) in
     long_stands (45 ∷ byte ∷ b ∷ rest) (bytes_eq (codes "level") p.0 || false) (bytes_eq (codes "rules") p.0 || false)
-    (bytes_eq (codes "files") p.0 || false) (bytes_eq (codes "verbose") p.0 || false) (bytes_eq (codes "help") p.0 || false) p.1 passes
+    (bytes_eq (codes "files") p.0 || false) (bytes_eq (codes "json") p.0 || false) (bytes_eq (codes "verbose") p.0 || false)
+    (bytes_eq (codes "help") p.0 || false) p.1 passes
 flag_stands byte rest false hyphen low dashes passes =
     let word : Text = 45 ∷ byte ∷ rest in
     let met = short_flag_met byte rest low

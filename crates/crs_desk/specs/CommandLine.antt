@@ -38,32 +38,39 @@ flag name = record (new_rule name) { long = Some name; action = Some SetTrue }
 abbrev pub verbose_flag : Rule
 verbose_flag = record (flag (codes "verbose")) { short = Some 118 }
 
+-- the flag `--with-name`, or `-H` (72)
+abbrev pub name_flag : Rule
+name_flag = record (flag (codes "with-name")) { short = Some 72 }
+
 -- names of files, as many words as there are
 abbrev pub file_operands : Rule
 file_operands = record (spare_operand (codes "file")) { action = Some Append }
 
--- `canon`, which takes a level, rules, the flag `--lines`, files and, as all commands, `--verbose`
-abbrev pub canon_shape : Shape
-canon_shape = record (new_shape (codes "canon")) {
-  rules = level_option ∷ rules_option ∷ flag (codes "lines") ∷ file_operands ∷ verbose_flag ∷ [];
+-- `canon` or `digest`, which take a level, rules, the flags `--lines` and `--with-name`, files and, as all commands,
+-- `--verbose`
+abbrev pub spelling_shape : Text → Shape
+spelling_shape name = record (new_shape name) {
+  rules = level_option ∷ rules_option ∷ flag (codes "lines") ∷ name_flag ∷ file_operands ∷ verbose_flag ∷ [];
 }
 
--- `check`, which takes that flag and files
+-- `check`, which takes these flags, `--json` and files
 abbrev pub check_shape : Shape
-check_shape = record (new_shape (codes "check")) { rules = flag (codes "lines") ∷ file_operands ∷ verbose_flag ∷ [] }
+check_shape = record (new_shape (codes "check")) {
+  rules = flag (codes "json") ∷ flag (codes "lines") ∷ name_flag ∷ file_operands ∷ verbose_flag ∷ [];
+}
 
--- `group`, which takes a level, rules, the flags `--json`, `--repeated` and `--names`, and files
+-- `group`, which takes a level, rules, the flags `--json`, `--repeated`, `--names`, `--files` and `--with-name`, and files
 abbrev pub group_shape : Shape
 group_shape = record (new_shape (codes "group")) {
-  rules = level_option ∷ rules_option ∷ flag (codes "json") ∷ flag (codes "repeated") ∷ flag (codes "names") ∷ file_operands
-      ∷ verbose_flag ∷ [];
+  rules = level_option ∷ rules_option ∷ flag (codes "json") ∷ flag (codes "repeated") ∷ flag (codes "names")
+      ∷ flag (codes "files") ∷ name_flag ∷ file_operands ∷ verbose_flag ∷ [];
 }
 
--- `same`, which needs a first operand and a second, and takes a level, rules and the flag `--files`
+-- `same`, which needs a first operand and a second, and takes a level, rules and the flags `--files` and `--json`
 abbrev pub same_shape : Shape
 same_shape = record (new_shape (codes "same")) {
   rules = operand (codes "first") ∷ operand (codes "second") ∷ level_option ∷ rules_option
-      ∷ flag (codes "files") ∷ verbose_flag ∷ [];
+      ∷ flag (codes "files") ∷ flag (codes "json") ∷ verbose_flag ∷ [];
 }
 
 -- `explain`, which may have a first operand and a second, and takes the flag `--json`, the option
@@ -83,8 +90,9 @@ lone_desk =
 -- `crsdesk` with all its commands, before which `--verbose` may stand too
 abbrev pub desk : App
 desk =
-    with_subcommand (with_subcommand (with_subcommand (with_subcommand (with_subcommand
-    (with_rule lone_desk verbose_flag) canon_shape) check_shape) group_shape) same_shape) explain_shape
+    with_subcommand (with_subcommand (with_subcommand (with_subcommand (with_subcommand (with_subcommand
+    (with_rule lone_desk verbose_flag) (spelling_shape (codes "canon"))) (spelling_shape (codes "digest"))) check_shape)
+    group_shape) same_shape) explain_shape
 
 -- what the words ask for, where the command takes them; the first of them is the program's name
 abbrev pub asked : List Text → Option Request

@@ -9,14 +9,9 @@ use Rattle.crs_same.specs.SameCrs.{SameCrs}
 use Rattle.crs_explain.specs.Explained.{IsExplained}
 use Rattle.crs_explain.specs.InOrder.{AreOrderedObjects, IsOrderedText}
 use Rattle.crs_explain.specs.Json.{IsRefusalObject}
-use Rattle.crs_desk.specs.Output.{IsLine, kind_word}
+use Rattle.crs_desk.specs.Output.{IsLine, kind_told}
 use Rattle.crs_desk.specs.declared.runs.manner.Manner.{Manner}
 use Rattle.crs_desk.specs.declared.runs.manner.Manner.TheVariants as manner
-
--- a kind of CRS is told as `accepted` and its word, or as `{"accepted":"geographic"}`
-abbrev pub kind_told : Manner → Kind → List ℕ
-kind_told manner.Lines kind = codes "accepted " ++ kind_word kind
-kind_told manner.Objects kind = codes "{\"accepted\":\"" ++ kind_word kind ++ codes "\"}"
 
 -- the refusal of a text is told in some lines after the word that says which text it is, or as an object with that word
 abbrev pub IsRefusalTold : Manner → List ℕ → List ℕ → RefusedAt → List ℕ → Type 0

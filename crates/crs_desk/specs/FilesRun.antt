@@ -1,5 +1,5 @@
 -- What a run over files writes, and its status.
-use Rattle.std.specs.Prelude.{◌≡◌, ◌⊎◌, ◌==◌, ◌++◌, ◌∷◌, [], ℕ, Bool, List, Option, IfSome, codes, max, false, true, if◌then◌else◌}
+use Rattle.std.specs.Prelude.{◌≡◌, ◌⊎◌, ◌||◌, ◌==◌, ◌++◌, ◌∷◌, [], ℕ, Bool, List, Option, IfSome, codes, length, max, nat_lt, false, true, if◌then◌else◌}
 use Rattle.std.specs.Io.KnownBytes.{Appends}
 use Rattle.crs_streams.specs.Escaped.{escaped}
 use Rattle.crs_streams.specs.Json.{json_text}
@@ -12,6 +12,7 @@ use Rattle.crs_desk.specs.declared.runs.files.FileTask.{FileTask}
 use Rattle.crs_desk.specs.declared.runs.files.FileTask.TheVariants as task
 use Rattle.crs_desk.specs.declared.runs.manner.Manner.{Manner}
 use Rattle.crs_desk.specs.declared.runs.manner.Manner.TheVariants as manner
+use Rattle.crs_desk.specs.DigestOutput.{IsDigestOutput}
 use Rattle.crs_desk.specs.ExplainOutput.{IsExplainOutput}
 use Rattle.crs_desk.specs.LinesRun.{IsFrontOutput, IsLineOutput, IsLinesOutput, Outputs, IsPrefixed, PrefixParts, prefixed}
 use Rattle.crs_desk.specs.Output.{IsCanonOutput, IsCheckOutput}
@@ -23,45 +24,61 @@ IsGroupedOutput Output bytes written status =
     (summary : Summary) × Output bytes written summary
     × (status ≡ (if summary.refused == 0 then 0 else 1))
 
+-- whether a command writes objects of JSON
+abbrev pub are_objects : Manner → Bool
+are_objects manner.Lines = false
+are_objects manner.Objects = true
+
+-- what `check` writes for a blank line: an empty line, or `{"blank":true}`
+abbrev pub blank_told : Manner → List ℕ
+blank_told manner.Lines = []
+blank_told manner.Objects = codes "{\"blank\":true}"
+
 -- what is written for all the bytes of a file, and the status
 abbrev pub IsTaskOutput : FileTask → Outputs
 IsTaskOutput (task.Canon level) = IsCanonOutput level
-IsTaskOutput task.Check = IsCheckOutput
+IsTaskOutput (task.Check how) = IsCheckOutput how
+IsTaskOutput (task.Digest by) = IsDigestOutput by
 IsTaskOutput (task.Explain how) = IsExplainOutput how
 IsTaskOutput (task.Group level listing) = IsGroupedOutput (IsGroupOutput listing level)
-IsTaskOutput (task.CanonLines level) = IsLinesOutput (IsLineOutput (IsCanonOutput level))
-IsTaskOutput task.CheckLines = IsLinesOutput (IsLineOutput IsCheckOutput)
+IsTaskOutput (task.CanonLines level) = IsLinesOutput (IsLineOutput [] (IsCanonOutput level))
+IsTaskOutput (task.CheckLines how) = IsLinesOutput (IsLineOutput (blank_told how) (IsCheckOutput how))
+IsTaskOutput (task.DigestLines by) = IsLinesOutput (IsLineOutput [] (IsDigestOutput by))
 IsTaskOutput (task.Form level rules) = IsFormOutput rules.now level
 IsTaskOutput (task.FormGroup level listing rules) = IsGroupedOutput (IsGroupOutputUnder rules.now listing level)
-IsTaskOutput (task.FormLines level rules) = IsLinesOutput (IsLineOutput (IsFormOutput rules.now level))
+IsTaskOutput (task.FormLines level rules) = IsLinesOutput (IsLineOutput [] (IsFormOutput rules.now level))
 
 -- what is written for the first bytes of a file of which no more can be read: the answers to whole
 -- lines where each line is a text, and else nothing
 abbrev pub IsTaskFront : FileTask → List ℕ → List ℕ → Type 0
 IsTaskFront (task.CanonLines level) bytes written =
-    IsFrontOutput (IsLineOutput (IsCanonOutput level)) bytes false written
-IsTaskFront task.CheckLines bytes written = IsFrontOutput (IsLineOutput IsCheckOutput) bytes false written
+    IsFrontOutput (IsLineOutput [] (IsCanonOutput level)) bytes false written
+IsTaskFront (task.CheckLines how) bytes written =
+    IsFrontOutput (IsLineOutput (blank_told how) (IsCheckOutput how)) bytes false written
+IsTaskFront (task.DigestLines by) bytes written =
+    IsFrontOutput (IsLineOutput [] (IsDigestOutput by)) bytes false written
 IsTaskFront (task.FormLines level rules) bytes written =
-    IsFrontOutput (IsLineOutput (IsFormOutput rules.now level)) bytes false written
+    IsFrontOutput (IsLineOutput [] (IsFormOutput rules.now level)) bytes false written
 IsTaskFront other bytes written = written ≡ []
-
--- whether `explain` writes objects of JSON
-abbrev pub are_objects : Manner → Bool
-are_objects manner.Lines = false
-are_objects manner.Objects = true
 
 -- whether each line of a file's answer is an object of JSON
 abbrev pub is_json : FileTask → Bool
 is_json (task.Explain how) = are_objects how
+is_json (task.Check how) = are_objects how
+is_json (task.CheckLines how) = are_objects how
 is_json (task.Group level listing) = listing.json
 is_json (task.FormGroup level listing rules) = listing.json
 is_json other = false
 
--- what stands before each line of a file's answer: nothing where there is one file, else its name,
--- as the first member of an object, or escaped as a line shows it, and a colon
-abbrev pub name_prefix : FileTask → List (List ℕ) → List ℕ → PrefixParts
-name_prefix asked (one ∷ []) name = record { bytes = []; in_object = false }
-name_prefix asked names name =
+-- whether lines begin with names of files: where that is asked for, or there are several
+abbrev pub are_named : Bool → List (List ℕ) → Bool
+are_named named names = named || nat_lt 1 (length names)
+
+-- what stands before each line of a file's answer: nothing, or its name, as the first member of an
+-- object, or escaped as a line shows it, and a colon
+abbrev pub name_prefix : FileTask → Bool → List ℕ → PrefixParts
+name_prefix asked false name = record { bytes = []; in_object = false }
+name_prefix asked true name =
     if is_json asked then record { bytes = codes "{\"file\":" ++ json_text name ++ codes ","; in_object = true }
     else record { bytes = escaped name ++ codes ":"; in_object = false }
 
@@ -95,9 +112,10 @@ AreFileOutputs asked prefix known (name ∷ names) written status =
     × (written ≡ one ++ rest) × (status ≡ max first others)
 
 -- the sink got that
-abbrev pub AreFilesAnswered : FileTask → (List ℕ → Option (List ℕ)) → List (List ℕ) → SinkState → SinkState → ℕ → Type 0
-AreFilesAnswered asked known names before after status =
-    (written : List ℕ) × AreFileOutputs asked (name_prefix asked names) known names written status
+abbrev pub AreFilesAnswered : FileTask → Bool → (List ℕ → Option (List ℕ)) → List (List ℕ) → SinkState → SinkState →
+    ℕ → Type 0
+AreFilesAnswered asked named known names before after status =
+    (written : List ℕ) × AreFileOutputs asked (name_prefix asked (are_named named names)) known names written status
     × Appends before.contents after.contents written × (after.failed ≡ false)
 
 -- a run over files ends before the last of them where a write failed or memory ran out

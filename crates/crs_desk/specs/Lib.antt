@@ -1,6 +1,8 @@
 pub mod CommandLine
+pub mod DigestOutput
 pub mod Ending
 pub mod ExplainOutput
+pub mod FilesGrouped
 pub mod FilesRun
 pub mod LinesRun
 pub mod Output

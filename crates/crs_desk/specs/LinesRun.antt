@@ -40,10 +40,10 @@ IsPrefixed prefix Output written status = (plain : List ℕ) × Output plain sta
 abbrev pub Outputs : Type 1
 Outputs = List ℕ → List ℕ → ℕ → Type 0
 
--- for a line of white space alone an empty line is written, for any other what the command writes for its text
-abbrev pub IsLineOutput : Outputs → Outputs
-IsLineOutput Output text written status =
-    (IsTrue (list_all is_white text) × IsLine [] 0 written status)
+-- for a line of white space alone a line of these bytes is written, for any other what the command writes for its text
+abbrev pub IsLineOutput : List ℕ → Outputs → Outputs
+IsLineOutput blank Output text written status =
+    (IsTrue (list_all is_white text) × IsLine blank 0 written status)
     ⊎ (IsFalse (list_all is_white text) × Output text written status)
 
 -- what is written for texts one after another, and the greatest of their statuses

@@ -1,5 +1,5 @@
 -- What a command line asks for, by the name of its command and the matches that `clap` gives.
-use Rattle.std.specs.Prelude.{◌≡◌, ◌==◌, ◌||◌, [], ◌∷◌, ℕ, Bool, List, Option, Some, None, IsSome, codes, map, unwrap_or, if◌then◌else◌}
+use Rattle.std.specs.Prelude.{◌≡◌, ◌==◌, ◌||◌, [], ◌∷◌, ℕ, Bool, false, List, Option, Some, None, IsSome, codes, map, unwrap_or, if◌then◌else◌}
 use Rattle.std.specs.List.{flat_map}
 use Rattle.std.specs.Str.{bytes_eq}
 use Rattle.clap.specs.Words.{Row, Text, all_of, first_of}
@@ -66,38 +66,44 @@ abbrev pub listing_of : List Row → Listing
 listing_of rows = record {
   repeated = has_flag (codes "repeated") rows;
   names = has_flag (codes "names") rows;
+  files = has_flag (codes "files") rows;
   json = has_flag (codes "json") rows;
 }
 
 -- the request to compare two texts or files as `same` does: texts alone are one of their own
 abbrev pub same_for : Text → List Text → WordKind → List Text → LinePair → Request
 same_for level order word.Text [] pair = Same pair.first pair.second level
-same_for level order kind rules pair = Other level order (work.Pair comparison.Same pair)
+same_for level order kind rules pair = Other level order (work.Pair (comparison.Same manner.Lines) pair)
 
 -- the request for some work, at a level, with words of paths
 abbrev pub request_for : Text → List Text → Work → Request
 request_for level order (work.Standard (task.Canon OneText)) = Canon level
-request_for level order (work.Standard (task.Check OneText)) = Check
+request_for level order (work.Standard (task.Check OneText manner.Lines)) = Check
 request_for level order (work.Standard (task.Group listing)) =
-    if (listing.repeated || listing.names) || listing.json then
+    if ((listing.repeated || listing.names) || listing.files) || listing.json then
     Other level order (work.Standard (task.Group listing))
     else Group level
-request_for level order (work.Pair comparison.Same pair) = same_for level order pair.kind pair.rules pair
+request_for level order (work.Pair (comparison.Same manner.Lines) pair) = same_for level order pair.kind pair.rules pair
 request_for level order other = Other level order other
 
 -- the request for some work, with the level and the words of `--first` among a command's matches
 abbrev pub asked_for : Work → List Row → Request
 asked_for wanted rows = request_for (level_of rows) (words_of (codes "order") rows) wanted
 
--- a task over files, or over standard input where there are none, under rules where there are some
-abbrev pub file_work : Task → List Text → List Text → Work
-file_work asked [] [] = work.Standard asked
-file_work asked [] rules = work.Files asked standard rules
-file_work asked names rules = work.Files asked names rules
+-- a task over files, or over standard input where there are none, under rules where there are some;
+-- with names of files or without
+abbrev pub file_work : Task → Bool → List Text → List Text → Work
+file_work asked false [] [] = work.Standard asked
+file_work asked named [] rules = work.Files asked standard rules named
+file_work asked named names rules = work.Files asked names rules named
+
+-- whether each line is to begin with the file's name
+abbrev pub is_named : List Row → Bool
+is_named rows = has_flag (codes "with-name") rows
 
 -- a task over the files among a command's matches, or over standard input where it names none
 abbrev pub over_files : Task → List Row → Request
-over_files asked rows = asked_for (file_work asked (words_of (codes "file") rows) (rules_of rows)) rows
+over_files asked rows = asked_for (file_work asked (is_named rows) (words_of (codes "file") rows) (rules_of rows)) rows
 
 -- two operands, and the rules among a command's matches
 abbrev pub pair_of : List Row → Text → Text → LinePair
@@ -106,7 +112,7 @@ pair_of rows first second = record { kind = kind_of_words rows; first = first; s
 -- both operands of `same` are compared where they are there
 abbrev pub same_operands : List Row → Option Text → Option Text → Option Request
 same_operands rows (Some first) (Some second) =
-    Some (asked_for (work.Pair comparison.Same (pair_of rows first second)) rows)
+    Some (asked_for (work.Pair (comparison.Same (manner_of rows)) (pair_of rows first second)) rows)
 same_operands rows first second = None
 
 -- those among its matches
@@ -115,10 +121,10 @@ same_of rows = same_operands rows (first_of (codes "first") rows) (first_of (cod
 
 -- both operands of `explain` are compared, the first alone is explained, or else standard input
 abbrev pub explain_operands : List Row → Option Text → Option Text → Work
-explain_operands rows None second = file_work (task.Explain (manner_of rows)) [] (rules_of rows)
+explain_operands rows None second = file_work (task.Explain (manner_of rows)) false [] (rules_of rows)
 explain_operands rows (Some first) None =
     if has_flag (codes "files") rows then
-    work.Files (task.Explain (manner_of rows)) (first ∷ []) (rules_of rows)
+    work.Files (task.Explain (manner_of rows)) (first ∷ []) (rules_of rows) false
     else work.Text (manner_of rows) first (rules_of rows)
 explain_operands rows (Some first) (Some second) =
     work.Pair (comparison.Explain (manner_of rows)) (pair_of rows first second)
@@ -131,10 +137,11 @@ explain_work rows = explain_operands rows (first_of (codes "first") rows) (first
 abbrev pub request_of : Text × List Row → Option Request
 request_of (name, rows) =
     if bytes_eq name (codes "canon") then Some (over_files (task.Canon (layout_of rows)) rows)
-    else (if bytes_eq name (codes "check") then Some (over_files (task.Check (layout_of rows)) rows)
+    else (if bytes_eq name (codes "digest") then Some (over_files (task.Digest (layout_of rows)) rows)
+    else (if bytes_eq name (codes "check") then Some (over_files (task.Check (layout_of rows) (manner_of rows)) rows)
     else (if bytes_eq name (codes "same") then same_of rows
     else (if bytes_eq name (codes "group") then Some (over_files (task.Group (listing_of rows)) rows)
-    else (if bytes_eq name (codes "explain") then Some (asked_for (explain_work rows) rows) else None))))
+    else (if bytes_eq name (codes "explain") then Some (asked_for (explain_work rows) rows) else None)))))
 
 -- the level that a word names
 abbrev pub level_named : Text → Option Level
@@ -183,9 +190,9 @@ DoesAt level order wanted job =
 -- a job does what a request asks for
 abbrev pub IsJobOf : Request → Job → Type 0
 IsJobOf (Canon level) job = DoesAt level [] (work.Standard (task.Canon OneText)) job
-IsJobOf Check job = DoesAt (codes "full") [] (work.Standard (task.Check OneText)) job
+IsJobOf Check job = DoesAt (codes "full") [] (work.Standard (task.Check OneText manner.Lines)) job
 IsJobOf (Same first second level) job =
-    DoesAt level [] (work.Pair comparison.Same
+    DoesAt level [] (work.Pair (comparison.Same manner.Lines)
     (record { kind = word.Text; first = first; second = second; rules = [] })) job
 IsJobOf (Group level) job = DoesAt level [] (work.Standard (task.Group plain)) job
 IsJobOf (Other level order wanted) job = DoesAt level order wanted job

@@ -13,8 +13,8 @@ use Rattle.crs_explain.specs.Differing.{PartTexts, difference_line, has_part, pa
 use Rattle.crs_explain.specs.InOrder.{AreOrderedTexts}
 use Rattle.crs_explain.specs.Json.{difference_members, difference_object}
 use Rattle.crs_desk.specs.ExplainOutput.{TellsRefusalOf, same_told}
-use Rattle.crs_desk.specs.Output.{IsLine, WritesRefusal}
-use Rattle.crs_desk.specs.SameOutput.{IsSameOutput, WritesRefusalOf}
+use Rattle.crs_desk.specs.Output.{IsLine, WritesRefusal, WritesRefusalOf}
+use Rattle.crs_desk.specs.SameOutput.{IsSameOutput}
 use Rattle.crs_desk.specs.declared.runs.manner.Manner.{Manner}
 use Rattle.crs_desk.specs.declared.runs.manner.Manner.TheVariants as manner
 
@@ -46,8 +46,8 @@ IsPairOf Is Refused Compared first second written status =
     ⊎ ((a : List ℕ) × (b : List ℕ) × Is first a × Is second b × Compared a b written status)
 
 -- what `same` writes for two texts under rules: what it writes for their forms without rules
-abbrev pub IsSameUnderOutput : RulesParts → Level → List ℕ → List ℕ → List ℕ → ℕ → Type 0
-IsSameUnderOutput rules level = IsPairOf (IsForm rules level) WritesRefusalOf (IsSameOutput level)
+abbrev pub IsSameUnderOutput : Manner → RulesParts → Level → List ℕ → List ℕ → List ℕ → ℕ → Type 0
+IsSameUnderOutput how rules level = IsPairOf (IsForm rules level) (WritesRefusalOf how) (IsSameOutput how level)
 
 -- ---- what `explain` writes for two texts
 

@@ -1,14 +1,17 @@
 -- What `same` and other comparisons write for two texts, and the status.
 use Rattle.std.specs.Prelude.{◌⊎◌, ℕ, List, codes, ◌++◌, Some}
 use Rattle.crs_value.specs.declared.values.crs.Crs.{Crs}
-use Rattle.crs_value.specs.Spells.{Spells, Refuses}
-use Rattle.crs_text.specs.Refusal.{RefusedAt, refused_text}
+use Rattle.crs_value.specs.Spells.{Spells}
 use Rattle.crs_value.specs.declared.values.level.Level.{Level}
 use Rattle.crs_same.specs.declared.step.Step.{Step}
 use Rattle.crs_same.specs.Parts.{FirstInCrs}
 use Rattle.crs_same.specs.Paths.{path_text}
 use Rattle.crs_same.specs.SameCrs.{SameCrs}
-use Rattle.crs_desk.specs.Output.{IsLine}
+use Rattle.crs_streams.specs.Json.{json_text}
+use Rattle.crs_desk.specs.ExplainOutput.{same_told}
+use Rattle.crs_desk.specs.Output.{IsLine, WritesRefusalOf}
+use Rattle.crs_desk.specs.declared.runs.manner.Manner.{Manner}
+use Rattle.crs_desk.specs.declared.runs.manner.Manner.TheVariants as manner
 
 -- ---- what is written for two texts that are compared, and the status
 
@@ -30,19 +33,18 @@ IsPairOutput Refused Compared first second written status =
 
 -- ---- what `same` writes for two texts, and the status
 
--- the refusal of a text after the word that says which text it is, with status 1
-abbrev pub WritesRefusalOf : List ℕ → List ℕ → List ℕ → ℕ → Type 0
-WritesRefusalOf which text written status =
-    (refusal : RefusedAt) × Refuses text refusal × IsLine (which
-    ++ refused_text refusal.number refusal.place) 1 written status
+-- that two CRSs differ is told as `different` and the path to the first part that does, or as `{"same":false,"path":"id"}`
+abbrev pub difference_told : Manner → List ℕ → List ℕ
+difference_told manner.Lines path = codes "different " ++ path
+difference_told manner.Objects path = codes "{\"same\":false,\"path\":" ++ json_text path ++ codes "}"
 
--- `same`, with status 0, where two CRSs are the same, or `different` and the first part that differs, with status 1
-abbrev pub WritesWhetherSame : Level → Crs → Crs → List ℕ → ℕ → Type 0
-WritesWhetherSame level a b written status =
-    (SameCrs level a b × IsLine (codes "same") 0 written status)
+-- that two CRSs are the same is told with status 0, or the first part that differs with status 1
+abbrev pub WritesWhetherSame : Manner → Level → Crs → Crs → List ℕ → ℕ → Type 0
+WritesWhetherSame how level a b written status =
+    (SameCrs level a b × IsLine (same_told how) 0 written status)
     ⊎ ((path : List Step) × FirstInCrs level a b (Some path)
-    × IsLine (codes "different " ++ path_text path) 1 written status)
+    × IsLine (difference_told how (path_text path)) 1 written status)
 
 -- what `same` writes for two texts, and its status
-abbrev pub IsSameOutput : Level → List ℕ → List ℕ → List ℕ → ℕ → Type 0
-IsSameOutput level = IsPairOutput WritesRefusalOf (WritesWhetherSame level)
+abbrev pub IsSameOutput : Manner → Level → List ℕ → List ℕ → List ℕ → ℕ → Type 0
+IsSameOutput how level = IsPairOutput (WritesRefusalOf how) (WritesWhetherSame how level)

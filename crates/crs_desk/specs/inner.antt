@@ -1,4 +1,5 @@
 pub mod FileAnswers
+pub mod FilesGrouping
 pub mod Found
 pub mod HandedOn
 pub mod LineCutting

@@ -3,8 +3,12 @@ ghost use Rattle.std.specs.Prelude.{◌≡◌, ◌⊎◌, ◌↔◌, ◌++◌, [
 ghost use Rattle.crs_streams.specs.Lines.{EndsInFeed};
 ghost use Rattle.crs_desk.specs.LinesRun.{IsLineOutput, IsLinesOutput};
 ghost use Rattle.crs_desk.specs.Output.{IsCanonOutput, IsCheckOutput};
+ghost use Rattle.crs_desk.specs.DigestOutput.{IsDigestOutput};
 ghost use Rattle.crs_desk.specs.ExplainOutput.{TellsWhetherSame};
+ghost use Rattle.crs_desk.specs.FilesRun.{blank_told};
 ghost use Rattle.crs_desk.specs.RulesOutput.{IsFormOutput, TellsUnder, told_under, turned};
+ghost use Rattle.crs_desk.specs.declared.runs.digest.Spelled.{Spelled};
+ghost use Rattle.crs_desk.specs.declared.runs.digest.Spelled.TheVariants.{Canonical};
 ghost use Rattle.crs_desk.specs.declared.runs.manner.Manner.{Manner};
 ghost use Rattle.crs_explain.specs.Differing.{PartTexts};
 ghost use Rattle.crs_rules.specs.Rules.{RulesParts, AreRules, meaning, no_rules};
@@ -20,15 +24,18 @@ pub mod line;
 /// Lines may be worked on in parts: what is written for bytes that end in a line feed, and for others, is joined.
 pub fn lines_joined()
     ensures canon { (level : Level) (a b v w : List ℕ) (m n : ℕ) → (a ≡ []) ⊎ EndsInFeed a →
-        IsLinesOutput (IsLineOutput (IsCanonOutput level)) a v m → IsLinesOutput (IsLineOutput (IsCanonOutput level)) b w n →
-        IsLinesOutput (IsLineOutput (IsCanonOutput level)) (a ++ b) (v ++ w) (max m n) }
-    ensures check { (a b v w : List ℕ) (m n : ℕ) → (a ≡ []) ⊎ EndsInFeed a →
-        IsLinesOutput (IsLineOutput IsCheckOutput) a v m → IsLinesOutput (IsLineOutput IsCheckOutput) b w n →
-        IsLinesOutput (IsLineOutput IsCheckOutput) (a ++ b) (v ++ w) (max m n) }
+        IsLinesOutput (IsLineOutput [] (IsCanonOutput level)) a v m → IsLinesOutput (IsLineOutput [] (IsCanonOutput level)) b w n →
+        IsLinesOutput (IsLineOutput [] (IsCanonOutput level)) (a ++ b) (v ++ w) (max m n) }
+    ensures check { (how : Manner) (a b v w : List ℕ) (m n : ℕ) → (a ≡ []) ⊎ EndsInFeed a →
+        IsLinesOutput (IsLineOutput (blank_told how) (IsCheckOutput how)) a v m → IsLinesOutput (IsLineOutput (blank_told how) (IsCheckOutput how)) b w n →
+        IsLinesOutput (IsLineOutput (blank_told how) (IsCheckOutput how)) (a ++ b) (v ++ w) (max m n) }
+    ensures digest { (by : Spelled) (a b v w : List ℕ) (m n : ℕ) → (a ≡ []) ⊎ EndsInFeed a →
+        IsLinesOutput (IsLineOutput [] (IsDigestOutput by)) a v m → IsLinesOutput (IsLineOutput [] (IsDigestOutput by)) b w n →
+        IsLinesOutput (IsLineOutput [] (IsDigestOutput by)) (a ++ b) (v ++ w) (max m n) }
     ensures form { (rules : RulesParts) (level : Level) (a b v w : List ℕ) (m n : ℕ) → (a ≡ []) ⊎ EndsInFeed a →
-        IsLinesOutput (IsLineOutput (IsFormOutput rules level)) a v m →
-        IsLinesOutput (IsLineOutput (IsFormOutput rules level)) b w n →
-        IsLinesOutput (IsLineOutput (IsFormOutput rules level)) (a ++ b) (v ++ w) (max m n) }
+        IsLinesOutput (IsLineOutput [] (IsFormOutput rules level)) a v m →
+        IsLinesOutput (IsLineOutput [] (IsFormOutput rules level)) b w n →
+        IsLinesOutput (IsLineOutput [] (IsFormOutput rules level)) (a ++ b) (v ++ w) (max m n) }
 {
     crs_streams::laws::lines_are_cut();
 }
@@ -70,4 +77,13 @@ pub fn forms_spell_the_same()
     crs_canon::laws::main_theorem();
     crs_rules::laws::forms_are_canonical();
     crs_rules::laws::same_under_rules_is_equivalence();
+}
+
+/// Two texts whose CRSs are the same at a level have one digest.
+pub fn the_same_crs_has_one_digest()
+    ensures { (level : Level) (first second v w : List ℕ) (x y : Crs) → Spells first x → Spells second y →
+        SameCrs level x y → IsDigestOutput (Canonical level) first v 0 → IsDigestOutput (Canonical level) second w 0 →
+        v ≡ w }
+{
+    crs_canon::laws::main_theorem();
 }

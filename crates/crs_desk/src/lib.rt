@@ -17,8 +17,10 @@ pub use line::requests::{Comparison, Layout, LinePair, Request, RequestFault, Ta
 pub use line::word::{LineWord, LineWords, WordKind};
 pub use line::{is_verbose, request};
 pub use runs::answer::{Answer, ForText, TextCommand, write_answer};
+pub use runs::digest::{DigestText, Spelled};
 pub use runs::explain::{ExplainText, Told};
-pub use runs::files::{FileTask, Inputs, run_files};
+pub use runs::files::{FileTask, Inputs, blank_told, run_files};
+pub use runs::group_files::run_group_files;
 pub use runs::line_output::OfLine;
 pub use runs::lines::run_lines;
 pub use runs::manner::Manner;
@@ -27,6 +29,6 @@ pub use runs::reading::read_text;
 pub use runs::same::{InALine, run_same};
 pub use runs::text::{
     CanonText, CheckText, accepted_line, kind_of_text, kind_word, line_of, refusal_in,
-    refused_line, run_canon, run_check, run_text,
+    refusal_line, refused_line, run_canon, run_check, run_text,
 };
 pub use runs::under::{ExplainedForms, SameForms};

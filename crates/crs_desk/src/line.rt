@@ -3,9 +3,9 @@ ghost use Rattle.clap.specs.Built.{AddsArg, AddsSubcommand};
 ghost use Rattle.clap.specs.Words.{app_of, fault_of, rule_of, shape_of, subcommand_rows_of};
 ghost use Rattle.clap.specs.Simple.{new_shape};
 ghost use Rattle.clap.specs.declared.builder.command.Command.TheViews.{out-Command as fields_of};
-ghost use Rattle.crs_desk.specs.CommandLine.{IsRefusal, asked, desk, lone_desk, operand, canon_shape};
+ghost use Rattle.crs_desk.specs.CommandLine.{IsRefusal, asked, desk, lone_desk, operand, spelling_shape};
 ghost use Rattle.crs_desk.specs.inner.HandedOn.{HandsOn};
-ghost use Rattle.crs_desk.specs.CommandLine.{check_shape, explain_shape, file_operands, first_option, flag, is_verbose};
+ghost use Rattle.crs_desk.specs.CommandLine.{check_shape, explain_shape, file_operands, first_option, flag, is_verbose, name_flag};
 ghost use Rattle.crs_desk.specs.CommandLine.{group_shape, level_option, rules_option, same_shape, spare_operand, verbose_flag};
 ghost use Rattle.crs_desk.specs.Requests.{request_of};
 
@@ -26,9 +26,13 @@ const VERSION: &str = "0.3.0-dev";
 // What help says of the commands that read files or standard input.
 const CANON_ABOUT: &str = "Writes the canonical text of each file's text";
 
+const DIGEST_ABOUT: &str =
+    "Writes the SHA-256 of the canonical text of each file's text: a short key";
+
 const CHECK_ABOUT: &str = "Tells what kind of CRS each file's text spells, or where it is refused";
 
-const GROUP_ABOUT: &str = "Groups the lines of each file, a text each, by the CRSs that they spell";
+const GROUP_ABOUT: &str =
+    "Groups lines, or with --files whole files, a text each, by the CRSs that they spell";
 
 const EXPLAIN_ABOUT: &str =
     "Tells what a text spells or why it is refused, or lists the parts in which two texts differ";
@@ -46,17 +50,21 @@ const SECOND_HELP: &str = "The second text, or its file";
 // What help says of the files of the other commands.
 const FILE_HELP: &str = "A file to read; `-` is standard input [default: standard input]";
 
-// What help says of the flags `--json`, `--lines`, `--repeated`, `--names`, `--files` and `--verbose`.
+// What help says of flags.
 const JSON_HELP: &str = "Writes objects of JSON, one a line";
 
 const LINES_HELP: &str = "Takes each line as a text";
 
-const REPEATED_HELP: &str = "Writes the groups of two lines or more alone";
+const REPEATED_HELP: &str = "Writes the groups of two texts or more alone";
 
 const NAMES_HELP: &str =
     "Takes the front of each line, up to a tab, as its name, and writes names for numbers";
 
 const FILES_HELP: &str = "Takes A and B as names of files; `-` is standard input";
+
+const WHOLE_HELP: &str = "Takes each file as a text, and groups the files by their names";
+
+const WITH_NAME_HELP: &str = "Begins each line with the file's name, also where there is one file";
 
 const VERBOSE_HELP: &str = "Tells the reason of a fault too, in lines of its own";
 
@@ -72,9 +80,11 @@ const RULES_HELP: &str = "Counts as the same what the rules in a file say; repea
 // What the help of a command says last: its statuses.
 const CANON_STATUS: &str = "Status: 0 and the canonical text, 1 and the refusal, 2 for a fault.";
 
+const DIGEST_STATUS: &str = "Status: 0 and the digest, 1 and the refusal, 2 for a fault.";
+
 const CHECK_STATUS: &str = "Status: 0 and the kind, 1 and the refusal, 2 for a fault.";
 
-const GROUP_STATUS: &str = "Status: 0, 1 where a line was refused, 2 for a fault.";
+const GROUP_STATUS: &str = "Status: 0, 1 where a text is refused, 2 for a fault.";
 
 const EXPLAIN_STATUS: &str = "Status: 0, 1 for a refusal or a difference, 2 for a fault.";
 
@@ -132,7 +142,10 @@ fn desk_command<'a>(alloc: Global) -> Result<Command<'a>, AllocError>
     ensures globals { IfOk result (λ command. (fields_of command).has_globals ≡ false) }
 {
     let command = with_argument(Ok(desk_alone(alloc)), verbose_argument(alloc));
-    let command = with_command(command, canon_command(alloc));
+    let canon = spelling_command(alloc, "canon", CANON_ABOUT, CANON_STATUS);
+    let command = with_command(command, canon);
+    let digest = spelling_command(alloc, "digest", DIGEST_ABOUT, DIGEST_STATUS);
+    let command = with_command(command, digest);
     let command = with_command(command, check_command(alloc));
     let command = with_command(command, group_command(alloc));
     let command = with_command(command, same_command(alloc));
@@ -160,14 +173,21 @@ fn with_argument<'a>(
     command?.arg(argument)
 }
 
-fn canon_command<'a>(alloc: Global) -> Result<Command<'a>, AllocError>
-    ensures shape { IfOk result (λ command. shape_of command ≡ canon_shape) }
+// `canon` or `digest`.
+fn spelling_command<'a>(
+    alloc: Global,
+    name: &'a str,
+    about: &'a str,
+    status: &'a str,
+) -> Result<Command<'a>, AllocError>
+    ensures shape { IfOk result (λ command. shape_of command ≡ spelling_shape name.entry.now) }
     ensures globals { IfOk result (λ command. (fields_of command).has_globals ≡ false) }
 {
-    let alone = lone_command(alloc, "canon", CANON_ABOUT, CANON_STATUS);
+    let alone = lone_command(alloc, name, about, status);
     let command = alone.arg(level_argument(alloc));
     let command = with_argument(command, rules_argument(alloc));
     let command = with_argument(command, flag_argument(alloc, "lines", LINES_HELP));
+    let command = with_argument(command, name_argument(alloc));
     let command = with_argument(command, file_argument(alloc));
     with_argument(command, verbose_argument(alloc))
 }
@@ -177,7 +197,9 @@ fn check_command<'a>(alloc: Global) -> Result<Command<'a>, AllocError>
     ensures globals { IfOk result (λ command. (fields_of command).has_globals ≡ false) }
 {
     let alone = lone_command(alloc, "check", CHECK_ABOUT, CHECK_STATUS);
-    let command = alone.arg(flag_argument(alloc, "lines", LINES_HELP));
+    let command = alone.arg(flag_argument(alloc, "json", JSON_HELP));
+    let command = with_argument(command, flag_argument(alloc, "lines", LINES_HELP));
+    let command = with_argument(command, name_argument(alloc));
     let command = with_argument(command, file_argument(alloc));
     with_argument(command, verbose_argument(alloc))
 }
@@ -192,6 +214,8 @@ fn group_command<'a>(alloc: Global) -> Result<Command<'a>, AllocError>
     let command = with_argument(command, flag_argument(alloc, "json", JSON_HELP));
     let command = with_argument(command, flag_argument(alloc, "repeated", REPEATED_HELP));
     let command = with_argument(command, flag_argument(alloc, "names", NAMES_HELP));
+    let command = with_argument(command, flag_argument(alloc, "files", WHOLE_HELP));
+    let command = with_argument(command, name_argument(alloc));
     let command = with_argument(command, file_argument(alloc));
     with_argument(command, verbose_argument(alloc))
 }
@@ -209,7 +233,7 @@ fn desk_alone<'a>(alloc: Global) -> Command<'a>
     ensures globals { (fields_of result).has_globals ≡ false }
 {
     Command::new(alloc, "crsdesk")
-        .about("Reads, compares and spells coordinate reference systems")
+        .about("Reads, compares and spells coordinate reference systems in WKT2 (ISO 19162:2019)")
         .version(VERSION)
         .subcommand_required(true)
 }
@@ -224,6 +248,7 @@ fn same_command<'a>(alloc: Global) -> Result<Command<'a>, AllocError>
     let command = with_argument(command, level_argument(alloc));
     let command = with_argument(command, rules_argument(alloc));
     let command = with_argument(command, flag_argument(alloc, "files", FILES_HELP));
+    let command = with_argument(command, flag_argument(alloc, "json", JSON_HELP));
     with_argument(command, verbose_argument(alloc))
 }
 
@@ -280,6 +305,13 @@ fn verbose_argument<'a>(alloc: Global) -> Arg<'a>
     ensures local { result.global ≡ false }
 {
     flag_argument(alloc, "verbose", VERBOSE_HELP).short('v')
+}
+
+fn name_argument<'a>(alloc: Global) -> Arg<'a>
+    ensures rule { rule_of result ≡ name_flag }
+    ensures local { result.global ≡ false }
+{
+    flag_argument(alloc, "with-name", WITH_NAME_HELP).short('H')
 }
 
 fn level_argument<'a>(alloc: Global) -> Arg<'a>

@@ -1,8 +1,10 @@
 //! The runs of the commands over their sources.
 
 pub(crate) mod answer;
+pub(crate) mod digest;
 pub(crate) mod explain;
 pub(crate) mod files;
+pub(crate) mod group_files;
 pub(crate) mod line_output;
 pub(crate) mod lines;
 pub(crate) mod manner;

@@ -1,5 +1,5 @@
 -- What the source of a run has given, and what the two halves of the run say of the whole.
-use Rattle.std.proofs.Common.{◌≡◌, ◌∙◌, ◌+◌, ◌<◌, ◌≤◌, ◌++◌, ◌*◌, ◌^◌, [], ℕ, Bool, List, false, ap, append-nil, arith, is_ok, length, length-append, Result, Ok, Err, IfErr, IfOk, IsErr, MatchResult}
+use Rattle.std.proofs.Common.{◌≡◌, ◌∙◌, ◌+◌, ◌<◌, ◌≤◌, ◌++◌, ◌*◌, ◌^◌, [], ℕ, Bool, List, false, ap₂, append-nil, arith, is_ok, length, length-append, Result, Ok, Err, IfErr, IfOk, IsErr, MatchResult}
 use Rattle.crs_group.specs.inner.GroupReading.{CutterParts, IsCutFault, IsCutTo, IsLedgerFor, LedgerParts, IsLedgerWhole, IsReadInto, WritesLedger}
 use Rattle.crs_value.specs.declared.values.level.Level.{Level}
 use Rattle.crs_group.specs.GroupOutput.{IsGroupOutputBy, catalogue_text}
@@ -75,14 +75,14 @@ grouped Form Share listing level old new before after ledger summary whole write
       bytes = whole.bytes;
       is_whole = whole.is_whole;
       are_short = whole.are_short;
-      written = catalogue_text listing ledger.names ledger.catalogue;
+      written = catalogue_text listing ledger.names ledger.blanks ledger.catalogue;
       is_output = record {
         texts = whole.is_ledger.texts;
         are_texts = whole.is_ledger.are_texts;
         catalogue = ledger.catalogue;
         is_level = whole.is_level;
         of_lines = texts.of_lines;
-        is_written = ap (λ names. catalogue_text listing names ledger.catalogue) texts.names;
+        is_written = ap₂ (λ names blanks. catalogue_text listing names blanks ledger.catalogue) texts.names texts.blanks;
         lines = writes.lines ∙ texts.lines;
         blank = writes.blank ∙ texts.blank;
         refused = writes.refused;

@@ -1,5 +1,5 @@
--- The first tab of a line, as it is searched for.
-use Rattle.std.proofs.Common.{◌≡◌, ◌<◌, ◌∷◌, [], ℕ, zero, suc, List, Option, Some, None, MatchOption, true, length, arith, refl, ◌==◌, slice_index}
+-- The first tab of a line, as it is searched for, and a test by two functions.
+use Rattle.std.proofs.Common.{◌≡◌, ◌↔◌, ◌<◌, ◌∷◌, [], ℕ, Bool, IsTrue, zero, suc, List, Option, Some, None, MatchOption, false, sym, true, length, arith, refl, ◌==◌, slice_index}
 use Rattle.std.proofs.lemmas.Bool.{false_from_ne_true}
 use Rattle.bstr.specs.Find.{IsFirstByte, is_byte}
 use Rattle.crs_group.specs.Names.{tab_at}
@@ -21,3 +21,10 @@ pub tab_found : (line : List ℕ) (found : Option ℕ) → IsFirstByte (is_byte 
     → MatchOption found (tab_at line ≡ length line) (λ at. (tab_at line ≡ at) × (at < length line))
 tab_found line None none = tab-nowhere line (λ k l. none k (omega arith) l)
 tab_found line (Some at) (none, is) = (tab-here line at none.high is (λ k l. none.before k (omega arith) l), none.high)
+
+-- two tests of one fact are the same
+pub same_test : {P : Type 0} (one other : Bool) → IsTrue one ↔ P → (P → other ≡ true) → (other ≡ true → P) → one ≡ other
+same_test true true is to from = refl
+same_test true false is to from = sym (to (is.0 refl))
+same_test false true is to from = is.1 (from refl)
+same_test false false is to from = refl

@@ -1,32 +1,47 @@
 //! How a catalogue is written: groups and refused lines, each in a line, or as an object of JSON in one.
-ghost use Rattle.std.specs.Prelude.{◌≡◌, ◌++◌, OnOk, Some};
+ghost use Rattle.std.specs.Prelude.{◌≡◌, ◌++◌, IfOk, OnOk, Some};
 ghost use Rattle.std.specs.List.{flat_map};
 ghost use Rattle.crs_group.specs.Catalogue.{GroupParts, nth};
-ghost use Rattle.crs_group.specs.GroupOutput.{catalogue_text, group_line, group_lines, is_listed, label, labels_text, listed_line, refused_written};
-ghost use Rattle.crs_group.specs.GroupObjects.{group_object, json_line, refused_object};
+ghost use Rattle.std.specs.Str.{is_utf8};
+ghost use Rattle.crs_group.specs.GroupOutput.{blank_written, catalogue_text, group_line, group_lines, is_listed, label, labels_text};
+ghost use Rattle.crs_group.specs.GroupOutput.{listed_line, parting, place_text, refused_written, shown_byte, shown_file, shown_name, without_blank};
+ghost use Rattle.crs_group.specs.GroupObjects.{group_object, json_line, place_member, places_members, refused_object};
 ghost use Rattle.crs_streams.specs.Json.{json_array, json_more};
 
 use crate::Listing;
 use crate::ledger::Ledger;
+use bstr::ByteSlice;
 use crs_streams::json::{append_key, append_number_member, append_text, append_text_member};
 use crs_streams::{append_escaped, append_number, append_refusal};
 use crs_text::Refusal;
-use std::alloc::AllocError;
+use std::alloc::{AllocError, Global};
+
+/// The groups of a ledger that are listed, and after them what is blank and what is refused.
+pub fn listed_text(alloc: Global, listing: Listing, ledger: &Ledger) -> Result<Vec<u8>, AllocError>
+    ensures { IfOk result (λ text. text.items
+        ≡ catalogue_text listing ledger.now.names ledger.now.blanks ledger.now.catalogue) }
+{
+    let mut text = Vec::new(alloc);
+    Listed { listing, ledger }.write(&mut text)?;
+    Ok(text)
+}
 
 // A ledger, of which these groups are written in this way.
 #[derive(Clone, Copy)]
-pub(crate) struct Listed<'l> {
-    pub(crate) listing: Listing,
-    pub(crate) ledger: &'l Ledger,
+struct Listed<'l> {
+    listing: Listing,
+    ledger: &'l Ledger,
 }
 
 impl Listed<'_> {
-    // The groups that are listed, and after them the refused lines.
-    pub(crate) fn write(self, out: &mut Vec<u8>) -> Result<(), AllocError>
+    // The groups that are listed, and after them the blank lines and the refused ones.
+    fn write(self, out: &mut Vec<u8>) -> Result<(), AllocError>
         ensures { OnOk result (out.new.items ≡ out.old.items
-            ++ catalogue_text self.entry.listing self.entry.ledger.now.names self.entry.ledger.now.catalogue) }
+            ++ catalogue_text self.entry.listing self.entry.ledger.now.names self.entry.ledger.now.blanks
+            self.entry.ledger.now.catalogue) }
     {
         self.write_groups(out)?;
+        self.write_blank_lines(out)?;
         self.write_refused_lines(out)
     }
 
@@ -77,7 +92,7 @@ impl Listed<'_> {
             ++ labels_text self.entry.listing self.entry.ledger.now.names numbers.now) }
     {
         for number in numbers {
-            out.push(if self.listing.names { b'\t' } else { b' ' })?;
+            out.push(self.parting())?;
             self.write_label(out, *number)?;
         }
         Ok(())
@@ -87,10 +102,58 @@ impl Listed<'_> {
         ensures { OnOk result (out.new.items ≡ out.old.items
             ++ label self.entry.listing self.entry.ledger.now.names number) }
     {
+        if self.listing.files {
+            return append_file(self.ledger.names().at(number), out);
+        }
         if self.listing.names {
-            return append_escaped(self.ledger.names().at(number), out);
+            return append_name(self.ledger.names().at(number), out);
         }
         append_number(number as usize, out)
+    }
+
+    fn parting(self) -> u8
+        ensures { result ≡ parting self.entry.listing }
+    {
+        if self.listing.names && !self.listing.files {
+            b'\t'
+        } else {
+            b' '
+        }
+    }
+
+    // `line L: `, or `FILE: `.
+    fn write_place(self, out: &mut Vec<u8>, line: u64) -> Result<(), AllocError>
+        ensures { OnOk result (out.new.items ≡ out.old.items
+            ++ place_text self.entry.listing self.entry.ledger.now.names line) }
+    {
+        if !self.listing.files {
+            out.extend_from_slice(b"line ")?;
+        }
+        self.write_label(out, line)?;
+        out.extend_from_slice(b": ")
+    }
+
+    fn write_blank_lines(self, out: &mut Vec<u8>) -> Result<(), AllocError>
+        ensures { OnOk result (out.new.items ≡ out.old.items ++ flat_map (blank_written self.entry.listing
+            self.entry.ledger.now.names) self.entry.ledger.now.blanks) }
+    {
+        for line in self.ledger.blanks() {
+            self.write_blank(out, *line)?;
+        }
+        Ok(())
+    }
+
+    // A blank line, as an object or a line.
+    fn write_blank(self, out: &mut Vec<u8>, line: u64) -> Result<(), AllocError>
+        ensures { OnOk result (out.new.items ≡ out.old.items
+            ++ blank_written self.entry.listing self.entry.ledger.now.names line) }
+    {
+        if self.listing.json {
+            self.write_place_member(out, line)?;
+            return out.extend_from_slice(b",\"blank\":true}\n");
+        }
+        self.write_place(out, line)?;
+        out.extend_from_slice(b"blank\n")
     }
 
     fn write_refused_lines(self, out: &mut Vec<u8>) -> Result<(), AllocError>
@@ -111,9 +174,7 @@ impl Listed<'_> {
         if self.listing.json {
             return self.write_refused_object(out, line, refusal);
         }
-        out.extend_from_slice(b"line ")?;
-        self.write_label(out, line)?;
-        out.extend_from_slice(b": ")?;
+        self.write_place(out, line)?;
         append_refusal(out, refusal)?;
         out.push(b'\n').map_err(AllocError::from)
     }
@@ -131,14 +192,27 @@ impl Listed<'_> {
     {
         out.extend_from_slice(b"{\"group\":")?;
         append_number(number, out)?;
+        self.write_places(out, lines)?;
+        append_text_member(b"canonical", text, out)?;
+        out.extend_from_slice(b"}\n")
+    }
+
+    // What is in a group: the numbers of lines, and their names, or files.
+    fn write_places(self, out: &mut Vec<u8>, lines: &[u64]) -> Result<(), AllocError>
+        ensures { OnOk result (out.new.items ≡ out.old.items
+            ++ places_members self.entry.listing self.entry.ledger.now.names lines.now) }
+    {
+        if self.listing.files {
+            append_key(b"files", out)?;
+            return self.write_array(out, true, lines);
+        }
         append_key(b"lines", out)?;
         self.write_array(out, false, lines)?;
         if self.listing.names {
             append_key(b"line_names", out)?;
             self.write_array(out, true, lines)?;
         }
-        append_text_member(b"canonical", text, out)?;
-        out.extend_from_slice(b"}\n")
+        Ok(())
     }
 
     // An array of the numbers of lines, or of their names.
@@ -178,6 +252,23 @@ impl Listed<'_> {
         append_number(number as usize, out)
     }
 
+    // An object begins with the number of a line and its name, or with a file.
+    fn write_place_member(self, out: &mut Vec<u8>, line: u64) -> Result<(), AllocError>
+        ensures { OnOk result (out.new.items ≡ out.old.items
+            ++ place_member self.entry.listing self.entry.ledger.now.names line) }
+    {
+        if self.listing.files {
+            out.extend_from_slice(b"{\"file\":")?;
+            return append_text(self.ledger.names().at(line), out);
+        }
+        out.extend_from_slice(b"{\"line\":")?;
+        append_number(line as usize, out)?;
+        if self.listing.names {
+            append_text_member(b"line_name", self.ledger.names().at(line), out)?;
+        }
+        Ok(())
+    }
+
     fn write_refused_object(
         self,
         out: &mut Vec<u8>,
@@ -187,16 +278,69 @@ impl Listed<'_> {
         ensures { OnOk result (out.new.items ≡ out.old.items
             ++ refused_object self.entry.listing self.entry.ledger.now.names (line, refusal)) }
     {
-        out.extend_from_slice(b"{\"line\":")?;
-        append_number(line as usize, out)?;
-        if self.listing.names {
-            append_text_member(b"line_name", self.ledger.names().at(line), out)?;
-        }
+        self.write_place_member(out, line)?;
         append_number_member(b"refused", usize::from(refusal.number()), out)?;
         append_text_member(b"name", refusal.name().as_bytes(), out)?;
         append_number_member(b"place", refusal.place(), out)?;
         out.extend_from_slice(b"}\n")
     }
+}
+
+// A name as a line shows it.
+fn append_name(name: &[u8], out: &mut Vec<u8>) -> Result<(), AllocError>
+    ensures { OnOk result (out.new.items ≡ out.old.items ++ shown_name name.now) }
+{
+    if is_utf8(name) {
+        return append_escaped(name, out);
+    }
+    for byte in name {
+        append_byte(*byte, out)?;
+    }
+    Ok(())
+}
+
+fn is_utf8(name: &[u8]) -> bool
+    ensures { result ≡ is_utf8 name.now }
+{
+    name.is_utf8()
+}
+
+fn append_byte(byte: u8, out: &mut Vec<u8>) -> Result<(), AllocError>
+    ensures { OnOk result (out.new.items ≡ out.old.items ++ shown_byte byte) }
+{
+    if byte < 128 {
+        return append_escaped(&[byte], out);
+    }
+    let digits = hex::encode_upper(*out.allocator(), [byte])?;
+    out.extend_from_slice(b"\\x")?;
+    out.extend_from_slice(digits.as_bytes())
+}
+
+// The name of a file, in which blanks are escaped too.
+fn append_file(name: &[u8], out: &mut Vec<u8>) -> Result<(), AllocError>
+    ensures { OnOk result (out.new.items ≡ out.old.items ++ shown_file name.now) }
+{
+    let mut shown = Vec::new(*out.allocator());
+    append_escaped(name, &mut shown)?;
+    append_without_blanks(&shown, out)
+}
+
+fn append_without_blanks(bytes: &[u8], out: &mut Vec<u8>) -> Result<(), AllocError>
+    ensures { OnOk result (out.new.items ≡ out.old.items ++ flat_map without_blank bytes.now) }
+{
+    for byte in bytes {
+        append_without_blank(*byte, out)?;
+    }
+    Ok(())
+}
+
+fn append_without_blank(byte: u8, out: &mut Vec<u8>) -> Result<(), AllocError>
+    ensures { OnOk result (out.new.items ≡ out.old.items ++ without_blank byte) }
+{
+    if byte == b' ' {
+        return out.extend_from_slice(b"\\x20");
+    }
+    out.push(byte).map_err(AllocError::from)
 }
 
 fn is_listed(listing: Listing, lines: &[u64]) -> bool

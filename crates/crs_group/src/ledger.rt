@@ -1,23 +1,27 @@
 //! A catalogue of lines that are numbered as they come, counted, and named where they have names; and how a line is
 //! added to it: by its canonical text, or by its form under rules.
 ghost use Rattle.std.specs.Prelude.{◌≡◌, ◌+◌, ◌^◌, ◌<◌, ◌≤◌, ◌++◌, ◌∷◌, [], ℕ, List, OnOk, length, IfOk};
-ghost use Rattle.crs_group.specs.inner.GroupReading.{IsLedgerOf, blank_count, no_lines};
+ghost use Rattle.crs_group.specs.inner.GroupReading.{IsLedgerOf, IsLedgerOfNamed, blank_count, no_lines};
 ghost use Rattle.crs_value.specs.declared.values.level.Level.{Level};
 ghost use Rattle.crs_group.specs.GroupTexts.{IsCatalogueBy, then_line, PlacedLine};
+ghost use Rattle.crs_group.specs.Names.{NamedText};
 
 use crate::Placed;
 use crate::catalogue::Catalogue;
-use crate::names::{Names, text_in};
+use crate::names::{Names, keep_blank, keep_blank_text, text_in};
 use crate::summary::Summary;
 use crs_rules::Under;
 use crs_value::Level;
 use std::alloc::{AllocError, Global};
 use std::marker::Model;
 
+/// Lines or named texts, and their catalogue.
 #[derive(Drop)]
-pub(crate) struct Ledger {
+pub struct Ledger {
     catalogue: Catalogue,
     names: Names,
+    // The numbers of the blank ones among those that have names.
+    blanks: Vec<u64>,
     lines: u64,
     blank: u64,
 }
@@ -31,6 +35,7 @@ impl Model for Ledger {
     ghost view = { λ ledger. record {
       catalogue = ledger.catalogue;
       names = ledger.names;
+      blanks = ledger.blanks.items;
       lines = ledger.lines;
       blank = ledger.blank;
     } };
@@ -45,9 +50,18 @@ impl Ledger {
         Ledger {
             catalogue: Catalogue::new(alloc, level),
             names: Names::new(alloc),
+            blanks: Vec::new(alloc),
             lines: 0,
             blank: 0,
         }
+    }
+
+    /// The ledger of no texts, which are added in this way.
+    pub fn of<A: Adding>(alloc: Global, adding: &A) -> Ledger
+        ensures texts { IsLedgerOfNamed (A.Form adding.now) (A.Share adding.now) [] result }
+        ensures level { result.catalogue.level ≡ A.level adding.now }
+    {
+        Ledger::new(alloc, adding.level())
     }
 
     pub(crate) fn add<A: Adding>(&mut self, way: &Way<A>, line: &[u8]) -> Result<(), AllocError>
@@ -63,6 +77,30 @@ impl Ledger {
             .adding
             .add(&mut self.catalogue, self.lines + 1, text_in(named, line))?;
         self.names.keep(named, self.lines + 1, line)?;
+        keep_blank(&mut self.blanks, named, self.lines + 1, line)?;
+        self.lines += 1;
+        self.blank += blank_count(placed);
+        Ok(())
+    }
+
+    /// Adds a text by its name.
+    pub fn add_named<A: Adding>(
+        &mut self,
+        adding: &A,
+        name: &[u8],
+        text: &[u8],
+    ) -> Result<(), AllocError>
+        requires { self.old.lines + 1 < 2 ^ 64 }
+        ensures texts { OnOk result ((texts : List NamedText) →
+            IsLedgerOfNamed (A.Form adding.now) (A.Share adding.now) texts self.old →
+            IsLedgerOfNamed (A.Form adding.now) (A.Share adding.now)
+            (texts ++ record { name = name.now; text = text.now } ∷ []) self.new) }
+        ensures lines { OnOk result (self.new.lines ≡ self.old.lines + 1) }
+        ensures level { self.new.catalogue.level ≡ self.old.catalogue.level }
+    {
+        let placed = adding.add(&mut self.catalogue, self.lines + 1, text)?;
+        self.names.push(name)?;
+        keep_blank_text(&mut self.blanks, self.lines + 1, text)?;
         self.lines += 1;
         self.blank += blank_count(placed);
         Ok(())
@@ -80,13 +118,20 @@ impl Ledger {
         &self.names
     }
 
+    pub(crate) fn blanks(&self) -> &[u64]
+        ensures { result.now ≡ self.now.blanks }
+    {
+        &self.blanks
+    }
+
     pub(crate) fn catalogue(&self) -> &Catalogue
         ensures { result.now ≡ self.now.catalogue }
     {
         &self.catalogue
     }
 
-    pub(crate) fn summary(&self) -> Summary
+    /// What it has.
+    pub fn summary(&self) -> Summary
         ensures lines { result.lines ≡ self.now.lines }
         ensures blank { result.blank ≡ self.now.blank }
         ensures refused { result.refused ≡ length self.now.catalogue.refused }

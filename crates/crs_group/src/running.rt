@@ -7,7 +7,7 @@ ghost use Rattle.crs_group.specs.GroupRun.{IsGroupRun, IsReadingFault};
 ghost use Rattle.crs_streams.specs.Streams.{fresh_sink, fresh_source};
 ghost use Rattle.crs_streams.specs.Lines.{HasNoFeed};
 
-use crate::group_text::Listed;
+use crate::group_text::listed_text;
 use crate::ledger::{Adding, Ledger, Way};
 use crate::listing::Listing;
 use crate::summary::Summary;
@@ -93,9 +93,7 @@ fn write_listing<W: Write>(
     ensures err { IfErr result (IsWritingFault sink.old sink.new) }
     ensures past_failure { sink.new.past_failure ≡ false }
 {
-    let mut text = Vec::new(alloc);
-    let listed = Listed { listing, ledger };
-    listed.write(&mut text).map_err(|_| RunFault::Memory)?;
+    let text = listed_text(alloc, listing, ledger).map_err(|_| RunFault::Memory)?;
     if !text.is_empty() {
         sink.write_all(&text).map_err(|_| RunFault::WriteFailed)?;
     }

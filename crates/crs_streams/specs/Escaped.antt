@@ -11,16 +11,24 @@ steers c =
     (nat_le 0x80 c && nat_le c 0x9F) || c == 0x61C || c == 0x200E || c == 0x200F
     || (nat_le 0x2028 c && nat_le c 0x202E) || (nat_le 0x2066 c && nat_le c 0x2069)
 
+-- characters that show as a blank or as nothing, so that what has them looks like what hasn't: other spaces than the
+-- blank, soft hyphens, joiners, selectors of variants, byte order marks
+abbrev pub hides : ℕ → Bool
+hides c =
+    c == 0xA0 || c == 0xAD || c == 0x34F || (nat_le 0x2000 c && nat_le c 0x200D) || c == 0x202F
+    || (nat_le 0x205F c && nat_le c 0x206F) || c == 0x3000 || (nat_le 0xFE00 c && nat_le c 0xFE0F) || c == 0xFEFF
+
 -- two hexadecimal digits
 abbrev pub hex_byte : ℕ → List ℕ
 hex_byte b = hex_digit (b / 16) ∷ hex_digit (b % 16) ∷ []
 
--- a character as a line shows it: a backslash and what steers are escaped, as `\\`, `\n`, `\x1B` and `\u202E`
+-- a character as a line shows it: a backslash, what steers and what hides are escaped, as `\\`, `\n`, `\x1B`
+-- and `\u202E`
 abbrev pub shown_char : ℕ → List ℕ
 shown_char c =
     if c == 32 then c ∷ []
     else if nat_lt c 128 then escape_byte c
-    else if steers c then codes "\\u" ++ hex_byte (c / 256) ++ hex_byte (c % 256)
+    else if steers c || hides c then codes "\\u" ++ hex_byte (c / 256) ++ hex_byte (c % 256)
     else encode_utf8 c
 
 -- a text as a line shows it

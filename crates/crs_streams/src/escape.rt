@@ -1,13 +1,13 @@
 //! Texts as one line can show them.
-ghost use Rattle.std.specs.Prelude.{◌≡◌, ◌++◌, ◌≤◌, ◌<◌, ◌/◌, ◌%◌, OnOk, codes, false};
+ghost use Rattle.std.specs.Prelude.{◌≡◌, ◌++◌, ◌≤◌, ◌<◌, ◌/◌, ◌%◌, ◌||◌, OnOk, codes, false};
 ghost use Rattle.bstr.specs.Escape.{escape_byte, hex_digit};
-ghost use Rattle.crs_streams.specs.Escaped.{escaped, hex_byte, shown_char, steers};
+ghost use Rattle.crs_streams.specs.Escaped.{escaped, hex_byte, hides, shown_char, steers};
 
 use bstr::{ByteSlice, ByteVec};
 use std::alloc::AllocError;
 
-/// Appends a text as a line shows it: backslashes are escaped, and what steers a terminal, ends a line or turns a
-/// text, as `\\`, `\n`, `\x1B` and `\u202E`; what is no UTF-8 is U+FFFD. `AllocError`: there is no memory for it.
+/// Appends a text as a line shows it: backslashes are escaped, and what steers a terminal, ends a line, turns a text
+/// or shows as a blank or as nothing, as `\\`, `\n`, `\x1B` and `\u202E`; what is no UTF-8 is U+FFFD. `AllocError`: there is no memory for it.
 pub fn append_escaped(bytes: &[u8], out: &mut Vec<u8>) -> Result<(), AllocError>
     ensures { OnOk result (out.new.items ≡ out.old.items ++ escaped bytes.now) }
 {
@@ -24,15 +24,32 @@ fn append_char(c: char, out: &mut Vec<u8>) -> Result<(), AllocError>
         out.push(b' ').map_err(AllocError::from)
     } else if c < '\u{80}' {
         append_byte(c as u8, out)
-    } else if steers(c) {
+    } else if is_coded(c) {
         append_code(c as u16, out)
     } else {
         out.push_char(c)
     }
 }
 
-/// Whether a character from U+0080 on steers a terminal, ends a line or changes the direction of a text.
-pub(crate) fn steers(c: char) -> bool
+/// Whether a character from U+0080 on is written by its code.
+pub(crate) fn is_coded(c: char) -> bool
+    ensures { result ≡ (steers c || hides c) }
+{
+    steers(c) || hides(c)
+}
+
+// Whether a character shows as a blank or as nothing.
+fn hides(c: char) -> bool
+    ensures { result ≡ hides c }
+{
+    matches!(
+        c,
+        '\u{a0}' | '\u{ad}' | '\u{34f}' | '\u{2000}'..='\u{200d}' | '\u{202f}' | '\u{205f}'..='\u{206f}' | '\u{3000}' | '\u{fe00}'..='\u{fe0f}' | '\u{feff}'
+    )
+}
+
+// Whether a character from U+0080 on steers a terminal, ends a line or changes the direction of a text.
+fn steers(c: char) -> bool
     ensures { result ≡ steers c }
 {
     matches!(

@@ -5,13 +5,13 @@ ghost use Rattle.std.specs.Str.{is_utf8};
 ghost use Rattle.bstr.specs.Utf8.{lossy_chars};
 ghost use Rattle.crs_streams.specs.Json.{json_bytes, json_char, json_string, json_text, json_value, key, number_member, text_member, value_member};
 
-use crate::escape::{append_code, append_hex, steers};
+use crate::escape::{append_code, append_hex, is_coded};
 use crate::number::append_number;
 use bstr::{ByteSlice, ByteVec};
 use std::alloc::AllocError;
 
 /// Appends a text as a string, in which a quote and a backslash have a backslash before them, and what steers a
-/// terminal, ends a line or changes the direction of a text is a code, as `\u202E`; or where it isn't UTF-8 as an
+/// terminal, ends a line, changes the direction of a text or shows as a blank or as nothing is a code, as `\u202E`; or where it isn't UTF-8 as an
 /// object with its bytes by two hexadecimal digits each, as `{"bytes":"FF"}`. `AllocError`: no memory for it.
 pub fn append_text(bytes: &[u8], out: &mut Vec<u8>) -> Result<(), AllocError>
     ensures { OnOk result (out.new.items ≡ out.old.items ++ json_text bytes.now) }
@@ -95,7 +95,7 @@ fn append_char(c: char, out: &mut Vec<u8>) -> Result<(), AllocError>
 {
     if c == '"' || c == '\\' {
         out.extend_from_slice(&[b'\\', c as u8])
-    } else if c < ' ' || c == '\u{7f}' || steers(c) {
+    } else if c < ' ' || c == '\u{7f}' || is_coded(c) {
         append_code(c as u16, out)
     } else {
         out.push_char(c)

@@ -4,8 +4,8 @@ use crate::answer::Answer;
 use crate::row::Row;
 use crate::streams::{Page, Pieces, Transfer};
 use crs_desk::{
-    CanonText, CheckText, Filling, LineWord, OfLine, Request, RequestFault, Stream, run_canon,
-    run_check, run_lines, run_same,
+    CanonText, CheckText, Filling, LineWord, Manner, OfLine, Request, RequestFault, Stream,
+    run_canon, run_check, run_lines, run_same,
 };
 use crs_group::{RunFault, Sink, Source, Summary, run_group};
 use crs_value::Level;
@@ -78,13 +78,14 @@ impl<'t> Run<'t> {
         let outcome = match self.command {
             "run_canon" => run_canon(alloc, level, &mut source, &mut sink).map(Status),
             "run_canon_lines" => {
-                let command = CanonText { level };
-                run_lines(alloc, &OfLine { command }, &mut stream, &mut sink).map(Status)
+                let (command, blank) = (CanonText { level }, b"".as_slice());
+                run_lines(alloc, &OfLine { command, blank }, &mut stream, &mut sink).map(Status)
             }
             "run_check" => run_check(alloc, &mut source, &mut sink).map(Status),
             "run_check_lines" => {
-                let command = CheckText;
-                run_lines(alloc, &OfLine { command }, &mut stream, &mut sink).map(Status)
+                let how = Manner::Lines;
+                let (command, blank) = (CheckText { how }, b"".as_slice());
+                run_lines(alloc, &OfLine { command, blank }, &mut stream, &mut sink).map(Status)
             }
             "run_group" => run_group(alloc, level, &mut source, &mut sink).map(Groups),
             _ => run_same(alloc, level, text, second, &mut sink).map(Status),

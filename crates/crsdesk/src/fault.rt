@@ -10,6 +10,9 @@ pub enum Fault {
     /// A word of the command line isn't UTF-8.
     #[error("a word of the command line isn't UTF-8")]
     Word,
+    /// Standard input is named twice.
+    #[error("standard input is read once, and `-` stands twice")]
+    Twice,
     /// The request is no job.
     #[error("{0}")]
     Job(#[from] JobFault),
@@ -30,15 +33,5 @@ pub enum Fault {
 impl From<AllocError> for Fault {
     fn from(_error: AllocError) -> Fault {
         Fault::Run(RunFault::Memory)
-    }
-}
-
-// The words of the command line couldn't be read.
-impl From<io::Error> for Fault {
-    fn from(error: io::Error) -> Fault {
-        if error.kind() == io::ErrorKind::OutOfMemory {
-            return Fault::Run(RunFault::Memory);
-        }
-        Fault::Word
     }
 }

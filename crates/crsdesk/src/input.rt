@@ -1,12 +1,12 @@
 //! What texts are read from: standard input, and files by their names.
-use crate::messages::tell_of;
+use crate::messages::{tell_marked, tell_of};
 use crs_desk::{Inputs, RunFault};
 use std::fs::File;
 use std::io;
 use std::io::{Read, Stdin};
 
 // The name of standard input among those of files.
-const STANDARD: &str = "-";
+pub const STANDARD: &str = "-";
 
 /// Standard input or a file, with the failure of the last read that failed.
 #[derive(Drop)]
@@ -71,6 +71,9 @@ impl Inputs for Opener {
     ghost known = { λ opener name. None };
 
     fn open(&self, name: &str) -> Option<Input> {
+        if tell_marked(&self.rt, name) {
+            return None;
+        }
         match Input::open(&self.rt, name) {
             Ok(input) => Some(input),
             Err(error) => {

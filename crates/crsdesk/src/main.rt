@@ -9,10 +9,10 @@ mod runs;
 
 use crs_desk::{JobFault, PATH_WORDS, RequestFault, RunFault, is_verbose, request};
 use fault::Fault;
-use messages::{tell_bad_words, words_of};
+use messages::{is_marked, line_words, tell_bad_words, tell_of, tell_usage, words_of};
 use runs::answer;
 use std::process::ExitCode;
-use std::{env, io};
+use std::{io, str};
 
 const FAULT: u8 = 2;
 
@@ -25,10 +25,11 @@ fn main(rt: HostRuntime) -> ExitCode {
 }
 
 fn run(rt: &HostRuntime) -> Result<u8, Fault> {
-    let owned: Vec<String> = env::args(rt)?.collect(rt.alloc())?;
+    let owned = line_words(rt, &words_of(rt)?)?;
     let words: Vec<&str> = owned.iter().map(|word| word.as_str()).collect(rt.alloc())?;
     match request(rt.alloc(), &words) {
         Ok(asked) => answer(rt, &asked.into_job(rt.alloc())?),
+        Err(RequestFault::Line(_)) if words.iter().any(|word| is_marked(word)) => Err(Fault::Word),
         Err(RequestFault::Line(error)) => Ok(tell_line(rt, &words, &error)),
         Err(RequestFault::Memory(_)) => Err(Fault::Run(RunFault::Memory)),
     }
@@ -52,7 +53,11 @@ fn report(rt: &HostRuntime, fault: &Fault) -> u8 {
 fn has_reason(fault: &Fault) -> bool {
     matches!(
         fault,
-        Fault::Word | Fault::Job(JobFault::Part) | Fault::Read(_) | Fault::Write(_)
+        Fault::Word
+            | Fault::Job(JobFault::Level | JobFault::Part)
+            | Fault::Read(_)
+            | Fault::Write(_)
+            | Fault::Run(RunFault::TooLong(_))
     )
 }
 
@@ -60,10 +65,12 @@ fn has_reason(fault: &Fault) -> bool {
 fn tell_reason(rt: &HostRuntime, fault: &Fault, words: &[Vec<u8>]) {
     match fault {
         Fault::Word => tell_bad_words(rt, words),
-        Fault::Job(JobFault::Part) => {
-            if let Ok(words) = PATH_WORDS.join(rt.alloc(), ", ") {
-                let _ = eprintln!(rt; "crsdesk: --first takes words of paths: {words}");
-            }
+        Fault::Job(JobFault::Level) => {
+            let _ = eprintln!(rt; "crsdesk: --level takes full or definition");
+        }
+        Fault::Job(JobFault::Part) => tell_path_words(rt, words),
+        Fault::Run(RunFault::TooLong(_)) => {
+            let _ = eprintln!(rt; "crsdesk: a text, and a line, has at most 1,048,576 bytes");
         }
         Fault::Read(error) => {
             let _ = eprintln!(rt; "crsdesk: standard input: {error}");
@@ -75,21 +82,64 @@ fn tell_reason(rt: &HostRuntime, fault: &Fault, words: &[Vec<u8>]) {
     }
 }
 
+// Which words of `--first` are in no path, and those that are.
+fn tell_path_words(rt: &HostRuntime, words: &[Vec<u8>]) {
+    for place in 0..words.len() {
+        let word = words[place].as_slice();
+        if word == b"--first".as_slice() && place + 1 < words.len() {
+            tell_parts(rt, words[place + 1].as_slice());
+        } else if let Some(parts) = word.strip_prefix(b"--first=".as_slice()) {
+            tell_parts(rt, parts);
+        }
+    }
+    if let Ok(words) = PATH_WORDS.join(rt.alloc(), ", ") {
+        let _ = eprintln!(rt; "crsdesk: --first takes words of paths: {words}");
+    }
+}
+
+fn tell_parts(rt: &HostRuntime, parts: &[u8]) {
+    let Ok(parts) = str::from_utf8(parts) else {
+        return;
+    };
+    for part in parts.split(',') {
+        if part != "axes" && !PATH_WORDS.contains(&part) {
+            tell_of(rt, part, "this is in no path");
+        }
+    }
+}
+
 // `clap`'s own text. Help and the version that can't be written are a fault.
 fn tell_line(rt: &HostRuntime, words: &[&str], error: &clap::Error) -> u8 {
-    if let Err(failure) = error.print(rt) {
+    if error.use_stderr() {
+        tell_usage(rt, error);
+    } else if let Err(failure) = error.print(rt) {
         if failure.kind() != io::ErrorKind::BrokenPipe {
             return report(rt, &Fault::Write(failure));
         }
         return FAULT;
-    }
-    if !error.use_stderr() {
+    } else {
         return 0;
     }
-    if words.get(1) == Some(&"explain") && words.contains(&"--lines") {
-        let _ = eprintln!(rt;
-            "crsdesk: explain takes texts; check --lines tells which lines are refused"
-        );
+    if let Some(advice) = advice(words) {
+        let _ = eprintln!(rt; "crsdesk: {advice}");
     }
     FAULT
+}
+
+// What to write in place of an option that a command doesn't have.
+fn advice(words: &[&str]) -> Option<&'static str> {
+    let command = words.get(1)?;
+    if *command == "explain" && words.contains(&"--lines") {
+        return Some("explain takes texts; check --lines tells which lines are refused");
+    }
+    if !matches!(*command, "canon" | "digest" | "check") {
+        return None;
+    }
+    if words.contains(&"--files") {
+        return Some("words are names of files here without --files");
+    }
+    if words.contains(&"--json") {
+        return Some("group --json has canonical texts in objects");
+    }
+    None
 }

@@ -1,4 +1,5 @@
 //! Lines on standard error. A failure of standard error itself can't be told.
+use crate::fault::Fault;
 use crs_desk::append_escaped;
 use std::alloc::{AllocError, Global};
 use std::env::Env;
@@ -24,6 +25,21 @@ pub fn tell<D: Display + Drop>(rt: &HostRuntime, name: &str, words: &str, what: 
     }
 }
 
+/// `clap`'s text of a wrong command line, in which the words that it repeats are escaped.
+pub fn tell_usage(rt: &HostRuntime, error: &clap::Error) {
+    let Ok(text) = format!(in rt.alloc(); "{error}") else {
+        let _ = error.print(rt);
+        return;
+    };
+    for line in text.lines() {
+        let mut shown = Vec::new(rt.alloc());
+        if append_escaped(line.as_bytes(), &mut shown).is_ok() {
+            let shown = str::from_utf8(&shown).unwrap_or(line);
+            let _ = eprintln!(rt; "{shown}");
+        }
+    }
+}
+
 /// The words behind the program's name, also those that aren't UTF-8.
 pub fn words_of(rt: &HostRuntime) -> Result<Vec<Vec<u8>>, AllocError> {
     let mut room = vec![in rt.alloc(); 0u8; MAX_WORD]?;
@@ -35,6 +51,48 @@ pub fn words_of(rt: &HostRuntime) -> Result<Vec<Vec<u8>>, AllocError> {
         words.push(Vec::from_slice(rt.alloc(), &room[..length])?)?;
     }
     Ok(words)
+}
+
+// What stands before a word that isn't UTF-8: no word of a command line has a NUL byte.
+const MARK: char = '\0';
+
+/// The words of a command line that has these behind the program's name. One that isn't UTF-8, and no option, can only name a
+/// file, which the toolchain doesn't open: it is a mark and its bytes, shown.
+pub fn line_words(rt: &HostRuntime, words: &[Vec<u8>]) -> Result<Vec<String>, Fault> {
+    let mut texts = Vec::new(rt.alloc());
+    let program = String::from_str(rt.alloc(), "crsdesk")?;
+    texts.push(program).map_err(AllocError::from)?;
+    for word in words {
+        texts.push(line_word(rt, word)?).map_err(AllocError::from)?;
+    }
+    Ok(texts)
+}
+
+fn line_word(rt: &HostRuntime, word: &[u8]) -> Result<String, Fault> {
+    if let Ok(text) = str::from_utf8(word) {
+        return Ok(String::from_str(rt.alloc(), text)?);
+    }
+    if word.first() == Some(&b'-') {
+        return Err(Fault::Word);
+    }
+    let mut marked = String::new(rt.alloc());
+    marked.push(MARK)?;
+    marked.push_str(&bytes_shown(rt.alloc(), word)?)?;
+    Ok(marked)
+}
+
+/// Whether a word isn't UTF-8.
+pub fn is_marked(word: &str) -> bool {
+    word.starts_with(MARK)
+}
+
+/// Tells of a file whose name isn't UTF-8, if this is such a name.
+pub fn tell_marked(rt: &HostRuntime, name: &str) -> bool {
+    let Some(shown) = name.strip_prefix(MARK) else {
+        return false;
+    };
+    let _ = eprintln!(rt; "crsdesk: {shown}: the name isn't UTF-8");
+    true
 }
 
 /// A line for each of these words that isn't UTF-8, with its bytes: those outside ASCII as `\xHH`.

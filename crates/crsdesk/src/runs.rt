@@ -1,17 +1,22 @@
 //! The runs of the commands: over standard input, texts and files, with rules, which are read first, or without.
 use crate::fault::Fault;
-use crate::input::{Input, Opener};
-use crate::messages::{tell, tell_of};
+use crate::input::{Input, Opener, STANDARD};
+use crate::messages::{is_marked, tell, tell_of};
 use crate::output::Output;
 use crs_desk::{
-    CanonText, CheckText, Comparison, ExplainText, ExplainedForms, FileTask, Filling, ForText,
-    Inputs, Job, Layout, Level, LinePair, LineWord, LineWords, OfLine, PairAnswer, Rules,
-    RulesFault, RulesReader, RunFault, SameForms, Sink, Source, Stream, Summary, Task, Told, Under,
-    WordKind, Work, read_text, run_canon, run_check, run_files, run_lines, run_same, run_text,
-    write_answer,
+    CanonText, CheckText, Comparison, DigestText, ExplainText, ExplainedForms, FileTask, Filling,
+    ForText, InALine, Inputs, Job, Layout, Level, LinePair, LineWord, LineWords, Listing, Manner,
+    OfLine, PairAnswer, Rules, RulesFault, RulesReader, RunFault, SameForms, Sink, Source, Spelled,
+    Stream, Summary, Task, Told, Under, WordKind, Work, blank_told, kind_of_text, read_text,
+    run_canon, run_check, run_files, run_group_files, run_lines, run_same, run_text, write_answer,
 };
+use crs_group::pieces::{ByCanon, ByForm};
 use crs_group::run_group_listing;
+use std::io::IsTerminal;
 use std::path::Path;
+
+// The number of the refusal of a text that ends before it is complete.
+const UNEXPECTED_END: u8 = 7;
 
 // The answer of a run with these words over standard input, taken as one text or line by line, and standard output.
 macro_rules! over_standard {
@@ -45,11 +50,11 @@ macro_rules! reader {
 /// Does a job. Its rules are read before all else.
 pub fn answer(rt: &HostRuntime, job: &Job) -> Result<u8, Fault> {
     match &job.work {
-        Work::Standard(task) => over_input(rt, job.level, *task),
+        Work::Standard(task) => hinted(rt, *task, &[], over_input(rt, job.level, *task)),
         Work::Text { how, text, rules } => {
             rules_of(rt, rules)?;
             let command = ExplainText { how: *how };
-            let text = text_of(rt, text);
+            let text = text_of(rt, text)?;
             to_standard!(rt, write_answer(&ForText { command, text }))
         }
         Work::Pair(comparison, pair) => {
@@ -62,11 +67,108 @@ pub fn answer(rt: &HostRuntime, job: &Job) -> Result<u8, Fault> {
             };
             comparing.words(pair)
         }
-        Work::Files { task, names, rules } => {
+        Work::Files {
+            task,
+            names,
+            rules,
+            named,
+        } => {
             let rules = rules_of(rt, rules)?;
-            let each = file_task(*task, job.level, rules.as_ref());
-            to_standard!(rt, run_files(each, names.as_slice(), &Opener { rt: *rt }))
+            let (names, rules) = (names.as_slice(), rules.as_ref());
+            hold_standard(names)?;
+            if let Task::Group(listing) = *task
+                && listing.files
+            {
+                return over_groups(rt, job.level, listing, names, rules);
+            }
+            let each = file_task(*task, job.level, rules);
+            let files = Opener { rt: *rt };
+            let answer = to_standard!(rt, run_files(each, *named, names, &files));
+            hinted(rt, *task, names, answer)
         }
+    }
+}
+
+// Standard input is read once.
+fn hold_standard(names: &[LineWord]) -> Result<(), Fault> {
+    let is_standard = |name: &&LineWord| name.as_str() == STANDARD;
+    if names.iter().filter(is_standard).count() > 1 {
+        return Err(Fault::Twice);
+    }
+    Ok(())
+}
+
+// The answer of a task, with a hint where a text is refused.
+fn hinted(
+    rt: &HostRuntime,
+    task: Task,
+    names: &[LineWord],
+    answer: Result<u8, Fault>,
+) -> Result<u8, Fault> {
+    if let Ok(1) = answer {
+        hint(rt, task, names);
+    }
+    answer
+}
+
+// What a user may have meant whose texts are refused: a file whose first line is no whole text, and all of which is one,
+// was meant as one. On a terminal `check` names the command that explains.
+fn hint(rt: &HostRuntime, task: Task, names: &[LineWord]) {
+    match task {
+        Task::Group(_) => {
+            if let Some(name) = names.iter().find(|name| is_one_text(rt, name.as_str())) {
+                tell_of(
+                    rt,
+                    name.as_str(),
+                    "this is one text; with --files it is grouped as one",
+                );
+            }
+        }
+        Task::Check(..) if rt.stderr().is_terminal() => {
+            let _ = eprintln!(rt; "crsdesk: explain tells why a text is refused");
+        }
+        _ => {}
+    }
+}
+
+// Whether the first line of a file is no whole text, and the file is one.
+fn is_one_text(rt: &HostRuntime, name: &str) -> bool {
+    if !Path::new(name).is_file(rt) {
+        return false;
+    }
+    let Ok(input) = Input::open(rt, name) else {
+        return false;
+    };
+    let Ok(text) = read_text(rt.alloc(), &mut Source::new(Filling::new(input))) else {
+        return false;
+    };
+    let first = text.iter().take_while(|byte| **byte != b'\n').count();
+    is_cut(rt, text.get(..first).unwrap_or(b""))
+        && matches!(kind_of_text(rt.alloc(), &text), Ok(Ok(_)))
+}
+
+fn is_cut(rt: &HostRuntime, text: &[u8]) -> bool {
+    match kind_of_text(rt.alloc(), text) {
+        Ok(Err(refusal)) => refusal.number() == UNEXPECTED_END,
+        _ => false,
+    }
+}
+
+// Whole files in groups.
+fn over_groups(
+    rt: &HostRuntime,
+    level: Level,
+    listing: Listing,
+    names: &[LineWord],
+    rules: Option<&Rules>,
+) -> Result<u8, Fault> {
+    let files = Opener { rt: *rt };
+    match rules {
+        Some(rules) => {
+            let adding = ByForm(Under { level, rules });
+            to_standard!(rt, run_group_files(&adding, listing, names, &files))
+        }
+        None => to_standard!(rt, run_group_files(&ByCanon(level), listing, names, &files)),
     }
 }
 
@@ -75,13 +177,29 @@ fn over_input(rt: &HostRuntime, level: Level, task: Task) -> Result<u8, Fault> {
     match task {
         Task::Canon(Layout::OneText) => over_standard!(rt, text => run_canon(level)),
         Task::Canon(Layout::Lines) => {
-            let command = CanonText { level };
-            over_standard!(rt, lines => run_lines(&OfLine { command }))
+            let (command, blank) = (CanonText { level }, b"".as_slice());
+            over_standard!(rt, lines => run_lines(&OfLine { command, blank }))
         }
-        Task::Check(Layout::OneText) => over_standard!(rt, text => run_check()),
-        Task::Check(Layout::Lines) => {
-            let command = CheckText;
-            over_standard!(rt, lines => run_lines(&OfLine { command }))
+        Task::Digest(Layout::OneText) => {
+            let by = Spelled::Canonical(level);
+            over_standard!(rt, text => run_text(DigestText { by }))
+        }
+        Task::Digest(Layout::Lines) => {
+            let by = Spelled::Canonical(level);
+            let (command, blank) = (DigestText { by }, b"".as_slice());
+            over_standard!(rt, lines => run_lines(&OfLine { command, blank }))
+        }
+        Task::Check(Layout::OneText, Manner::Lines) => over_standard!(rt, text => run_check()),
+        Task::Check(Layout::OneText, how) => {
+            over_standard!(rt, text => run_text(CheckText { how }))
+        }
+        Task::Check(Layout::Lines, how) => {
+            let (command, blank) = (CheckText { how }, blank_told(how));
+            over_standard!(rt, lines => run_lines(&OfLine { command, blank }))
+        }
+        Task::Group(listing) if listing.files => {
+            let names = LineWords::of(rt.alloc(), &[STANDARD])?;
+            over_groups(rt, level, listing, names.as_slice(), None)
         }
         Task::Group(listing) => {
             let status = |summary: Summary| u8::from(summary.refused > 0);
@@ -98,11 +216,21 @@ fn file_task(task: Task, level: Level, rules: Option<&Rules>) -> FileTask<'_> {
         (Task::Canon(Layout::OneText), Some(rules)) => FileTask::Form(level, rules),
         (Task::Canon(Layout::Lines), None) => FileTask::CanonLines(level),
         (Task::Canon(Layout::Lines), Some(rules)) => FileTask::FormLines(level, rules),
-        (Task::Check(Layout::OneText), _) => FileTask::Check,
-        (Task::Check(Layout::Lines), _) => FileTask::CheckLines,
+        (Task::Digest(Layout::OneText), rules) => FileTask::Digest(spelled(level, rules)),
+        (Task::Digest(Layout::Lines), rules) => FileTask::DigestLines(spelled(level, rules)),
+        (Task::Check(Layout::OneText, how), _) => FileTask::Check(how),
+        (Task::Check(Layout::Lines, how), _) => FileTask::CheckLines(how),
         (Task::Group(listing), None) => FileTask::Group(level, listing),
         (Task::Group(listing), Some(rules)) => FileTask::FormGroup(level, listing, rules),
         (Task::Explain(how), _) => FileTask::Explain(how),
+    }
+}
+
+// By which bytes texts are known, under rules where there are some.
+fn spelled(level: Level, rules: Option<&Rules>) -> Spelled<'_> {
+    match rules {
+        Some(rules) => Spelled::Form(level, rules),
+        None => Spelled::Canonical(level),
     }
 }
 
@@ -120,8 +248,11 @@ impl Comparing<'_, '_, '_> {
     fn words(self, pair: &LinePair) -> Result<u8, Fault> {
         let (rt, first, second) = (self.rt, &pair.first, &pair.second);
         match pair.kind {
-            WordKind::Text => self.texts(text_of(rt, first), text_of(rt, second)),
+            WordKind::Text => self.texts(text_of(rt, first)?, text_of(rt, second)?),
             WordKind::FileName => {
+                if first.as_str() == STANDARD && second.as_str() == STANDARD {
+                    return Err(Fault::Twice);
+                }
                 let first = file_text(rt, first.as_str());
                 let second = file_text(rt, second.as_str());
                 self.texts(&first?, &second?)
@@ -132,10 +263,14 @@ impl Comparing<'_, '_, '_> {
     fn texts(self, a: &[u8], b: &[u8]) -> Result<u8, Fault> {
         let (rt, level, words) = (self.rt, self.job.level, self.job.order.as_slice());
         match (self.comparison, self.rules) {
-            (Comparison::Same, None) => to_standard!(rt, run_same(level, a, b)),
-            (Comparison::Same, Some(rules)) => {
+            (Comparison::Same(Manner::Lines), None) => to_standard!(rt, run_same(level, a, b)),
+            (Comparison::Same(how), None) => {
+                let told = InALine { how };
+                to_standard!(rt, write_answer(&PairAnswer { told, level, a, b }))
+            }
+            (Comparison::Same(how), Some(rules)) => {
                 let under = Under { level, rules };
-                to_standard!(rt, write_answer(&SameForms { under, a, b }))
+                to_standard!(rt, write_answer(&SameForms { how, under, a, b }))
             }
             (Comparison::Explain(how), None) => {
                 let told = Told { how, words };
@@ -188,22 +323,29 @@ fn written(answer: Result<u8, RunFault>, output: &Output) -> Result<u8, Fault> {
 }
 
 // The text that a word is: one with an opening delimiter. Another that names a file most likely meant that file's text.
-fn text_of<'w>(rt: &HostRuntime, word: &'w LineWord) -> &'w [u8] {
+fn text_of<'w>(rt: &HostRuntime, word: &'w LineWord) -> Result<&'w [u8], Fault> {
     let name = word.as_str();
+    if is_marked(name) {
+        return Err(Fault::Word);
+    }
     if !name.contains(['[', '(']) && Path::new(name).is_file(rt) {
         tell_of(rt, name, "this is a file; with --files its text is read");
     }
-    name.as_bytes()
+    Ok(name.as_bytes())
 }
 
-// The rules of these files together; none where there are no files. The fault of the first that has one is told.
+// The rules of these files together, of which one that is named twice counts once; none where there are no files. The fault of the first that has one is told.
 fn rules_of(rt: &HostRuntime, names: &LineWords) -> Result<Option<Rules>, Fault> {
     if names.is_empty() {
         return Ok(None);
     }
     let mut reader = RulesReader::new(rt.alloc());
-    for name in names.as_slice() {
-        read_rules(rt, name.as_str(), &mut reader)?;
+    let names = names.as_slice();
+    for place in 0..names.len() {
+        let name = names[place].as_str();
+        if !names[..place].iter().any(|other| other.as_str() == name) {
+            read_rules(rt, name, &mut reader)?;
+        }
     }
     Ok(Some(reader.into_rules()))
 }

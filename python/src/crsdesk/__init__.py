@@ -11,7 +11,7 @@ CRS in one canonical spelling.
 What the calls answer is that of a library whose answers are proved; this package around them is tested.
 """
 
-from ._crs import Catalogue, Crs, Group, Level, Text, canon, check, difference, differences, same
+from ._crs import Catalogue, Crs, Group, Level, Text, canon, check, difference, differences, digest, same
 from ._difference import Difference
 from ._library import version
 from ._refused import Refused
@@ -31,6 +31,7 @@ __all__ = [
     "check",
     "difference",
     "differences",
+    "digest",
     "same",
 ]
 # Tracebacks and help have the names that are imported.

@@ -27,6 +27,7 @@ MOST_JOBS = 256
 LEVEL_HELP = "what counts: full, or definition, without identifiers, usages and remarks (default: full)"
 FILE_HELP = "a file with a text; - is standard input"
 LINES_HELP = "a file has a text a line (docs/CATALOGUES.md)"
+WHOLE_HELP = "a file has one text, as where --lines isn't there"
 CONVERT_HELP = "WKT1, PROJ strings, PROJJSON and codes are read by PROJ, which osgeo or pyproj has (docs/PYTHON.md)"
 SOURCE_HELP = "with --convert: a bound CRS is in the group of its source CRS, told with its transformation"
 LINES_HELP_OF_AUDIT = "it has a text a line, and so has a file of another suffix that is named itself"
@@ -360,6 +361,7 @@ def parser() -> argparse.ArgumentParser:
 
     made = command("group", "groups texts by the CRSs that they spell", run_group)
     add_files(made)
+    made.add_argument("--files", action="store_true", help=WHOLE_HELP)
     add_level(made)
 
     made = command(

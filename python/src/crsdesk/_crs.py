@@ -3,6 +3,7 @@
 from __future__ import annotations
 
 import functools
+import hashlib
 import os
 import threading
 from typing import (
@@ -140,6 +141,16 @@ def canon(text: Text, level: Level = "full", rules: Optional[Rules] = None) -> s
     if isinstance(text, Crs):
         return text.canonical(level)
     return canon_bytes(bytes_of(text), number).decode()
+
+
+def digest(text: Text, level: Level = "full", rules: Optional[Rules] = None) -> str:
+    """A short key: the SHA-256 of the canonical text, or of the form under rules, in hexadecimal, 64 characters.
+
+    The same CRS has the same digest; another CRS has another, but for a collision of SHA-256, of which none is known. It
+    stays the same from version to version as canonical texts do, and is what the command ``crsdesk digest`` writes. Raises
+    as ``canon`` does.
+    """
+    return hashlib.sha256(canon(text, level, rules).encode()).hexdigest()
 
 
 def form_of(text: Text, level: Level, rules: Rules) -> str:
@@ -395,6 +406,10 @@ class Crs:
         if self._definition is None:
             self._definition = self._with_bound(self._form_at(1))
         return self._definition
+
+    def digest(self, level: Level = "full") -> str:
+        """The SHA-256 of ``canonical`` in hexadecimal: a key of 64 characters, as ``digest`` answers it."""
+        return hashlib.sha256(self.canonical(level).encode()).hexdigest()
 
     def to_wkt(self, version: str = "WKT2_2019") -> str:
         """The canonical text, with transformations and without rules: what pyproj, geopandas, rasterio and fiona ask a

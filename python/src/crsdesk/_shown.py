@@ -5,8 +5,11 @@ from __future__ import annotations
 import re
 import shlex
 
-# Control characters, ends of lines and paragraphs, and what reverses the direction of a text.
-CONTROL = re.compile("[\x00-\x1f\x7f-\x9f\u061c\u200e\u200f\u2028-\u202e\u2066-\u2069]")
+# Control characters, ends of lines and paragraphs, what reverses the direction of a text, and what shows as a blank or
+# as nothing.
+CONTROL = re.compile(
+    "[\x00-\x1f\x7f-\xa0\xad\u034f\u061c\u2000-\u200f\u2028-\u202f\u205f-\u206f\u3000\ufe00-\ufe0f\ufeff]"
+)
 ESCAPES = {"\0": "\\0", "\t": "\\t", "\n": "\\n", "\r": "\\r", "\\": "\\\\"}
 
 

@@ -1,8 +1,8 @@
 -- A bridge: what becomes of one entry of many.
 use Rattle.std.specs.Prelude.{◌≡◌, ◌++◌, ◌+◌, ◌-◌, ◌≤◌, ◌⊎◌, ◌<◌, ℕ, List, Option, Some, None, length, take, drop}
 use Rattle.crs_text.specs.Refusal.{RefusedAt}
-use Rattle.crs_value.specs.declared.values.level.Level.{Level}
 use Rattle.crs_c.specs.declared.calls.canon.Entry.{Entry}
+use Rattle.crs_c.specs.Canon.{Spelling}
 use Rattle.crs_c.specs.Each.{IsAnsweredBy, NeedsMore}
 
 -- the buffer with bytes written at a place
@@ -23,11 +23,11 @@ IsWritten bytes at entry out new_entry new_out code =
     × (new_out ≡ with_bytes at bytes out) × (code ≡ 0))
     ⊎ ((length out < at + length bytes) × (new_out ≡ out) × (code ≡ 5))
 
--- an entry is answered by bytes that are written at a place, with code 0; or its canonical text needs
--- more room, with code 5; or out of memory, with code 3
-unfoldable pub IsTurn : Level → List ℕ → ℕ → Entry → List ℕ → Entry → List ℕ → ℕ → Type 0
-IsTurn level texts at entry out new_entry new_out code =
-    ((written : List ℕ) × IsAnsweredBy level texts at entry new_entry written × (at + length written ≤ length out)
+-- an entry is answered by bytes that are written at a place, with code 0; or they need more
+-- room, with code 5; or out of memory, with code 3
+unfoldable pub IsTurn : Spelling → List ℕ → ℕ → Entry → List ℕ → Entry → List ℕ → ℕ → Type 0
+IsTurn Is texts at entry out new_entry new_out code =
+    ((written : List ℕ) × IsAnsweredBy Is texts at entry new_entry written × (at + length written ≤ length out)
     × (new_out ≡ with_bytes at written out) × (code ≡ 0))
-    ⊎ (NeedsMore level texts (length out - at) entry × (new_out ≡ out) × (code ≡ 5))
+    ⊎ (NeedsMore Is texts (length out - at) entry × (new_out ≡ out) × (code ≡ 5))
     ⊎ ((new_out ≡ out) × (code ≡ 3))

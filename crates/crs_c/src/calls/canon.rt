@@ -1,7 +1,8 @@
-//! The canonical texts of many texts at once.
+//! The canonical texts of many texts at once, or their digests.
 ghost use Rattle.std.specs.Prelude.{◌≡◌, ◌≤◌, length};
 ghost use Rattle.crs_text.specs.Fault.{refusal_of};
 ghost use Rattle.crs_c.specs.Each.{IsEachAt, text_of};
+ghost use Rattle.crs_c.specs.inner.Wanting.{IsMadeOf, IsWanted, level_wanted};
 ghost use Rattle.crs_c.specs.inner.Turns.{IsTurn, IsWritten, refused_entry};
 
 use crate::calls::buffer::give;
@@ -10,6 +11,7 @@ use crate::calls::piece::{front_of, rest_of};
 use crs_canon::canon_in;
 use crs_text::Fault;
 use crs_value::Level;
+use sha2::{Digest, Sha256};
 use std::alloc::Global;
 
 /// A text of many, and what is answered of it: `struct crsdesk_entry` of C.
@@ -20,7 +22,7 @@ pub struct Entry {
     pub begin: usize,
     /// Where it ends there. The caller sets it.
     pub end: usize,
-    /// Where its canonical text ends among those written; it begins where that of the entry before ends.
+    /// Where what is answered of it ends among the bytes written; it begins where that of the entry before ends.
     pub written_end: usize,
     /// Where it is refused, in bytes from its own first.
     pub place: usize,
@@ -30,15 +32,34 @@ pub struct Entry {
     pub code: u32,
 }
 
+/// What is answered of a text.
+#[derive(Clone, Copy)]
+pub enum Wanted {
+    /// Its canonical text at a level.
+    Canonical(Level),
+    /// The digest of that.
+    Digest(Level),
+}
+
+impl Wanted {
+    fn level(self) -> Level
+        ensures { result ≡ level_wanted self }
+    {
+        match self {
+            Wanted::Canonical(level) | Wanted::Digest(level) => level,
+        }
+    }
+}
+
 /// Answers the entries of many texts: how many, and why no more.
 pub fn answer_entries(
     alloc: Global,
     texts: &[u8],
     entries: &mut [Entry],
-    level: Level,
+    wanted: Wanted,
     out: &mut [u8],
 ) -> (usize, u32)
-    ensures { IsEachAt level texts.now
+    ensures { IsEachAt (IsWanted wanted) texts.now
         (record { entries = entries.old; out = out.old; done = 0 })
         (record { entries = entries.new; out = out.new; done = result.0 })
         result.1 }
@@ -46,7 +67,7 @@ pub fn answer_entries(
     let mut room = Vec::new(alloc);
     let mut at = 0;
     for index in 0..entries.len() {
-        let (entry, code) = answer((texts, level), entries[index], out, at, &mut room);
+        let (entry, code) = answer((texts, wanted), entries[index], out, at, &mut room);
         if code != OK {
             return (index, code);
         }
@@ -56,21 +77,27 @@ pub fn answer_entries(
     (entries.len(), OK)
 }
 
-// Answers an entry, and writes its canonical text at this place, first into memory that goes from entry to entry.
+// Answers an entry, and writes what is answered at this place. Its canonical text is in memory that goes from entry to
+// entry.
 fn answer(
-    asked: (&[u8], Level),
+    asked: (&[u8], Wanted),
     entry: Entry,
     out: &mut [u8],
     at: usize,
     room: &mut Vec<u8>,
 ) -> (Entry, u32)
     requires { at ≤ length out.old }
-    ensures { IsTurn asked.entry.1 asked.entry.0.now at entry out.old result.0 out.new result.1 }
+    ensures { IsTurn (IsWanted asked.entry.1) asked.entry.0.now at entry out.old result.0 out.new result.1 }
 {
-    let (texts, level) = asked;
-    match canon_in(*room.allocator(), text_of(texts, entry), level, room) {
+    let (texts, wanted) = asked;
+    match canon_in(
+        *room.allocator(),
+        text_of(texts, entry),
+        wanted.level(),
+        room,
+    ) {
         Ok(canonical) => {
-            let answered = written(canonical.bytes(), entry, out, at);
+            let answered = made(wanted, canonical.bytes(), entry, out, at);
             *room = canonical.into_bytes();
             room.clear();
             answered
@@ -86,14 +113,25 @@ fn text_of(texts: &[u8], entry: Entry) -> &[u8]
     front_of(rest, entry.end.saturating_sub(entry.begin))
 }
 
-#[tactic(auto, unfolding(crate::specs::inner::Turns::IsWritten, crate::specs::Buffers::IsGiven))]
-fn written(canonical: &[u8], entry: Entry, out: &mut [u8], at: usize) -> (Entry, u32)
+// Writes what is wanted of a canonical text.
+fn made(wanted: Wanted, canonical: &[u8], entry: Entry, out: &mut [u8], at: usize) -> (Entry, u32)
     requires { at ≤ length out.old }
-    ensures { IsWritten canonical.now at entry out.old result.0 out.new result.1 }
+    ensures { IsMadeOf wanted canonical.now at entry out.old result.0 out.new result.1 }
+{
+    match wanted {
+        Wanted::Canonical(_) => written(canonical, entry, out, at),
+        Wanted::Digest(_) => written(&Sha256::digest(canonical), entry, out, at),
+    }
+}
+
+#[tactic(auto, unfolding(crate::specs::inner::Turns::IsWritten, crate::specs::Buffers::IsGiven))]
+fn written(bytes: &[u8], entry: Entry, out: &mut [u8], at: usize) -> (Entry, u32)
+    requires { at ≤ length out.old }
+    ensures { IsWritten bytes.now at entry out.old result.0 out.new result.1 }
 {
     let (_, rest) = out.split_at_mut(at);
     let mut length = 0;
-    let code = give(canonical, rest, &mut length);
+    let code = give(bytes, rest, &mut length);
     if code != OK {
         return (entry, code);
     }

@@ -82,21 +82,22 @@ pub fn verbose_changes_no_request()
         ≡ Some (Other (codes "full") [] (work.Text manner.Lines first [])) }
 {}
 
-/// With `--repeated` `group` writes the groups of two lines or more, with `--names` names, with `--json` objects: each
-/// choice of these flags asks for its listing.
+/// With `--repeated` `group` writes the groups of two lines or more, with `--names` names, with `--files` the names of
+/// files, with `--json` objects: each choice of these flags asks for its listing.
 pub fn group_has_flags()
-    ensures each { (program : Text) (json repeated names : Bool) → asked (program ∷ codes "group"
-        ∷ if_asked json (codes "--json") (if_asked repeated (codes "--repeated") (if_asked names (codes "--names") [])))
+    ensures each { (program : Text) (json repeated names files : Bool) → asked (program ∷ codes "group"
+        ∷ if_asked json (codes "--json") (if_asked repeated (codes "--repeated") (if_asked names (codes "--names")
+        (if_asked files (codes "--files") []))))
         ≡ Some (request_for (codes "full") []
-        (work.Standard (task.Group (record { repeated = repeated; names = names; json = json })))) }
+        (work.Standard (task.Group (record { repeated = repeated; names = names; files = files; json = json })))) }
     ensures both { (program : Text) → asked (program ∷ codes "group" ∷ codes "--names" ∷ codes "--repeated" ∷ [])
-        ≡ Some (Other (codes "full") [] (work.Standard (task.Group (record { repeated = true; names = true; json = false })))) }
+        ≡ Some (Other (codes "full") [] (work.Standard (task.Group (record { repeated = true; names = true; files = false; json = false })))) }
     ensures before { (program level : Text) → is_plain_word level ≡ true →
         asked (program ∷ codes "group" ∷ codes "--repeated" ∷ codes "--level" ∷ level ∷ [])
-        ≡ Some (Other level [] (work.Standard (task.Group (record { repeated = true; names = false; json = false })))) }
+        ≡ Some (Other level [] (work.Standard (task.Group (record { repeated = true; names = false; files = false; json = false })))) }
     ensures after { (program level : Text) → is_plain_word level ≡ true →
         asked (program ∷ codes "group" ∷ codes "--level" ∷ level ∷ codes "--repeated" ∷ [])
-        ≡ Some (Other level [] (work.Standard (task.Group (record { repeated = true; names = false; json = false })))) }
+        ≡ Some (Other level [] (work.Standard (task.Group (record { repeated = true; names = false; files = false; json = false })))) }
 {}
 
 /// The text of a step to an axis is its word, which `--first` takes, and the axis's position.
@@ -116,7 +117,7 @@ pub fn canon_and_check_have_lines()
         asked (program ∷ codes "canon" ∷ codes "--level" ∷ level ∷ codes "--lines" ∷ [])
         ≡ Some (Other level [] (work.Standard (task.Canon Lines))) }
     ensures check { (program : Text) →
-        asked (program ∷ codes "check" ∷ codes "--lines" ∷ []) ≡ Some (Other (codes "full") [] (work.Standard (task.Check Lines))) }
+        asked (program ∷ codes "check" ∷ codes "--lines" ∷ []) ≡ Some (Other (codes "full") [] (work.Standard (task.Check Lines manner.Lines))) }
     ensures check_alone { (program : Text) → asked (program ∷ codes "check" ∷ []) ≡ Some Check }
     ensures canon_twice { (program : Text) →
         takes desk (program ∷ codes "canon" ∷ codes "--lines" ∷ codes "--lines" ∷ []) ≡ false }
@@ -161,18 +162,18 @@ pub fn explain_takes_texts_and_options()
 /// there. So are the two words after `same --files`, and one or two after `explain --files`, where none is a flag.
 pub fn words_are_files()
     ensures canon { (program name : Text) (names : List Text) → list_all is_plain_word (name ∷ names) ≡ true →
-        asked (program ∷ codes "canon" ∷ name ∷ names) ≡ Some (Other (codes "full") [] (work.Files (task.Canon OneText) (name ∷ names) [])) }
+        asked (program ∷ codes "canon" ∷ name ∷ names) ≡ Some (Other (codes "full") [] (work.Files (task.Canon OneText) (name ∷ names) [] false)) }
     ensures check { (program name : Text) (names : List Text) → list_all is_plain_word (name ∷ names) ≡ true →
-        asked (program ∷ codes "check" ∷ name ∷ names) ≡ Some (Other (codes "full") [] (work.Files (task.Check OneText) (name ∷ names) [])) }
+        asked (program ∷ codes "check" ∷ name ∷ names) ≡ Some (Other (codes "full") [] (work.Files (task.Check OneText manner.Lines) (name ∷ names) [] false)) }
     ensures group { (program name : Text) (names : List Text) → list_all is_plain_word (name ∷ names) ≡ true →
         asked (program ∷ codes "group" ∷ name ∷ names)
-        ≡ Some (Other (codes "full") [] (work.Files (task.Group plain) (name ∷ names) [])) }
+        ≡ Some (Other (codes "full") [] (work.Files (task.Group plain) (name ∷ names) [] false)) }
     ensures same { (program first second : Text) → is_plain_word first ≡ true → is_plain_word second ≡ true →
         asked (program ∷ codes "same" ∷ codes "--files" ∷ first ∷ second ∷ [])
-        ≡ Some (Other (codes "full") [] (work.Pair comparison.Same (record { kind = FileName; first = first; second = second; rules = [] }))) }
+        ≡ Some (Other (codes "full") [] (work.Pair (comparison.Same manner.Lines) (record { kind = FileName; first = first; second = second; rules = [] }))) }
     ensures one { (program first : Text) → is_plain_word first ≡ true →
         asked (program ∷ codes "explain" ∷ codes "--files" ∷ first ∷ [])
-        ≡ Some (Other (codes "full") [] (work.Files (task.Explain manner.Lines) (first ∷ []) [])) }
+        ≡ Some (Other (codes "full") [] (work.Files (task.Explain manner.Lines) (first ∷ []) [] false)) }
     ensures two { (program first second : Text) → is_plain_word first ≡ true → is_plain_word second ≡ true →
         asked (program ∷ codes "explain" ∷ codes "--files" ∷ first ∷ second ∷ [])
         ≡ Some (Other (codes "full") [] (work.Pair (comparison.Explain manner.Lines)
@@ -184,24 +185,24 @@ pub fn words_are_files()
 pub fn hyphens_end_options()
     ensures canon { (program name : Text) (names : List Text) →
         asked (program ∷ codes "canon" ∷ codes "--" ∷ name ∷ names)
-        ≡ Some (Other (codes "full") [] (work.Files (task.Canon OneText) (name ∷ names) [])) }
+        ≡ Some (Other (codes "full") [] (work.Files (task.Canon OneText) (name ∷ names) [] false)) }
     ensures check { (program name : Text) (names : List Text) →
         asked (program ∷ codes "check" ∷ codes "--" ∷ name ∷ names)
-        ≡ Some (Other (codes "full") [] (work.Files (task.Check OneText) (name ∷ names) [])) }
+        ≡ Some (Other (codes "full") [] (work.Files (task.Check OneText manner.Lines) (name ∷ names) [] false)) }
     ensures group { (program name : Text) (names : List Text) →
         asked (program ∷ codes "group" ∷ codes "--" ∷ name ∷ names)
-        ≡ Some (Other (codes "full") [] (work.Files (task.Group plain) (name ∷ names) [])) }
+        ≡ Some (Other (codes "full") [] (work.Files (task.Group plain) (name ∷ names) [] false)) }
     ensures same { (program first second : Text) →
         asked (program ∷ codes "same" ∷ codes "--" ∷ first ∷ second ∷ []) ≡ Some (Same first second (codes "full")) }
     ensures same_files { (program first second : Text) →
         asked (program ∷ codes "same" ∷ codes "--files" ∷ codes "--" ∷ first ∷ second ∷ [])
-        ≡ Some (Other (codes "full") [] (work.Pair comparison.Same
+        ≡ Some (Other (codes "full") [] (work.Pair (comparison.Same manner.Lines)
         (record { kind = FileName; first = first; second = second; rules = [] }))) }
     ensures one { (program first : Text) → asked (program ∷ codes "explain" ∷ codes "--" ∷ first ∷ [])
         ≡ Some (Other (codes "full") [] (work.Text manner.Lines first [])) }
     ensures one_file { (program first : Text) →
         asked (program ∷ codes "explain" ∷ codes "--files" ∷ codes "--" ∷ first ∷ [])
-        ≡ Some (Other (codes "full") [] (work.Files (task.Explain manner.Lines) (first ∷ []) [])) }
+        ≡ Some (Other (codes "full") [] (work.Files (task.Explain manner.Lines) (first ∷ []) [] false)) }
     ensures two { (program first second : Text) →
         asked (program ∷ codes "explain" ∷ codes "--" ∷ first ∷ second ∷ [])
         ≡ Some (Other (codes "full") [] (work.Pair (comparison.Explain manner.Lines)
@@ -217,35 +218,35 @@ pub fn hyphens_end_options()
 pub fn rules_are_named()
     ensures canon { (program file : Text) → is_plain_word file ≡ true →
         asked (program ∷ codes "canon" ∷ codes "--rules" ∷ file ∷ [])
-        ≡ Some (Other (codes "full") [] (work.Files (task.Canon OneText) standard (file ∷ []))) }
+        ≡ Some (Other (codes "full") [] (work.Files (task.Canon OneText) standard (file ∷ []) false)) }
     ensures twice { (program one other : Text) →
         asked (program ∷ codes "canon" ∷ (codes "--rules=" ++ one) ∷ (codes "--rules=" ++ other) ∷ [])
-        ≡ Some (Other (codes "full") [] (work.Files (task.Canon OneText) standard (one ∷ other ∷ []))) }
+        ≡ Some (Other (codes "full") [] (work.Files (task.Canon OneText) standard (one ∷ other ∷ []) false)) }
     ensures same { (program file first second : Text) → is_plain_word file ≡ true →
         is_plain_word first ≡ true → is_plain_word second ≡ true →
         asked (program ∷ codes "same" ∷ codes "--rules" ∷ file ∷ first ∷ second ∷ [])
-        ≡ Some (Other (codes "full") [] (work.Pair comparison.Same
+        ≡ Some (Other (codes "full") [] (work.Pair (comparison.Same manner.Lines)
         (record { kind = OfText; first = first; second = second; rules = file ∷ [] }))) }
     ensures file { (program file name : Text) → is_plain_word file ≡ true → is_plain_word name ≡ true →
         asked (program ∷ codes "canon" ∷ codes "--rules" ∷ file ∷ name ∷ [])
-        ≡ Some (Other (codes "full") [] (work.Files (task.Canon OneText) (name ∷ []) (file ∷ []))) }
+        ≡ Some (Other (codes "full") [] (work.Files (task.Canon OneText) (name ∷ []) (file ∷ []) false)) }
     ensures group { (program file : Text) → is_plain_word file ≡ true →
         asked (program ∷ codes "group" ∷ codes "--rules" ∷ file ∷ [])
-        ≡ Some (Other (codes "full") [] (work.Files (task.Group plain) standard (file ∷ []))) }
+        ≡ Some (Other (codes "full") [] (work.Files (task.Group plain) standard (file ∷ []) false)) }
     ensures same_files { (program file first second : Text) → is_plain_word file ≡ true →
         is_plain_word first ≡ true → is_plain_word second ≡ true →
         asked (program ∷ codes "same" ∷ codes "--files" ∷ codes "--rules" ∷ file ∷ first ∷ second ∷ [])
-        ≡ Some (Other (codes "full") [] (work.Pair comparison.Same
+        ≡ Some (Other (codes "full") [] (work.Pair (comparison.Same manner.Lines)
         (record { kind = FileName; first = first; second = second; rules = file ∷ [] }))) }
     ensures explain { (program file : Text) → is_plain_word file ≡ true →
         asked (program ∷ codes "explain" ∷ codes "--rules" ∷ file ∷ [])
-        ≡ Some (Other (codes "full") [] (work.Files (task.Explain manner.Lines) standard (file ∷ []))) }
+        ≡ Some (Other (codes "full") [] (work.Files (task.Explain manner.Lines) standard (file ∷ []) false)) }
     ensures one { (program file first : Text) → is_plain_word file ≡ true → is_plain_word first ≡ true →
         asked (program ∷ codes "explain" ∷ codes "--rules" ∷ file ∷ first ∷ [])
         ≡ Some (Other (codes "full") [] (work.Text manner.Lines first (file ∷ []))) }
     ensures one_file { (program file first : Text) → is_plain_word file ≡ true → is_plain_word first ≡ true →
         asked (program ∷ codes "explain" ∷ codes "--files" ∷ codes "--rules" ∷ file ∷ first ∷ [])
-        ≡ Some (Other (codes "full") [] (work.Files (task.Explain manner.Lines) (first ∷ []) (file ∷ []))) }
+        ≡ Some (Other (codes "full") [] (work.Files (task.Explain manner.Lines) (first ∷ []) (file ∷ []) false)) }
     ensures two { (program file first second : Text) → is_plain_word file ≡ true →
         is_plain_word first ≡ true → is_plain_word second ≡ true →
         asked (program ∷ codes "explain" ∷ codes "--rules" ∷ file ∷ first ∷ second ∷ [])
@@ -257,4 +258,37 @@ pub fn rules_are_named()
         ≡ Some (Other (codes "full") [] (work.Pair (comparison.Explain manner.Lines)
         (record { kind = FileName; first = first; second = second; rules = file ∷ [] }))) }
     ensures check { (program file : Text) → takes desk (program ∷ codes "check" ∷ codes "--rules" ∷ file ∷ []) ≡ false }
+{}
+
+/// `digest` takes what `canon` takes: a level, `--lines`, rules and files. `-H` or `--with-name` asks `canon`, `digest`,
+/// `check` and `group` for the names of files, and `--json` asks `check` and `same` for objects.
+pub fn digests_names_and_objects()
+    ensures digest { (program : Text) →
+        asked (program ∷ codes "digest" ∷ []) ≡ Some (Other (codes "full") [] (work.Standard (task.Digest OneText))) }
+    ensures level { (program level : Text) → is_plain_word level ≡ true →
+        asked (program ∷ codes "digest" ∷ codes "--lines" ∷ codes "--level" ∷ level ∷ [])
+        ≡ Some (Other level [] (work.Standard (task.Digest Lines))) }
+    ensures rules { (program file name : Text) → is_plain_word file ≡ true → is_plain_word name ≡ true →
+        asked (program ∷ codes "digest" ∷ codes "--rules" ∷ file ∷ name ∷ [])
+        ≡ Some (Other (codes "full") [] (work.Files (task.Digest OneText) (name ∷ []) (file ∷ []) false)) }
+    ensures named_digest { (program name : Text) → is_plain_word name ≡ true →
+        asked (program ∷ codes "digest" ∷ codes "-H" ∷ name ∷ [])
+        ≡ Some (Other (codes "full") [] (work.Files (task.Digest OneText) (name ∷ []) [] true)) }
+    ensures named_canon { (program name : Text) → is_plain_word name ≡ true →
+        asked (program ∷ codes "canon" ∷ codes "--with-name" ∷ name ∷ [])
+        ≡ Some (Other (codes "full") [] (work.Files (task.Canon OneText) (name ∷ []) [] true)) }
+    ensures named_check { (program name : Text) → is_plain_word name ≡ true →
+        asked (program ∷ codes "check" ∷ codes "-H" ∷ name ∷ [])
+        ≡ Some (Other (codes "full") [] (work.Files (task.Check OneText manner.Lines) (name ∷ []) [] true)) }
+    ensures named_group { (program name : Text) → is_plain_word name ≡ true →
+        asked (program ∷ codes "group" ∷ codes "-H" ∷ name ∷ [])
+        ≡ Some (Other (codes "full") [] (work.Files (task.Group plain) (name ∷ []) [] true)) }
+    ensures named_input { (program : Text) → asked (program ∷ codes "check" ∷ codes "-H" ∷ [])
+        ≡ Some (Other (codes "full") [] (work.Files (task.Check OneText manner.Lines) standard [] true)) }
+    ensures check { (program : Text) → asked (program ∷ codes "check" ∷ codes "--json" ∷ [])
+        ≡ Some (Other (codes "full") [] (work.Standard (task.Check OneText manner.Objects))) }
+    ensures same { (program first second : Text) → is_plain_word first ≡ true → is_plain_word second ≡ true →
+        asked (program ∷ codes "same" ∷ codes "--json" ∷ first ∷ second ∷ [])
+        ≡ Some (Other (codes "full") [] (work.Pair (comparison.Same manner.Objects)
+        (record { kind = OfText; first = first; second = second; rules = [] }))) }
 {}

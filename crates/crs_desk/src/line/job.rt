@@ -8,8 +8,8 @@ ghost use Rattle.crs_desk.specs.Requests.{DoesAt, IsInPaths, IsJobFault, IsJobFa
 ghost use Rattle.crs_desk.specs.Requests.{level_named, order_of, word_meant, words_meant};
 
 use crate::{
-    Comparison, Layout, Level, LinePair, LineWord, LineWords, PLAIN, Request, StepWord, Task,
-    WordKind, Work,
+    Comparison, Layout, Level, LinePair, LineWord, LineWords, Manner, PLAIN, Request, StepWord,
+    Task, WordKind, Work,
 };
 use std::alloc::{AllocError, Global};
 use thiserror::Error;
@@ -98,7 +98,7 @@ impl Request {
                 at_level(alloc, &level, &[], work)
             }
             Request::Check => {
-                let work = Work::Standard(Task::Check(Layout::OneText));
+                let work = Work::Standard(Task::Check(Layout::OneText, Manner::Lines));
                 let (level, order) = (Level::Full, Vec::new(alloc));
                 Ok(Job { level, order, work })
             }
@@ -111,7 +111,8 @@ impl Request {
                     second,
                     rules,
                 };
-                at_level(alloc, &level, &[], Work::Pair(Comparison::Same, pair))
+                let comparison = Comparison::Same(Manner::Lines);
+                at_level(alloc, &level, &[], Work::Pair(comparison, pair))
             }
             Request::Group(level) => {
                 let work = Work::Standard(Task::Group(PLAIN));

@@ -2,7 +2,8 @@
 ghost use Rattle.std.specs.Prelude.{◌≡◌, IfOk, IsSome, None, Some, option_and_then};
 ghost use Rattle.clap.specs.Words.{found_of, rows_of, subcommand_rows_of};
 ghost use Rattle.crs_desk.specs.Requests.{asked_for, explain_operands, explain_work, file_work, over_files};
-ghost use Rattle.crs_desk.specs.Requests.{pair_of, request_for, request_of, same_for, same_of};
+ghost use Rattle.crs_desk.specs.Requests.{pair_of, request_for, request_of, same_of};
+ghost use Rattle.crs_desk.specs.declared.line.requests.Comparison.TheVariants as comparisons;
 ghost use Rattle.crs_desk.specs.declared.line.requests.Task.TheVariants as tasks;
 ghost use Rattle.crs_desk.specs.declared.line.requests.Work.TheVariants as works;
 
@@ -10,7 +11,8 @@ use crate::line::reading::{
     flag_asked, layout, level_word, listing, manner, word_kind, words_named,
 };
 use crate::{
-    Comparison, Layout, LinePair, LineWord, LineWords, Listing, Request, Task, WordKind, Work,
+    Comparison, Layout, LinePair, LineWord, LineWords, Listing, Manner, Request, Task, WordKind,
+    Work,
 };
 use clap::ArgMatches;
 use std::alloc::{AllocError, Global};
@@ -35,7 +37,11 @@ fn request_named(alloc: Global, name: &str, options: &ArgMatches) -> Result<Requ
 {
     match name {
         "canon" => over_files(alloc, options, Task::Canon(layout(options))),
-        "check" => over_files(alloc, options, Task::Check(layout(options))),
+        "digest" => over_files(alloc, options, Task::Digest(layout(options))),
+        "check" => {
+            let task = Task::Check(layout(options), manner(options));
+            over_files(alloc, options, task)
+        }
         "same" => same_request(alloc, options),
         "group" => over_files(alloc, options, Task::Group(listing(options))),
         "explain" => asked_for(alloc, options, explain_work(alloc, options)?),
@@ -49,27 +55,40 @@ fn over_files(alloc: Global, options: &ArgMatches, task: Task) -> Result<Request
 {
     let names = words_named(alloc, options, "file")?;
     let rules = words_named(alloc, options, "rules")?;
-    let work = file_work(alloc, task, names, rules)?;
+    let named = flag_asked(options, "with-name");
+    let work = file_work(alloc, task, named, names, rules)?;
     asked_for(alloc, options, work)
 }
 
-// A task over files, or over standard input where there are none, under rules where there are some.
+// A task over files, or over standard input where there are none, under rules where there are some; with names of files
+// or without.
 fn file_work(
     alloc: Global,
     task: Task,
+    named: bool,
     names: LineWords,
     rules: LineWords,
 ) -> Result<Work, AllocError>
-    ensures { IfOk result (λ work. work ≡ file_work task names rules) }
+    ensures { IfOk result (λ work. work ≡ file_work task named names rules) }
 {
     if !names.is_empty() {
-        return Ok(Work::Files { task, names, rules });
+        return Ok(Work::Files {
+            task,
+            names,
+            rules,
+            named,
+        });
     }
-    if rules.is_empty() {
+    if rules.is_empty() && !named {
         return Ok(Work::Standard(task));
     }
     let names = LineWords::of(alloc, &[STANDARD])?;
-    Ok(Work::Files { task, names, rules })
+    Ok(Work::Files {
+        task,
+        names,
+        rules,
+        named,
+    })
 }
 
 fn same_request(alloc: Global, operands: &ArgMatches) -> Result<Request, AllocError>
@@ -79,7 +98,8 @@ fn same_request(alloc: Global, operands: &ArgMatches) -> Result<Request, AllocEr
     match (operands.get_str("first"), operands.get_str("second")) {
         (Some(first), Some(second)) => {
             let pair = pair_of(alloc, operands, first, second)?;
-            asked_for(alloc, operands, Work::Pair(Comparison::Same, pair))
+            let comparison = Comparison::Same(manner(operands));
+            asked_for(alloc, operands, Work::Pair(comparison, pair))
         }
         _ => unreachable!(),
     }
@@ -104,7 +124,7 @@ fn nothing_work(alloc: Global, operands: &ArgMatches) -> Result<Work, AllocError
 {
     let names = LineWords::of(alloc, &[])?;
     let rules = words_named(alloc, operands, "rules")?;
-    file_work(alloc, Task::Explain(manner(operands)), names, rules)
+    file_work(alloc, Task::Explain(manner(operands)), false, names, rules)
 }
 
 fn one_work(alloc: Global, operands: &ArgMatches, word: &str) -> Result<Work, AllocError>
@@ -115,7 +135,13 @@ fn one_work(alloc: Global, operands: &ArgMatches, word: &str) -> Result<Work, Al
     if flag_asked(operands, "files") {
         let names = LineWords::of(alloc, &[word])?;
         let task = Task::Explain(how);
-        return Ok(Work::Files { task, names, rules });
+        let named = false;
+        return Ok(Work::Files {
+            task,
+            names,
+            rules,
+            named,
+        });
     }
     let text = LineWord::new(alloc, word)?;
     Ok(Work::Text { how, text, rules })
@@ -150,30 +176,45 @@ fn request_for(level: LineWord, order: LineWords, work: Work) -> Request
     ensures { result ≡ request_for level order work }
 {
     match work {
-        Work::Standard(Task::Canon(Layout::OneText)) => Request::Canon(level),
-        Work::Standard(Task::Check(Layout::OneText)) => Request::Check,
-        Work::Standard(Task::Group(listing)) => group_for(level, order, listing),
-        Work::Pair(Comparison::Same, pair) => same_for(level, order, pair),
+        Work::Standard(task) => standard_for(level, order, task),
+        Work::Pair(Comparison::Same(how), pair) => same_for(level, order, how, pair),
         work => Request::Other { level, order, work },
+    }
+}
+
+fn standard_for(level: LineWord, order: LineWords, task: Task) -> Request
+    ensures { result ≡ request_for level order (works.Standard task) }
+{
+    match task {
+        Task::Canon(Layout::OneText) => Request::Canon(level),
+        Task::Check(Layout::OneText, Manner::Lines) => Request::Check,
+        Task::Group(listing) => group_for(level, order, listing),
+        task => {
+            let work = Work::Standard(task);
+            Request::Other { level, order, work }
+        }
     }
 }
 
 fn group_for(level: LineWord, order: LineWords, listing: Listing) -> Request
     ensures { result ≡ request_for level order (works.Standard (tasks.Group listing)) }
 {
-    if listing.repeated || listing.names || listing.json {
+    if listing.repeated || listing.names || listing.files || listing.json {
         let work = Work::Standard(Task::Group(listing));
         return Request::Other { level, order, work };
     }
     Request::Group(level)
 }
 
-fn same_for(level: LineWord, order: LineWords, pair: LinePair) -> Request
-    ensures { result ≡ same_for level order pair.kind pair.rules pair }
+fn same_for(level: LineWord, order: LineWords, how: Manner, pair: LinePair) -> Request
+    ensures { result ≡ request_for level order (works.Pair (comparisons.Same how) pair) }
 {
-    if matches!(pair.kind, WordKind::Text) && pair.rules.is_empty() {
+    if matches!(how, Manner::Lines)
+        && matches!(pair.kind, WordKind::Text)
+        && pair.rules.is_empty()
+    {
         return Request::Same(pair.first, pair.second, level);
     }
-    let work = Work::Pair(Comparison::Same, pair);
+    let work = Work::Pair(Comparison::Same(how), pair);
     Request::Other { level, order, work }
 }

@@ -36,6 +36,7 @@ pub(crate) fn listing(matches: &ArgMatches) -> Listing
     Listing {
         repeated: flag_asked(matches, "repeated"),
         names: flag_asked(matches, "names"),
+        files: flag_asked(matches, "files"),
         json: flag_asked(matches, "json"),
     }
 }

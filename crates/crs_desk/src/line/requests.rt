@@ -35,11 +35,13 @@ pub enum Work {
     },
     /// Two texts are compared.
     Pair(Comparison, LinePair),
-    /// A task over files, of which there is at least one, each by itself, under the rules of files, where there are some.
+    /// A task over files, of which there is at least one, under the rules of files, where there are some.
     Files {
         task: Task,
         names: LineWords,
         rules: LineWords,
+        /// Whether each line begins with the file's name also where there is one file.
+        named: bool,
     },
 }
 
@@ -60,7 +62,7 @@ pub struct LinePair {
 #[derive(Clone, Copy, Debug)]
 pub enum Comparison {
     /// Whether they spell the same CRS, or the first part that differs.
-    Same,
+    Same(Manner),
     /// Each part that differs.
     Explain(Manner),
 }
@@ -79,9 +81,11 @@ pub enum Layout {
 pub enum Task {
     /// The canonical text of each text.
     Canon(Layout),
+    /// The digest of each canonical text.
+    Digest(Layout),
     /// Whether each text is accepted, and what it spells.
-    Check(Layout),
-    /// Which lines, a text each, spell the same CRS.
+    Check(Layout, Manner),
+    /// Which lines, or which files, a text each, spell the same CRS.
     Group(Listing),
     /// What the text spells, or why it is refused, explained.
     Explain(Manner),

@@ -1,13 +1,14 @@
 //! What a text spells or why it is refused, and all parts in which two texts differ, explained to a person or a program.
 ghost use Rattle.std.specs.Prelude.{◌≡◌, ◌++◌, ◌∷◌, [], IfOk};
-ghost use Rattle.crs_desk.specs.ExplainOutput.{kind_told, same_told};
+ghost use Rattle.crs_desk.specs.ExplainOutput.{same_told};
 
-use crate::{Level, Manner, Telling, TextCommand, accepted_line, kind_of_text, kind_word};
+use crate::runs::text::kind_line;
+use crate::{Level, Manner, Telling, TextCommand, kind_of_text};
 use crs_explain::{
     StepWord, difference_lines, difference_objects, ordered_parts, refusal_object, refusal_text,
 };
 use crs_text::Refusal;
-use crs_value::{Crs, Kind, laws};
+use crs_value::{Crs, laws};
 use std::alloc::{AllocError, Global};
 
 /// `explain` of one text: `accepted KIND` where it spells a CRS, with status 0, else the refusal, explained over some
@@ -31,21 +32,6 @@ impl TextCommand for ExplainText {
                 let told = Told { how, words: &[] };
                 Ok((told.refusal(alloc, b"", text, refusal)?, 1))
             }
-        }
-    }
-}
-
-// `accepted KIND` or `{"accepted":"KIND"}`, and a line end.
-fn kind_line(alloc: Global, how: Manner, kind: Kind) -> Result<Vec<u8>, AllocError>
-    ensures { IfOk result (λ line. line.items ≡ kind_told how kind ++ 10 ∷ []) }
-{
-    match how {
-        Manner::Lines => accepted_line(alloc, kind),
-        Manner::Objects => {
-            let mut line = Vec::from_slice(alloc, b"{\"accepted\":\"")?;
-            line.extend_from_slice(kind_word(kind).as_bytes())?;
-            line.extend_from_slice(b"\"}\n")?;
-            Ok(line)
         }
     }
 }

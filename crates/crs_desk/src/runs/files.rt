@@ -2,7 +2,7 @@
 ghost use Rattle.std.specs.Prelude.{◌≡◌, [], ℕ, List, Option, IfErr, IfOk, IfSome, false, OnOk};
 ghost use Rattle.crs_streams.specs.Streams.{fresh_sink};
 ghost use Rattle.crs_desk.specs.inner.FileAnswers.{Ends, IsAnswerSent, IsFileFault, IsFileSent, IsSendFault, NoFront};
-ghost use Rattle.crs_desk.specs.FilesRun.{AreFilesAnswered, IsFilesFault, is_json, name_prefix, IsGroupedOutput, IsTaskFront, IsTaskOutput};
+ghost use Rattle.crs_desk.specs.FilesRun.{AreFilesAnswered, IsFilesFault, IsGroupedOutput, IsTaskFront, IsTaskOutput, are_named, blank_told, is_json, name_prefix};
 ghost use Rattle.crs_desk.specs.inner.LineCutting.{IsHealthy};
 ghost use Rattle.std.specs.Io.KnownBytes.{Appends};
 ghost use Rattle.crs_group.specs.GroupOutput.{IsGroupOutputBy};
@@ -12,8 +12,8 @@ use crate::runs::explain::ExplainText;
 use crate::runs::line_output::{OfLine, Prefix, Prefixed, prefix_lines};
 use crate::runs::lines::run_lines;
 use crate::{
-    CanonText, CheckText, Filling, Level, LineWord, Listing, Manner, RunFault, Sink, Source,
-    Stream, TextCommand, Under, read_text,
+    CanonText, CheckText, DigestText, Filling, Level, LineWord, Listing, Manner, RunFault, Sink,
+    Source, Spelled, Stream, TextCommand, Under, read_text,
 };
 use crs_group::pieces::{Adding, ByCanon, ByForm, run_adding};
 use crs_rules::Rules;
@@ -23,7 +23,7 @@ use std::alloc::{AllocError, Global};
 use std::io::{Read, Write};
 
 // The status of a file that fails.
-const FAILED: u8 = 2;
+pub(crate) const FAILED: u8 = 2;
 
 /// Files that are opened by their names.
 pub trait Inputs {
@@ -41,7 +41,7 @@ pub trait Inputs {
     fn tell(&self, name: &str, input: &Self::Input, fault: &RunFault);
 }
 
-/// Writes for each file in its turn what is asked of it. Where there are several, each line begins with the file's name
+/// Writes for each file in its turn what is asked of it. Where there are several, or names are asked for, each line begins with the file's name
 /// and a colon; in the name control characters, ends of lines, marks of direction and backslashes are escaped. An object
 /// of JSON has the name as its first member, `"file"`. A file that can't be opened, or not be read to its end within the
 /// bounds of its task, is told to the user and has status 2, and the others go on; of its answer nothing was written, or,
@@ -50,35 +50,44 @@ pub trait Inputs {
 pub fn run_files<I: Inputs, W: Write>(
     alloc: Global,
     task: FileTask<'_>,
+    named: bool,
     names: &[LineWord],
     files: &I,
     w: &mut Sink<W>,
 ) -> Result<u8, RunFault>
     requires { w.old ≡ fresh_sink w.old.contents }
-    ensures answered { IfOk result (AreFilesAnswered task.entry (I.known files.now) names.now w.old w.new) }
+    ensures answered { IfOk result (AreFilesAnswered task.entry named (I.known files.now) names.now w.old w.new) }
     ensures fault { IfErr result (IsFilesFault w.new) }
     ensures past_failure { w.new.past_failure ≡ false }
 {
     let mut status = 0;
+    let shown = are_named(named, names);
     for name in names {
-        let prefix = prefix_of(alloc, task, names, name).map_err(|_| RunFault::Memory)?;
+        let prefix = prefix_of(alloc, task, shown, name).map_err(|_| RunFault::Memory)?;
         let own = answer_file(task, &prefix, name, files, w)?;
         status = status.max(own);
     }
     Ok(status)
 }
 
-// What stands before each line of a file's answer: nothing for one file, else its name, or a first member with it.
+// Whether lines begin with names of files.
+fn are_named(named: bool, names: &[LineWord]) -> bool
+    ensures { result ≡ are_named named names.now }
+{
+    named || names.len() > 1
+}
+
+// What stands before each line of a file's answer: nothing, or its name, or a first member with it.
 fn prefix_of(
     alloc: Global,
     task: FileTask<'_>,
-    names: &[LineWord],
+    named: bool,
     name: &LineWord,
 ) -> Result<Prefix, AllocError>
-    ensures { IfOk result (λ prefix. prefix ≡ name_prefix task.entry names.now name.now) }
+    ensures { IfOk result (λ prefix. prefix ≡ name_prefix task.entry named name.now) }
 {
     let mut bytes = Vec::new(alloc);
-    if names.len() == 1 {
+    if !named {
         let in_object = false;
         return Ok(Prefix { bytes, in_object });
     }
@@ -99,7 +108,9 @@ fn is_json(task: FileTask<'_>) -> bool
     ensures { result ≡ is_json task.entry }
 {
     match task {
-        FileTask::Explain(how) => matches!(how, Manner::Objects),
+        FileTask::Check(how) | FileTask::CheckLines(how) | FileTask::Explain(how) => {
+            matches!(how, Manner::Objects)
+        }
         FileTask::Group(_, listing) => listing.json,
         FileTask::FormGroup(_, listing, _) => listing.json,
         _ => false,
@@ -144,13 +155,19 @@ fn answer_input<R: Read + Drop, W: Write>(
 {
     match task {
         FileTask::Canon(level) => answer_text(&CanonText { level }, prefix, reader, sink),
-        FileTask::Check => answer_text(&CheckText, prefix, reader, sink),
+        FileTask::Digest(by) => answer_text(&DigestText { by }, prefix, reader, sink),
+        FileTask::Check(how) => answer_text(&CheckText { how }, prefix, reader, sink),
         FileTask::Explain(how) => answer_text(&ExplainText { how }, prefix, reader, sink),
         FileTask::Group(level, listing) => {
             answer_group(ByCanon(level), listing, prefix, reader, sink)
         }
-        FileTask::CanonLines(level) => answer_lines(CanonText { level }, prefix, reader, sink),
-        FileTask::CheckLines => answer_lines(CheckText, prefix, reader, sink),
+        FileTask::CanonLines(level) => {
+            answer_lines(CanonText { level }, b"", prefix, reader, sink)
+        }
+        FileTask::DigestLines(by) => answer_lines(DigestText { by }, b"", prefix, reader, sink),
+        FileTask::CheckLines(how) => {
+            answer_lines(CheckText { how }, blank_told(how), prefix, reader, sink)
+        }
         FileTask::Form(level, rules) => {
             answer_text(&Under { level, rules }, prefix, reader, sink)
         }
@@ -159,7 +176,7 @@ fn answer_input<R: Read + Drop, W: Write>(
             answer_group(adding, listing, prefix, reader, sink)
         }
         FileTask::FormLines(level, rules) => {
-            answer_lines(Under { level, rules }, prefix, reader, sink)
+            answer_lines(Under { level, rules }, b"", prefix, reader, sink)
         }
     }
 }
@@ -206,21 +223,32 @@ fn answer_group<A: Adding + Drop, R: Read + Drop, W: Write>(
     }
 }
 
+/// What `check` writes for a blank line.
+pub fn blank_told(how: Manner) -> &'static [u8]
+    ensures { result.now ≡ blank_told how }
+{
+    match how {
+        Manner::Lines => b"",
+        Manner::Objects => b"{\"blank\":true}",
+    }
+}
+
 fn answer_lines<C: TextCommand + Drop, R: Read + Drop, W: Write>(
     command: C,
+    blank: &'static [u8],
     prefix: &Prefix,
     reader: R,
     sink: &mut Sink<W>,
 ) -> Result<u8, RunFault>
     requires healthy { IsHealthy sink.old }
     requires ends { Ends (C.Output command) }
-    ensures answered { IfOk result (IsAnswerSent (IsLinesOutput (IsLineOutput (C.Output command))) prefix.now
+    ensures answered { IfOk result (IsAnswerSent (IsLinesOutput (IsLineOutput blank.now (C.Output command))) prefix.now
         (R.remaining reader) sink.old sink.new) }
     ensures fault { IfErr result (IsFileFault
-        (λ bytes written. IsFrontOutput (IsLineOutput (C.Output command)) bytes false written)
+        (λ bytes written. IsFrontOutput (IsLineOutput blank.now (C.Output command)) bytes false written)
         prefix.now (R.remaining reader) sink.old sink.new) }
 {
-    let command = OfLine { command };
+    let command = OfLine { command, blank };
     let command = Prefixed { prefix, command };
     run_lines(prefix.alloc(), &command, &mut Stream::new(reader), sink)
 }
@@ -241,8 +269,10 @@ fn send<W: Write>(prefix: &Prefix, plain: Vec<u8>, sink: &mut Sink<W>) -> Result
 pub enum FileTask<'r> {
     /// What `run_canon` writes, at a level.
     Canon(Level),
-    /// What `run_check` writes.
-    Check,
+    /// What `CheckText` writes.
+    Check(Manner),
+    /// What `DigestText` writes.
+    Digest(Spelled<'r>),
     /// What `ExplainText` writes.
     Explain(Manner),
     /// What `run_group_listing` writes, at a level, with status 1 where a line was refused.
@@ -250,7 +280,9 @@ pub enum FileTask<'r> {
     /// What `OfLine` of `CanonText` writes for each line, at a level.
     CanonLines(Level),
     /// What `OfLine` of `CheckText` writes for each line.
-    CheckLines,
+    CheckLines(Manner),
+    /// What `OfLine` of `DigestText` writes for each line.
+    DigestLines(Spelled<'r>),
     /// What `Under` writes, at a level.
     Form(Level, &'r Rules),
     /// What `run_group_under` writes, at a level, with status 1 where a line was refused.

@@ -2,27 +2,30 @@
 ghost use Rattle.std.specs.Prelude.{◌≡◌, ◌++◌, IfOk, OnOk, drop, if◌then◌else◌};
 ghost use Rattle.crs_desk.specs.LinesRun.{prefixed};
 
-use crate::TextCommand;
+use crate::{TextCommand, line_of};
 use bstr::ByteSlice;
 use crs_group::is_blank;
 use std::alloc::{AllocError, Global};
 use std::marker::Model;
 
-/// A command over the text of a line, of which a blank one is answered by an empty line.
+/// A command over the text of a line, of which a blank one is answered by itself.
 #[derive(Drop)]
 pub struct OfLine<C: TextCommand> {
     /// What answers a line that isn't blank.
     pub command: C,
+    /// What is written for a blank one: often nothing, an empty line.
+    pub blank: &'static [u8],
 }
 
 impl<C: TextCommand> TextCommand for OfLine<C> {
     ghost use Rattle.crs_desk.specs.LinesRun.{IsLineOutput};
 
-    ghost Output = { λ s text written status. IsLineOutput (C.Output s.command) text written status };
+    ghost Output = { λ s text written status. IsLineOutput s.blank.now (C.Output s.command) text written status };
 
     fn output(&self, alloc: Global, text: &[u8]) -> Result<(Vec<u8>, u8), AllocError> {
         if is_blank(text) {
-            return Ok((Vec::from_slice(alloc, b"\n")?, 0));
+            let line = Vec::from_slice(alloc, self.blank)?;
+            return Ok((line_of(line)?, 0));
         }
         self.command.output(alloc, text)
     }

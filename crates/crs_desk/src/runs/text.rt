@@ -1,7 +1,9 @@
 //! What a text spells, and the runs over one text that write a line for it: its canonical text, its kind, or its refusal.
-ghost use Rattle.std.specs.Prelude.{◌≡◌, IfOk, ◌++◌, ◌∷◌, [], codes, ℕ, List, MatchResult, Some};
+ghost use Rattle.std.specs.Prelude.{◌≡◌, IfOk, OnOk, ◌++◌, ◌∷◌, [], codes, ℕ, List, MatchResult, Some};
 ghost use Rattle.crs_desk.specs.Ending.{IsRun};
-ghost use Rattle.crs_desk.specs.Output.{IsCanonOutput, IsCheckOutput, kind_word};
+ghost use Rattle.crs_desk.specs.Output.{IsCanonOutput, IsCheckOutput, kind_told, kind_word, refusal_told, which_told};
+ghost use Rattle.crs_desk.specs.inner.Found.{WritesFound};
+ghost use Rattle.crs_desk.specs.declared.runs.manner.Manner.TheVariants as manner;
 ghost use Rattle.crs_streams.specs.Streams.{fresh_sink, fresh_source};
 ghost use Rattle.crs_text.specs.Refusal.{refused_text};
 ghost use Rattle.crs_text.specs.Fault.{refusal_of};
@@ -11,8 +13,9 @@ ghost use Rattle.crs_writer.specs.Canonical.{IsCanonicalOf};
 
 use crate::runs::answer::{Answer, ForText, TextCommand, write_answer};
 use crate::runs::reading::{read_pieces, read_text};
-use crate::{Level, RunFault, Sink, Source};
-use crs_streams::append_refusal;
+use crate::{Level, Manner, RunFault, Sink, Source};
+use crs_streams::json::{append_number_member, append_text_member};
+use crs_streams::{append_number, append_refusal};
 use crs_text::{Fault, Feeder, Refusal, laws, read_items};
 use crs_value::{Kind, kind_of};
 use crs_writer::{Canon, canon_in};
@@ -90,40 +93,109 @@ pub fn run_check<R: Read, W: Write>(
 ) -> Result<u8, RunFault>
     requires source { r.old ≡ fresh_source r.old.remaining }
     requires sink { w.old ≡ fresh_sink w.old.contents }
-    ensures { IsRun IsCheckOutput r.old r.new w.old w.new result }
+    ensures { IsRun (IsCheckOutput manner.Lines) r.old r.new w.old w.new result }
 {
     let feeder = read_pieces(alloc, r)?;
     let found = judged(&feeder).map_err(|_| RunFault::Memory)?;
     write_answer(alloc, &found, w)
 }
 
-// The line of a kind or of a refusal, and the status.
 impl Answer for Result<Kind, Refusal> {
     ghost use Rattle.crs_desk.specs.inner.Found.{WritesFound};
+    ghost use Rattle.crs_desk.specs.declared.runs.manner.Manner.TheVariants.{Lines};
 
-    ghost Output = { λ s written status. WritesFound s written status };
+    ghost Output = { λ s written status. WritesFound Lines s written status };
 
     fn output(&self, alloc: Global) -> Result<(Vec<u8>, u8), AllocError> {
-        match *self {
-            Ok(kind) => Ok((accepted_line(alloc, kind)?, 0)),
-            Err(refusal) => Ok((refused_line(alloc, b"", refusal)?, 1)),
-        }
+        found_output(alloc, Manner::Lines, *self)
     }
 }
 
 /// `check`.
 #[derive(Clone, Copy)]
-pub struct CheckText;
+pub struct CheckText {
+    /// In a line, or as an object in one.
+    pub how: Manner,
+}
 
 impl TextCommand for CheckText {
     ghost use Rattle.crs_desk.specs.Output.{IsCheckOutput};
 
-    ghost Output = { λ s text written status. IsCheckOutput text written status };
+    ghost Output = { λ s text written status. IsCheckOutput s.how text written status };
 
     fn output(&self, alloc: Global, text: &[u8]) -> Result<(Vec<u8>, u8), AllocError> {
         let found = kind_of_text(alloc, text)?;
-        found.output(alloc)
+        found_output(alloc, self.how, found)
     }
+}
+
+// The line of a kind or of a refusal, and the status.
+fn found_output(
+    alloc: Global,
+    how: Manner,
+    found: Result<Kind, Refusal>,
+) -> Result<(Vec<u8>, u8), AllocError>
+    ensures { IfOk result (λ output. WritesFound how found output.0.items output.1) }
+{
+    match found {
+        Ok(kind) => Ok((kind_line(alloc, how, kind)?, 0)),
+        Err(refusal) => Ok((refusal_line(alloc, how, b"", refusal)?, 1)),
+    }
+}
+
+// `accepted KIND` or `{"accepted":"KIND"}`, and a line end.
+pub(crate) fn kind_line(alloc: Global, how: Manner, kind: Kind) -> Result<Vec<u8>, AllocError>
+    ensures { IfOk result (λ line. line.items ≡ kind_told how kind ++ 10 ∷ []) }
+{
+    match how {
+        Manner::Lines => accepted_line(alloc, kind),
+        Manner::Objects => {
+            let mut line = Vec::from_slice(alloc, b"{\"accepted\":\"")?;
+            line.extend_from_slice(kind_word(kind).as_bytes())?;
+            line.extend_from_slice(b"\"}\n")?;
+            Ok(line)
+        }
+    }
+}
+
+/// A refusal after the bytes that say which text it is, or an object with it, and a line end. `AllocError`: memory ran out.
+pub fn refusal_line(
+    alloc: Global,
+    how: Manner,
+    which: &[u8],
+    refusal: Refusal,
+) -> Result<Vec<u8>, AllocError>
+    ensures { IfOk result (λ line. line.items ≡ refusal_told how which.now refusal ++ 10 ∷ []) }
+{
+    match how {
+        Manner::Lines => refused_line(alloc, which, refusal),
+        Manner::Objects => refusal_object(alloc, which, refusal),
+    }
+}
+
+fn refusal_object(alloc: Global, which: &[u8], refusal: Refusal) -> Result<Vec<u8>, AllocError>
+    ensures { IfOk result (λ line. line.items ≡ refusal_told manner.Objects which.now refusal ++ 10 ∷ []) }
+{
+    let mut line = Vec::from_slice(alloc, b"{")?;
+    append_which(which, &mut line)?;
+    line.extend_from_slice(b"\"refused\":")?;
+    append_number(usize::from(refusal.number()), &mut line)?;
+    append_text_member(b"name", refusal.name().as_bytes(), &mut line)?;
+    append_number_member(b"place", refusal.place(), &mut line)?;
+    line.extend_from_slice(b"}\n")?;
+    Ok(line)
+}
+
+// `"text":"first",`, or nothing where there is one text.
+fn append_which(which: &[u8], out: &mut Vec<u8>) -> Result<(), AllocError>
+    ensures { OnOk result (out.new.items ≡ out.old.items ++ which_told which.now) }
+{
+    if which.is_empty() {
+        return Ok(());
+    }
+    out.extend_from_slice(b"\"text\":\"")?;
+    out.extend_from_slice(&which[..which.len() - 1])?;
+    out.extend_from_slice(b"\",")
 }
 
 /// `accepted KIND` and a line end. `AllocError`: memory ran out.

@@ -108,6 +108,8 @@ fn second_of<T: Telling, W: Writing>(
 /// `second` and the refusal of the first text that spells no CRS.
 #[derive(Clone, Copy)]
 pub struct SameForms<'t> {
+    /// In a line of words, or as an object in one.
+    pub how: Manner,
     /// The rules and the level.
     pub under: Under<'t>,
     /// The first text.
@@ -120,11 +122,12 @@ impl Answer for SameForms<'_> {
     ghost use Rattle.crs_desk.specs.RulesOutput.{IsSameUnderOutput};
 
     ghost Output = { λ s written status.
-        IsSameUnderOutput s.under.rules.now s.under.level s.a.now s.b.now written status };
+        IsSameUnderOutput s.how s.under.rules.now s.under.level s.a.now s.b.now written status };
 
     fn output(&self, alloc: Global) -> Result<(Vec<u8>, u8), AllocError> {
-        match both_of(alloc, InALine, self.under, self.a, self.b)? {
-            Ok((a, b)) => pair_output(alloc, InALine, self.under.level, a.bytes(), b.bytes()),
+        let told = InALine { how: self.how };
+        match both_of(alloc, told, self.under, self.a, self.b)? {
+            Ok((a, b)) => pair_output(alloc, told, self.under.level, a.bytes(), b.bytes()),
             Err(output) => Ok(output),
         }
     }

@@ -105,24 +105,30 @@ fn by_string(text: &[u8]) -> Option<Hint<'_>> {
         let told = "This is a PROJ string, which ends in +type=crs where it is a CRS: {}";
         filled(told, Filling::ByProj(transformation_of(text)))
     } else if digit_count(text) == text.len() {
-        by_code(b"EPSG:", text)
+        by_lookup(sentence::CODE, b"EPSG:", text)
+    } else if is_code(text) && begins(text, b"EPSG::") {
+        by_lookup(sentence::CODE, b"EPSG:", rest(text, 6))
     } else if is_code(text) || is_address(text) {
-        by_code(b"", text)
+        by_lookup(sentence::CODE, b"", text)
+    } else if begins(text, b"http://") || begins(text, b"https://") {
+        said(sentence::ADDRESS)
     } else if is_path(text) {
         said("This is the name of a file, most likely: what is wanted is the text in that file.")
+    } else if is_name(text) {
+        by_lookup(sentence::NAME, b"", text)
     } else {
         None
     }
 }
 
-// What to do with a code, behind these bytes; one of more bytes than are shown of a word isn't written out.
-fn by_code<'a>(authority: &'static [u8], code: &'a [u8]) -> Option<Hint<'a>> {
-    let word = if code.len() <= SHOWN {
-        Filling::Argument(authority, code)
+// What to do with a code, behind these bytes, or a name; one of more bytes than are shown of a word isn't written out.
+fn by_lookup<'a>(told: &'static str, authority: &'static [u8], word: &'a [u8]) -> Option<Hint<'a>> {
+    let word = if word.len() <= SHOWN {
+        Filling::Argument(authority, word)
     } else {
         Filling::Words(b"CODE")
     };
-    filled(sentence::CODE, word)
+    filled(told, word)
 }
 
 // `+proj=utm ..`, also without plus signs, or with `init=`, or with other words before.
@@ -164,10 +170,19 @@ fn is_code(text: &[u8]) -> bool {
     authority >= 3 && codes.all(|it| !it.is_empty() && word_length(it) == it.len())
 }
 
-// `urn:ogc:def:crs:EPSG::4326`, or a web address.
+// `urn:ogc:def:crs:EPSG::4326`, or such a web address, which PROJ takes for a code.
 fn is_address(text: &[u8]) -> bool {
-    let is_begun = begins(text, b"urn:") || begins(text, b"http://") || begins(text, b"https://");
+    let is_begun = begins(text, b"urn:")
+        || begins(text, b"http://www.opengis.net/def/crs/")
+        || begins(text, b"https://www.opengis.net/def/crs/");
     is_begun && text.iter().all(|it| it.is_ascii_graphic())
+}
+
+// `WGS84`, `WGS 84 / UTM zone 31N`: words, of which one at least has a digit.
+fn is_name(text: &[u8]) -> bool {
+    let is_of_name = |it: &u8| is_of_word(*it) || matches!(*it, b' ' | b'/' | b'-' | b'+' | b'.');
+    let is_begun = matches!(text, [first, ..] if first.is_ascii_alphabetic());
+    is_begun && text.iter().all(is_of_name) && text.iter().any(|it| it.is_ascii_digit())
 }
 
 // How names of files end.

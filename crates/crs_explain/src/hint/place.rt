@@ -46,8 +46,8 @@ pub(crate) fn by_place<'t>(text: &[u8], number: u8, found: &'t Before<'t>) -> Op
         .or(by_delimiters(found, number, there))
 }
 
-// Characters by their bytes, most of them quotes that aren't straight, and what to say of each.
-const CHARACTERS: [Entry; 10] = [
+// Characters by their first bytes, most of which look like others, and what to say of each.
+const CHARACTERS: [Entry; 18] = [
     (b"&quot;", sentence::XML_QUOTE, b""),
     (b"&#34;", sentence::XML_QUOTE, b""),
     (b"\\\"", sentence::ESCAPED_QUOTE, b""),
@@ -56,6 +56,14 @@ const CHARACTERS: [Entry; 10] = [
     (b"\xe2\x80\x9e", sentence::TYPOGRAPHIC_QUOTE, b""),
     (b"\xc2\xab", sentence::TYPOGRAPHIC_QUOTE, b""),
     (b"\xc2\xbb", sentence::TYPOGRAPHIC_QUOTE, b""),
+    (b"\xce", sentence::LETTER, b"Greek"),
+    (b"\xcf", sentence::LETTER, b"Greek"),
+    (b"\xd0", sentence::LETTER, b"Cyrillic"),
+    (b"\xd1", sentence::LETTER, b"Cyrillic"),
+    (b"\xc2\xa0", sentence::SPACE, b"no-break space"),
+    (b"\xe2\x80\xaf", sentence::SPACE, b"no-break space"),
+    (b"\xe2\x80\x8b", sentence::SPACE, b"zero-width space"),
+    (b"\xef\xbb\xbf", sentence::SPACE, b"byte order mark"),
     (b"'", "Texts are written in double quotes (\").", b""),
     (b";", "Arguments are separated by commas.", b""),
 ];

@@ -33,6 +33,13 @@ pub(crate) const CODE: &str =
     "This is a code, and nothing is looked up here: have PROJ write WKT2:2019 (projinfo -q \
     --single-line -o WKT2:2019 {}).";
 
+pub(crate) const NAME: &str =
+    "This is a name, and nothing is looked up here: have PROJ write WKT2:2019 (projinfo -q \
+    --single-line -o WKT2:2019 {}).";
+
+pub(crate) const ADDRESS: &str =
+    "This is a web address, and nothing is fetched here: what is wanted is the text that is there.";
+
 // Of classes.
 pub(crate) const BOUND: &str = "A BOUNDCRS isn't read. Its source CRS is, as by pyproj \
     (CRS(text).source_crs.to_wkt()), which loses the transformation: keep the transformation as part of a key.";
@@ -54,6 +61,11 @@ pub(crate) const TRANSFORMATION: &str =
 
 // Of characters.
 pub(crate) const TYPOGRAPHIC_QUOTE: &str = "This is a typographic quote: write straight ones (\").";
+
+pub(crate) const LETTER: &str =
+    "This is a {} letter, which may look like a Latin one: outside quotes write Latin letters.";
+
+pub(crate) const SPACE: &str = "This is a {}: outside quotes write blanks.";
 
 pub(crate) const XML_QUOTE: &str =
     "Its quotes are written as in XML or HTML (&quot;): put straight ones (sed 's/&quot;/\"/g' FILE).";

@@ -1,9 +1,9 @@
 -- A bridge: bytes that are cut into lines piece by piece.
-use Rattle.std.specs.Prelude.{◌≡◌, ◌+◌, ◌<◌, ◌≤◌, ◌⊎◌, ◌++◌, ◌∷◌, [], ℕ, Bool, true, false, List, length, ◌*◌}
+use Rattle.std.specs.Prelude.{◌≡◌, ◌+◌, ◌<◌, ◌≤◌, ◌⊎◌, ◌++◌, ◌∷◌, [], ℕ, Bool, true, false, List, length, map, ◌*◌}
 use Rattle.crs_value.specs.declared.values.level.Level.{Level}
 use Rattle.crs_group.specs.Catalogue.{CatalogueParts}
 use Rattle.crs_group.specs.GroupTexts.{IsCatalogueOfBy, PlacedLine}
-use Rattle.crs_group.specs.Names.{name_of, names_in, text_behind, texts_in}
+use Rattle.crs_group.specs.Names.{NamedText, blank_texts, blanks_from, name_of, names_in, text_behind, texts_in}
 use Rattle.crs_streams.specs.inner.Cutting.{AreCut}
 use Rattle.crs_streams.specs.Lines.{AreLines, IsTextOf, blank_in, IsTooLong, HasShortLines}
 use Rattle.crs_group.specs.GroupOutput.{numbered, catalogue_text}
@@ -16,10 +16,12 @@ use Rattle.crs_streams.specs.Streams.{HasGivenAll, IsAskedFor, SourceState, Sink
 use Rattle.crs_group.specs.declared.listing.Listing.{Listing}
 use Rattle.crs_group.specs.declared.summary.Summary.{Summary}
 
--- a catalogue of numbered lines, their names if they have any, how many lines there are, and how many of them are blank
+-- a catalogue of numbered lines, their names if they have any, which of those with names are blank, how many lines there
+-- are, and how many of them are blank
 pub record LedgerParts : Type 0 where
   pub catalogue : CatalogueParts
   pub names : List (List ℕ)
+  pub blanks : List ℕ
   pub lines : ℕ
   pub blank : ℕ
 
@@ -28,6 +30,7 @@ abbrev pub no_lines : Level → LedgerParts
 no_lines level = record {
   catalogue = record { level = level; groups = []; refused = [] };
   names = [];
+  blanks = [];
   lines = 0;
   blank = 0;
 }
@@ -48,8 +51,18 @@ pub record IsLedgerOf (Form : Level → List ℕ → List ℕ → Type 0)
     (ledger : LedgerParts) : Type 0 where
   pub of_lines : IsCatalogueOfBy Form Share (numbered 1 (texts_in named texts)) ledger.catalogue
   pub names : ledger.names ≡ names_in named texts
+  pub blanks : ledger.blanks ≡ blanks_from named 1 texts
   pub lines : ledger.lines ≡ length texts
   pub blank : ledger.blank ≡ blank_in (texts_in named texts)
+
+-- the ledger is that of these texts by their names, in this form of the texts
+pub record IsLedgerOfNamed (Form : Level → List ℕ → List ℕ → Type 0)
+    (Share : Level → PlacedLine → PlacedLine → Type 0) (texts : List NamedText)
+    (ledger : LedgerParts) : Type 0 where
+  pub of_texts : IsCatalogueOfBy Form Share (numbered 1 (map (λ t. t.text) texts)) ledger.catalogue
+  pub names : ledger.names ≡ map (λ t. t.name) texts
+  pub blanks : ledger.blanks ≡ blank_texts 1 texts
+  pub lines : ledger.lines ≡ length texts
 
 -- how many blank lines a line at this place is
 abbrev pub blank_count : Placed → ℕ
@@ -132,8 +145,8 @@ pub record IsLedgerWhole (Form : Level → List ℕ → List ℕ → Type 0)
 -- the sink got the text of the ledger's catalogue, and this is the summary
 pub record WritesLedger (listing : Listing) (ledger : LedgerParts) (old new : SinkState)
     (summary : Summary) : Type 0 where
-  pub is_sent : Appends old.contents new.contents (catalogue_text listing ledger.names ledger.catalogue)
-  pub is_asked : IsAskedFor (catalogue_text listing ledger.names ledger.catalogue) old new
+  pub is_sent : Appends old.contents new.contents (catalogue_text listing ledger.names ledger.blanks ledger.catalogue)
+  pub is_asked : IsAskedFor (catalogue_text listing ledger.names ledger.blanks ledger.catalogue) old new
   pub is_healthy : new.failed ≡ false
   pub lines : summary.lines ≡ ledger.lines
   pub blank : summary.blank ≡ ledger.blank

@@ -7,6 +7,8 @@ pub returns : goal.returns
 returns c =
     let alone = grows_none (Ok c.lone_command-alone.result) c.lone_command-alone.ensures.globals in
     let one = grows_one c.flag_argument.result alone c.arg-command.ensures c.flag_argument.ensures.local c.flag_argument.ensures.rule in
-    let two = grows_one c.file_argument.result one c.with_argument-command.ensures c.file_argument.ensures.local c.file_argument.ensures.rule in
-    let three = grows_one c.verbose_argument.result two c.with_argument.ensures c.verbose_argument.ensures.local c.verbose_argument.ensures.rule in
-    record { shape = grown (new_shape (codes "check")) three c.lone_command-alone.ensures.shape; globals = three.globals }
+    let two = grows_one c.flag_argument-2.result one c.with_argument-command.ensures c.flag_argument-2.ensures.local c.flag_argument-2.ensures.rule in
+    let three = grows_one c.name_argument.result two c.with_argument-command-2.ensures c.name_argument.ensures.local c.name_argument.ensures.rule in
+    let four = grows_one c.file_argument.result three c.with_argument-command-3.ensures c.file_argument.ensures.local c.file_argument.ensures.rule in
+    let five = grows_one c.verbose_argument.result four c.with_argument.ensures c.verbose_argument.ensures.local c.verbose_argument.ensures.rule in
+    record { shape = grown (new_shape (codes "check")) five c.lone_command-alone.ensures.shape; globals = five.globals }

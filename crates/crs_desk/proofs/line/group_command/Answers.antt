@@ -11,6 +11,8 @@ returns c =
     let three = grows_one c.flag_argument.result two c.with_argument-command-2.ensures c.flag_argument.ensures.local c.flag_argument.ensures.rule in
     let four = grows_one c.flag_argument-2.result three c.with_argument-command-3.ensures c.flag_argument-2.ensures.local c.flag_argument-2.ensures.rule in
     let five = grows_one c.flag_argument-3.result four c.with_argument-command-4.ensures c.flag_argument-3.ensures.local c.flag_argument-3.ensures.rule in
-    let six = grows_one c.file_argument.result five c.with_argument-command-5.ensures c.file_argument.ensures.local c.file_argument.ensures.rule in
-    let seven = grows_one c.verbose_argument.result six c.with_argument.ensures c.verbose_argument.ensures.local c.verbose_argument.ensures.rule in
-    record { shape = grown (new_shape (codes "group")) seven c.lone_command-alone.ensures.shape; globals = seven.globals }
+    let six = grows_one c.flag_argument-4.result five c.with_argument-command-5.ensures c.flag_argument-4.ensures.local c.flag_argument-4.ensures.rule in
+    let seven = grows_one c.name_argument.result six c.with_argument-command-6.ensures c.name_argument.ensures.local c.name_argument.ensures.rule in
+    let eight = grows_one c.file_argument.result seven c.with_argument-command-7.ensures c.file_argument.ensures.local c.file_argument.ensures.rule in
+    let nine = grows_one c.verbose_argument.result eight c.with_argument.ensures c.verbose_argument.ensures.local c.verbose_argument.ensures.rule in
+    record { shape = grown (new_shape (codes "group")) nine c.lone_command-alone.ensures.shape; globals = nine.globals }

@@ -11,5 +11,6 @@ returns c =
     let three = grows_one c.level_argument.result two c.with_argument-command-2.ensures c.level_argument.ensures.local c.level_argument.ensures.rule in
     let four = grows_one c.rules_argument.result three c.with_argument-command-3.ensures c.rules_argument.ensures.local c.rules_argument.ensures.rule in
     let five = grows_one c.flag_argument.result four c.with_argument-command-4.ensures c.flag_argument.ensures.local c.flag_argument.ensures.rule in
-    let six = grows_one c.verbose_argument.result five c.with_argument.ensures c.verbose_argument.ensures.local c.verbose_argument.ensures.rule in
-    record { shape = grown (new_shape (codes "same")) six c.lone_command-alone.ensures.shape; globals = six.globals }
+    let six = grows_one c.flag_argument-2.result five c.with_argument-command-5.ensures c.flag_argument-2.ensures.local c.flag_argument-2.ensures.rule in
+    let seven = grows_one c.verbose_argument.result six c.with_argument.ensures c.verbose_argument.ensures.local c.verbose_argument.ensures.rule in
+    record { shape = grown (new_shape (codes "same")) seven c.lone_command-alone.ensures.shape; globals = seven.globals }

@@ -1,4 +1,4 @@
-use Rattle.std.proofs.Common.{◌∙◌, Some, ap, rules, sym}
+use Rattle.std.proofs.Common.{◌∙◌, Some, ap, ap₂, rules, sym}
 use Rattle.std.proofs.lemmas.Result.{IfOk-weaker}
 use Rattle.clap.specs.Words.{found_of, rows_of}
 use Rattle.crs_desk.specs.Requests.{asked_for, same_operands}
@@ -22,5 +22,6 @@ returns c =
     let read = operands_read (same_operands rows) (found_of c.args.operands.now) c.get_str.result c.get_str-2.result
     (Some c.in-Some-Some.first) (Some c.in-Some-Some.second) c.get_str.ensures c.get_str-2.ensures (search rules) (search rules) in
     IfOk-weaker c.asked_for.result _ _
-    (λ found is. sym read ∙ ap Some (ap (λ p. asked_for (Pair Same p) rows) (sym c.in_ok-pair-in-Some-Some.ensures) ∙ sym is))
+    (λ found is. sym read
+    ∙ ap Some (ap₂ (λ how p. asked_for (Pair (Same how) p) rows) (sym c.manner.ensures) (sym c.in_ok-pair-in-Some-Some.ensures) ∙ sym is))
     c.asked_for.ensures

@@ -10,6 +10,6 @@ invariant-loop-name g l =
       healthy : IsHealthy l.w;
       sent : (written : List ℕ) × Appends l.fn.w.contents l.w.contents written
           × ((more : List ℕ) (others : ℕ)
-          → AreFileOutputs l.task (name_prefix l.task l.names) (g.I.Inputs.known l.files) (drop l.name-index l.names) more others
-          → AreFileOutputs l.task (name_prefix l.task l.names) (g.I.Inputs.known l.files) l.names (written ++ more) (max l.status others));
+          → AreFileOutputs l.task (name_prefix l.task l.shown) (g.I.Inputs.known l.files) (drop l.name-index l.names) more others
+          → AreFileOutputs l.task (name_prefix l.task l.shown) (g.I.Inputs.known l.files) l.names (written ++ more) (max l.status others));
     }

@@ -1,7 +1,7 @@
-use Rattle.std.proofs.Common.{Ok, codes}
+use Rattle.std.proofs.Common.{Ok}
 use Rattle.clap.specs.Simple.{new_shape}
 use Rattle.crs_desk.proofs.OptionLemmas.{grown, grows_none, grows_one}
-use Rattle.crs_desk.proofs.line.canon_command.Goals as goal
+use Rattle.crs_desk.proofs.line.spelling_command.Goals as goal
 
 pub returns : goal.returns
 returns c =
@@ -9,6 +9,7 @@ returns c =
     let one = grows_one c.level_argument.result alone c.arg-command.ensures c.level_argument.ensures.local c.level_argument.ensures.rule in
     let two = grows_one c.rules_argument.result one c.with_argument-command.ensures c.rules_argument.ensures.local c.rules_argument.ensures.rule in
     let three = grows_one c.flag_argument.result two c.with_argument-command-2.ensures c.flag_argument.ensures.local c.flag_argument.ensures.rule in
-    let four = grows_one c.file_argument.result three c.with_argument-command-3.ensures c.file_argument.ensures.local c.file_argument.ensures.rule in
-    let five = grows_one c.verbose_argument.result four c.with_argument.ensures c.verbose_argument.ensures.local c.verbose_argument.ensures.rule in
-    record { shape = grown (new_shape (codes "canon")) five c.lone_command-alone.ensures.shape; globals = five.globals }
+    let four = grows_one c.name_argument.result three c.with_argument-command-3.ensures c.name_argument.ensures.local c.name_argument.ensures.rule in
+    let five = grows_one c.file_argument.result four c.with_argument-command-4.ensures c.file_argument.ensures.local c.file_argument.ensures.rule in
+    let six = grows_one c.verbose_argument.result five c.with_argument.ensures c.verbose_argument.ensures.local c.verbose_argument.ensures.rule in
+    record { shape = grown (new_shape c.args.name.now) six c.lone_command-alone.ensures.shape; globals = six.globals }
