@@ -101,7 +101,7 @@ fn append_usages(
 /// Appends the value of a part of a CRS, as the canonical text at a level writes it: nothing; a word; a text in its
 /// quotes; a number in its plain spelling; a node; or, for a set, the members that have no same one in the other CRS,
 /// each once, in ascending order of their bytes, a comma between two. A unit has the keyword of its kind; one written
-/// as `UNIT` has that of the asked kind. `AllocError`: there is no memory for it, and `out` is as before. Profile.
+/// as `UNIT` has the asked kind's. `AllocError`: there is no memory for it, and `out` is as before. Profile.
 pub fn write_content(
     content: &Content<'_, '_>,
     alloc: Global,

@@ -33,7 +33,7 @@ pub(crate) fn append_lacking(
     append_members(out, text.as_slice())
 }
 
-/// Appends the members that others lack, as `write_content` does. `AllocError`: no memory, `out` is as before. Profile.
+/// Appends the members that others lack, like `write_content`. `AllocError`: no memory, `out` is as before. Profile.
 pub fn append_lacking_members<T: Canonical>(
     alloc: Global,
     out: &mut Vec<u8>,

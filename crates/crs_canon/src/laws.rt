@@ -20,7 +20,7 @@ use crs_same::laws::{same_crs_is_equivalence, same_crs_is_same_by_definition};
 use crs_value::laws::one_answer;
 use crs_writer::laws::crss_are_canonical;
 
-/// Each CRS has a canonical text, and those of two are equal, byte for byte, exactly where the CRSs are same. Profile.
+/// Each CRS has a canonical text, and two CRSs' texts are equal, byte for byte, exactly if the CRSs are same. Profile.
 pub fn canonical_texts_are_equal_where_same()
     ensures there { (level : Level) (crs : Crs) → IsCrs crs → (bytes : List ℕ) × IsCanonicalText level crs bytes }
     ensures equal { (level : Level) (a b : Crs) (first second : List ℕ) → IsCrs a → IsCrs b →
@@ -42,7 +42,7 @@ pub fn main_theorem()
 }
 
 /// What a caller knows of two answers of `canon`. At one level their bytes are equal exactly where the two texts spell
-/// the same CRS; the answer for the bytes of an answer is those bytes; and two `Canon`s are equal, as `Canon::same`
+/// the same CRS; the answer for the bytes of an answer is those bytes; and two `Canon`s are equal, which `Canon::same`
 /// answers, exactly where their levels are equal and the two texts spell the same CRS at that level. Profile.
 pub fn answers_are_equal_where_same()
     ensures equal { (level : Level) (first second a b : List ℕ) →
@@ -56,8 +56,8 @@ pub fn answers_are_equal_where_same()
     main_theorem();
 }
 
-/// The two levels. The canonical text by definition of a canonical text at the full level is that of its source, and of
-/// no other; a canonical text by definition is its own at both levels. Profile.
+/// The two levels. A canonical text at level `full` has at level `definition` the canonical text of its source, and of
+/// no other; a text canonical at level `definition` is its own at both levels. Profile.
 pub fn levels_of_canonical_texts()
     ensures through { (text full definition : List ℕ) → IsCanonicalOf levels.Full text full →
         IsCanonicalOf levels.Definition text definition ↔ IsCanonicalOf levels.Definition full definition }
@@ -71,7 +71,7 @@ pub fn levels_of_canonical_texts()
     one_answer();
 }
 
-/// `==` holds of canonical texts where levels and bytes are equal, as `same` says; equal ones have one hash. Profile.
+/// `==` holds of canonical texts if levels and bytes are equal, like `same`; equal ones have one hash. Profile.
 pub fn equal_canons_are_one()
     ensures equal { (a b : CanonicalText) → (canons_equal a b ≡ true) ↔ (a ≡ b) }
     ensures hash { (a b : CanonicalText) → canons_equal a b ≡ true → canon_writes a ≡ canon_writes b }

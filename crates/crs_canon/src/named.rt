@@ -20,7 +20,7 @@ use std::collections::BTreeSet;
 // Each search goes over all parameters, so among more of them none is found by its name.
 const MOST: usize = 64;
 
-/// The parameter of this name, where it stands once among at most 64. Profile.
+/// The parameter of this name, if it is there once among at most 64. Profile.
 pub fn named_once<'b, 'a>(members: &'b [Parameter<'a>], name: &[u8]) -> Option<&'b Parameter<'a>>
     ensures { option_copied result ≡ named_once name.now members.now }
 {
@@ -91,7 +91,7 @@ fn gather_unpaired<'a>(
     Ok(())
 }
 
-/// Appends those parameters that the others lack, as `write_content` does, without those whose name stands once on each
+/// Appends the parameters that the others lack, like `write_content`, without those whose name is there once on each
 /// side, among at most 64. `AllocError`: there is no memory for them, and `out` is as before. Profile.
 pub fn append_unpaired<'a>(
     alloc: Global,

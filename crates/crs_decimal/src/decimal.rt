@@ -109,7 +109,7 @@ impl Decimal {
         self.power as i32
     }
 
-    /// Whether this and the other are the same number, as `==` says too.
+    /// Whether this and the other are the same number; `==` agrees.
     pub fn same_number(&self, other: &Decimal) -> bool
         ensures { IsTrue result ↔ SameNumber (exact self.now) (exact other.now) }
     {

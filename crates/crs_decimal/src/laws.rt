@@ -44,7 +44,7 @@ pub fn few_digits()
         length (mantissa p) ≤ 38 → IsInBounds bytes }
 {}
 
-/// At most 18 digits alone are a number in bounds.
+/// At most 18 bytes, all digits, are a number in bounds.
 #[tactic(auto, using(crate::proofs::DigitLemmas::digits_in_bounds))]
 pub fn digits_alone()
     ensures { (bytes : List ℕ) → AreDigits bytes → 0 < length bytes → length bytes ≤ 18 → IsInBounds bytes }

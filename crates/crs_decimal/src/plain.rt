@@ -1,4 +1,4 @@
-//! Spellings that are plain, or of which a part is.
+//! Spellings that are plain, or that have a plain part.
 ghost use Rattle.std.specs.Prelude.{◌≡◌, ◌≢◌, ◌<◌, ◌≤◌, ◌∷◌, ◌+◌, ◌-◌, ◌==◌, ◌++◌, if◌then◌else◌, IfSome, IsTrue};
 ghost use Rattle.std.specs.Prelude.{length, take, replicate, slice_index_or};
 ghost use Rattle.std.specs.List.{list_all};
@@ -7,7 +7,7 @@ ghost use Rattle.crs_decimal.specs.inner.PlainBytes.{IsUnsigned};
 
 use crate::cutting::{digits_len, front_of, rest_of};
 
-/// Whether bytes are digits alone.
+/// Whether all bytes are digits.
 #[inline]
 pub fn are_digits(raw: &[u8]) -> bool
     ensures { result ≡ list_all is_digit raw.now }

@@ -1,4 +1,4 @@
-//! The form of a text under rules, and the CRSs that are told apart by their parts.
+//! The form of a text under rules, and the CRSs whose parts are compared.
 ghost use Rattle.std.specs.Prelude.{◌≡◌, IfOk, MatchResult, OnOk};
 ghost use Rattle.crs_value.specs.Spells.{IsFaultOfText, Spells};
 ghost use Rattle.crs_value.specs.declared.values.crs.Crs.{Crs};
@@ -24,7 +24,7 @@ use std::alloc::{AllocError, Global};
 /// The form of a text under rules, at a level: the canonical text of the CRS that the text's canonical text spells,
 /// rewritten by the rules. Under the same rules two are equal exactly where the texts are the same under them.
 ///
-/// `Refused`: the text spells no CRS, as `crs_value::read` says. `Memory`: there is no memory for it.
+/// `Refused`: the text spells no CRS, and `crs_value::read` refuses it so. `Memory`: there is no memory for it.
 pub fn canon_under(alloc: Global, text: &[u8], level: Level, rules: &Rules) -> Result<Canon, Fault>
     ensures answer { MatchResult result (λ form. IsForm rules.now level text.now form.bytes) (IsFaultOfText text.now) }
     ensures level { IfOk result (λ form. form.level ≡ level) }

@@ -129,7 +129,7 @@ pub fn forms_are_their_own()
     form_laws();
 }
 
-/// Canonical texts that differ in the order of their axes alone have one form, where this order doesn't count.
+/// Canonical texts that differ only in the order of their axes have one form, if this order doesn't count.
 pub fn order_of_axes_is_nothing()
     ensures { (r : RulesParts) (level : Level) (first second bytes : List ℕ) (a b : Crs) → AreRules r →
         r.uncounted.axis_order ≡ true →
@@ -142,7 +142,7 @@ pub fn order_of_axes_is_nothing()
     main_theorem();
 }
 
-/// Canonical texts, of which the second has the units that the first leaves out, have one form.
+/// Canonical texts have one form if the second has the units that the first leaves out.
 pub fn units_may_be_left_out()
     ensures { (r : RulesParts) (level : Level) (first second bytes : List ℕ) (a : Crs) →
         IsCanonicalOf level first first → IsCanonicalOf level second second →

@@ -23,7 +23,7 @@ pub struct Uncounted {
     pub ensembles: bool,
     /// The order of axes: they are put in order of their texts, without `ORDER`.
     pub axis_order: bool,
-    /// Whether a prime meridian leaves out its unit: one that isn't at 0 gets that of its base CRS, or that all axes have
+    /// Whether a prime meridian leaves out its unit: one that isn't at 0 gets the unit of its base CRS, or the one that all axes have
     /// that are angles.
     pub meridian_units: bool,
 }

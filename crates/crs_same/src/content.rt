@@ -113,15 +113,15 @@ pub enum Content<'b, 'a> {
     Meridian(Borrowed<'b, AxisMeridian<'a>>),
     /// A deformation model.
     Model(Borrowed<'b, DeformationModel<'a>>),
-    /// Identifiers, and those of the other CRS.
+    /// Identifiers, and the other CRS's.
     Identifiers(Members<'b, Ident<'a>>, Members<'b, Ident<'a>>),
-    /// Usages, and those of the other CRS.
+    /// Usages, and the other CRS's.
     Usages(Usages<'b, 'a>, Usages<'b, 'a>),
-    /// Members of an ensemble, and those of the other CRS.
+    /// Members of an ensemble, and the other CRS's.
     Members(Members<'b, Member<'a>>, Members<'b, Member<'a>>),
-    /// Parameters of a conversion, and those of the other CRS.
+    /// Parameters of a conversion, and the other CRS's.
     Parameters(Members<'b, Parameter<'a>>, Members<'b, Parameter<'a>>),
-    /// Geoid models, and those of the other CRS.
+    /// Geoid models, and the other CRS's.
     GeoidModels(Members<'b, GeoidModel<'a>>, Members<'b, GeoidModel<'a>>),
 }
 

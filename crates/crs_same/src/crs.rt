@@ -257,7 +257,7 @@ pub fn differences<'b, 'a>(
 }
 
 /// Whether two CRSs are the same at a level: of one kind, and with the same parts. Profile; the defaults of an
-/// ellipsoid's unit and of a prime meridian are those of ISO 19162:2019, "Ellipsoid" and "Prime meridian".
+/// ellipsoid's unit and of a prime meridian are the standard's. ISO 19162:2019, "Ellipsoid" and "Prime meridian".
 pub fn same<'a>(a: &Crs<'a>, b: &Crs<'a>, level: Level) -> bool
     ensures { IsTrue result ↔ SameCrs level a.now b.now }
 {

@@ -156,12 +156,12 @@ pub fn no_part_differs_where_same()
 
 // ---- the two levels
 
-/// CRSs that are the same with everything that counts are the same by definition.
+/// CRSs that are the same at level `full` are the same at level `definition`.
 pub fn same_crs_is_same_by_definition()
     ensures { (a b : Crs) → SameCrs levels.Full a b → SameCrs levels.Definition a b }
 {}
 
-/// The first part in which CRSs differ by definition is neither identifiers, usages nor a remark.
+/// The first part in which CRSs differ at level `definition` is neither identifiers, usages nor a remark.
 pub fn first_part_is_of_definition()
     ensures { (a b : Crs) (path : List Step) → FirstInCrs levels.Definition a b (Some path) → Each IsOfDefinition path }
 {}

@@ -16,7 +16,7 @@ ghost use Rattle.crs_shape.specs.ShapeFault.{IsFree, IsOnly, Inside, AtRoot, cla
 use crs_text::{ItemKind, laws};
 
 /// In every row of the tables each slot has a class, and no class of an optional or repeated slot is in a later slot
-/// that can be reached over optional slots alone.
+/// that can be reached over only optional slots.
 pub fn tables_are_apart()
     ensures { (class : Class) → IsTrue (is_apart (slots_of class)) }
 {}
@@ -84,7 +84,7 @@ pub fn fault_is_within()
 {}
 
 /// An allowed list has at least as many arguments of some classes as there are slots that are required
-/// for them alone, and, where no such slot takes many, at most as many as there are slots that take them.
+/// only for them, and, if no such slot takes many, at most as many as there are slots that take them.
 pub fn slots_count()
     ensures least { (test : Class → Bool) (slots : List SlotParts) (classes : List Class) →
         Allowed slots classes → least test slots ≤ how_many test classes }

@@ -1,6 +1,6 @@
-//! The rows of the tables: for each class its keywords, of which the first is the one that is written, and its slots.
+//! The rows of the tables: for each class its keywords, the first is written, and its slots.
 //! Macros make each table, and the walk that judges each class, from these rows, so that a class's keywords and slots
-//! are written here alone. Their inverse, the classes of a keyword, stands in keyword.rt and is proved to agree.
+//! are written only here. Their inverse, the classes of a keyword, is in keyword.rt and is proved to agree.
 
 /// The row of a class, named as `Class` names it: calls the macro `$table` with `$with`, the class's keywords and its
 /// slots. A slot is for `one` argument, `optional` (none or one), `some` (one or more) or `any` (any number, none

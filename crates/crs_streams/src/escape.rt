@@ -7,7 +7,7 @@ use bstr::{ByteSlice, ByteVec};
 use std::alloc::AllocError;
 
 /// Appends a text as a line shows it: backslashes are escaped, and what steers a terminal, ends a line, turns a text
-/// or shows as a blank or as nothing, as `\\`, `\n`, `\x1B` and `\u202E`; what is no UTF-8 is U+FFFD. `AllocError`: there is no memory for it.
+/// or shows as a blank or as nothing, such as `\\`, `\n`, `\x1B` and `\u202E`; what is no UTF-8 is U+FFFD. `AllocError`: there is no memory for it.
 pub fn append_escaped(bytes: &[u8], out: &mut Vec<u8>) -> Result<(), AllocError>
     ensures { OnOk result (out.new.items ≡ out.old.items ++ escaped bytes.now) }
 {
@@ -75,7 +75,7 @@ fn append_byte(byte: u8, out: &mut Vec<u8>) -> Result<(), AllocError>
     }
 }
 
-/// Appends a character by its code, as `\u202E`.
+/// Appends a character by its code, such as `\u202E`.
 pub(crate) fn append_code(code: u16, out: &mut Vec<u8>) -> Result<(), AllocError>
     ensures { OnOk result (out.new.items ≡ out.old.items ++ (codes "\\u" ++ hex_byte (code / 256) ++ hex_byte (code % 256))) }
 {

@@ -10,7 +10,7 @@ use std::marker::Model;
 
 /// A reader that asks another one until the room is full: a pipe gives what was written last, often a line, and a run
 /// makes a bounded number of reads. Once the other one has shown its end, it isn't asked again. Where it fails after
-/// some bytes these are handed on, and the failure is answered at the next read.
+/// some bytes, they come first, and the next read fails.
 #[derive(Drop)]
 pub struct Filling<R: Read> {
     reader: R,

@@ -11,8 +11,8 @@ use bstr::{ByteSlice, ByteVec};
 use std::alloc::AllocError;
 
 /// Appends a text as a string, in which a quote and a backslash have a backslash before them, and what steers a
-/// terminal, ends a line, changes the direction of a text or shows as a blank or as nothing is a code, as `\u202E`; or where it isn't UTF-8 as an
-/// object with its bytes by two hexadecimal digits each, as `{"bytes":"FF"}`. `AllocError`: no memory for it.
+/// terminal, ends a line, changes the direction of a text or shows as a blank or as nothing is a code, such as `\u202E`; or where it isn't UTF-8 as an
+/// object with its bytes by two hexadecimal digits each, such as `{"bytes":"FF"}`. `AllocError`: no memory for it.
 pub fn append_text(bytes: &[u8], out: &mut Vec<u8>) -> Result<(), AllocError>
     ensures { OnOk result (out.new.items ≡ out.old.items ++ json_text bytes.now) }
 {
@@ -33,7 +33,7 @@ pub fn append_text_or_null(bytes: &[u8], out: &mut Vec<u8>) -> Result<(), AllocE
     append_text(bytes, out)
 }
 
-/// Appends the name of a further member of an object, as `,"name":`. `AllocError`: there is no memory for it.
+/// Appends the name of a further member of an object, such as `,"name":`. `AllocError`: there is no memory for it.
 #[tactic(auto, using(crate::proofs::JsonLemmas::key_appended))]
 pub fn append_key(name: &[u8], out: &mut Vec<u8>) -> Result<(), AllocError>
     ensures { OnOk result (out.new.items ≡ out.old.items ++ key name.now) }

@@ -1,5 +1,5 @@
 //! The streams of a run: a source, a stream and a sink that remember failures, and count their reads, the lines of
-//! bytes, texts as one line shows them and in JSON, the line that tells a refusal, and the fault with which a run ends.
+//! bytes, texts as one line shows them and in JSON, the line of a refusal, and the fault with which a run ends.
 #![tactic(auto)]
 
 mod escape;

@@ -54,7 +54,7 @@ impl Feeder {
     /// word is settled once a byte follows it; a comma, a delimiter and a byte that begins no token at once;
     /// ill-formed UTF-8 once no continuation can be valid.
     ///
-    /// `Refused`: a refusal with a number from 1 to 8 is settled, that of every text that begins so; every
+    /// `Refused`: a refusal with a number from 1 to 8 is settled: every text that begins so has it; every
     /// later call answers it, and no later piece is held. `Memory`: the piece counts as not fed.
     /// Time is linear in the text, however it is cut.
     pub fn feed(&mut self, piece: &[u8]) -> Result<(), Fault>

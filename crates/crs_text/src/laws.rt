@@ -26,7 +26,7 @@ pub fn viability()
         ((IsViableAtAnyDepth (ts ++ opening square ∷ []) × ¬ (IsViable (ts ++ opening square ∷ []))) ↔ IsFull ts) }
 {}
 
-/// Tokens are those of one item at most, and begin with one item at most. Profile.
+/// Tokens spell at most one item, and begin with at most one item. Profile.
 pub fn one_item()
     ensures node { (ts : List Token) (i j : Item) → AreNode i ts → AreNode j ts → i ≡ j }
     ensures front { (i j : Item) (a b : List Token) → BeginsNoNode a → BeginsNoNode b →
@@ -73,7 +73,7 @@ pub fn worked_examples()
     ensures settled { AreSettledRows }
 {}
 
-/// A refusal that is settled is that of the text and of every text that begins so; bytes have one at most. Profile.
+/// A settled refusal is the refusal of the text and of every text that begins so; bytes have at most one. Profile.
 pub fn settled_refusals()
     ensures refusal { (bytes : List ℕ) (n place : ℕ) → IsSettledRefusal bytes n place → RefusesText bytes n place }
     ensures one { (bytes : List ℕ) (n m place other : ℕ) →

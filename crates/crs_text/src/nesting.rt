@@ -56,7 +56,7 @@ fn innermost(text: &[u8], place: usize) -> Option<usize>
 }
 
 /// The place of the innermost delimiter that is open where a text is refused, with this place and a
-/// number from 1 to 8: most likely that of the node to repair. None: none is open there.
+/// number from 1 to 8: most likely the node to repair. None: none is open there.
 ///
 /// It takes no memory; time is linear in the text. At the end of a text that is a node, none is open.
 /// For any other place nothing is promised. Profile.

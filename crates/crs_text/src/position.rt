@@ -58,7 +58,7 @@ fn first_line(bytes: &[u8]) -> usize
 
 /// Where this place of the text is; the text's end is a place too.
 ///
-/// A line ends at a line feed alone: a carriage return is a character of its line. A byte from 128 to
+/// A line ends only at a line feed: a carriage return is a character of its line. A byte from 128 to
 /// 191 continues a character, and isn't counted. Time is linear in the text. Profile.
 pub fn position_of(text: &[u8], place: usize) -> Position
     requires { place ≤ length text.now }

@@ -175,7 +175,7 @@ fn ends_word(byte: u8) -> bool
     }
 }
 
-/// How many bytes of a word come first, if they are fewer than sixteen and letters alone.
+/// How many bytes of a word come first, if they are fewer than sixteen, all letters.
 #[inline(always)]
 pub(crate) fn letters_length(left: &[u8]) -> Option<usize>
     ensures { IfSome result (λ n. n ≡ prefix_len tokens.is_word_byte left.now) }

@@ -297,7 +297,7 @@ pub fn read_items<'a>(alloc: Global, text: &'a [u8]) -> Result<Items<'a>, Fault>
     items_in(Table::new(rows), text, after_white(text, 0))
 }
 
-/// The items of a text, of which the table shows those before this place.
+/// The items of a text; the table shows the items before this place.
 #[inline(always)]
 pub(crate) fn items_in<'a>(mut table: Table, text: &'a [u8], at: usize) -> Result<Items<'a>, Fault>
     requires { IsReached text.now table at }

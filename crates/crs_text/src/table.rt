@@ -264,7 +264,7 @@ impl Table {
         true
     }
 
-    /// Whether the tokens so far are those of one whole node.
+    /// Whether the tokens so far are one whole node.
     pub(crate) fn is_whole(&self) -> bool
         ensures { result ≡ is_whole self.now }
     {
@@ -280,7 +280,7 @@ impl Table {
         Ok(Table { rows, ..*self })
     }
 
-    /// The rows alone.
+    /// Only the rows.
     pub(crate) fn into_rows(self) -> Vec<Row>
         ensures { result.items ≡ self.rows }
     {

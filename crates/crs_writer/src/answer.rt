@@ -21,7 +21,7 @@ use std::mem;
 /// same. Two answers at one level have equal bytes exactly where the two texts spell the same CRS
 /// (`crs_canon::laws::answers_are_equal_where_same`).
 ///
-/// `Refused`: the text spells no CRS; number and place are those of `read`. `Memory`: there is no memory for it. Profile.
+/// `Refused`: the text spells no CRS; number and place are as `read` gives them. `Memory`: there is no memory for it. Profile.
 pub fn canon(alloc: Global, text: &[u8], level: Level) -> Result<Canon, Fault>
     ensures answer { MatchResult result (λ canon. IsCanonicalOf level text.now canon.bytes) (IsFaultOfText text.now) }
     ensures level { IfOk result (λ canon. canon.level ≡ level) }

@@ -1,4 +1,4 @@
-//! Members of sets: those of a value, or those that are read from items.
+//! Members of sets: of a value, or read from items.
 ghost use Rattle.std.specs.Prelude.{◌≡◌, ◌<◌, [], ℕ, IfSome, IsTrue, List, MatchOption, OnOk, length};
 ghost use Rattle.crs_text.specs.Items.{Item};
 ghost use Rattle.crs_shape.specs.declared.class.Class.{Class};

@@ -1,4 +1,4 @@
-//! Values that are spelled, and parts of nodes: those of a value, or those that are read from an item. Of each part it is
+//! Values that are spelled, and parts of nodes: of a value, or read from an item. Of each part it is
 //! known which values it may say, and the text of any of them is what is appended.
 ghost use Rattle.std.specs.Prelude.{◌≡◌, ◌∷◌, ◌++◌, [], List, OnOk, Option, Some, ℕ};
 ghost use Rattle.crs_decimal.specs.Numbers.{plain, Value};
@@ -24,7 +24,7 @@ pub trait Spell: Sized {
     /// The spelling of a value.
     ghost spelling: { Level → Self → List ℕ };
 
-    /// Appends the spelling of the value. `AllocError`: there is no memory for it, and nothing is said of `out`.
+    /// Appends the spelling of the value. `AllocError`: there is no memory for it, and `out` may have anything.
     fn spell(&self, out: &mut Vec<u8>, level: Level) -> Result<(), AllocError>
         ensures { OnOk result (out.new.items ≡ out.old.items ++ spelling level self.now) };
 }

@@ -1,4 +1,4 @@
-//! Writers: each appends the text of the one form of a node to `out`, of the node's parts, which are those of a value or
+//! Writers: each appends the text of the one form of a node to `out`, of the node's parts, which are parts of a value or
 //! are read from an item. Out of memory, nothing is promised of `out`; the public calls cut it back.
 
 pub(crate) mod conversion;

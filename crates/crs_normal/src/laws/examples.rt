@@ -3,8 +3,8 @@ ghost use Rattle.crs_normal.specs.inner.Examples.{AreNormal, AreNormalAtFullAlon
 
 use crate::laws::lower::lower_laws;
 
-/// Some texts are normal, one of which spells no CRS; those that differ from one of them in a point aren't. Some are
-/// normal by definition; those that also have an identifier, a usage or a remark are normal at the full level alone.
+/// Some texts are normal, one of them spells no CRS; texts that differ from one of them in a point aren't. Some are
+/// normal at level `definition`; with an identifier, a usage or a remark they are normal only at level `full`.
 pub fn worked_examples()
     ensures normal { AreNormal }
     ensures beyond { NameAloneIsNormal }

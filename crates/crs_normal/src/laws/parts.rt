@@ -65,7 +65,7 @@ pub fn identifiers_are_canonical()
     part_laws!()
 }
 
-/// The spellings of units, of which `UNIT` is a kind of its own. Profile.
+/// The spellings of units; `UNIT` is a kind of its own. Profile.
 pub fn units_are_canonical()
     ensures { AreWrittenForms IsUnit (SameUnit kinds.Plain) IsSpelledUnit unit_text }
 {
@@ -82,7 +82,7 @@ pub fn frame_parts_are_canonical()
     part_laws!()
 }
 
-/// The spellings of axes with their own orders and units, of which `UNIT` is a kind of its own. Profile.
+/// The spellings of axes with their own orders and units; `UNIT` is a kind of its own. Profile.
 pub fn axes_are_canonical()
     ensures { AreWrittenForms IsAxis SameAxisAlone IsSpelledAxis axis_text }
 {

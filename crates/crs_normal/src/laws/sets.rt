@@ -33,7 +33,7 @@ pub fn texts_are_in_order()
 {}
 
 /// Identifiers, members of ensembles, parameters, geoid models and usages that are put in order stay so when that is
-/// done again, and functions that agree on each of a list agree on those of the list in order. Profile.
+/// done again, and functions that agree on each of a list agree on each of the list in order. Profile.
 pub fn ordered_lists_stay()
     ensures identifiers { StaysInOrder (λ (ident : IdentParts). item_text (item_ident ident)) }
     ensures members { StaysInOrder (λ (member : MemberParts). item_text (item_member member)) }
@@ -42,7 +42,7 @@ pub fn ordered_lists_stay()
     ensures usages { StaysInOrder (λ (usage : UsageParts). item_text (item_usage usage)) }
 {}
 
-/// What each of some parameters in their one form passes, each of their set passes, and the other way round. Profile.
+/// Each of some parameters in their one form passes exactly if each of their set does. Profile.
 pub fn sets_of_parameters_have_each()
     ensures { (level : Level) (test : ParameterParts → Bool) (xs : List ParameterParts) → Each IsParameter xs →
         list_all test (set_parameters level xs) ≡ list_all test (map (norm_parameter level) xs) }

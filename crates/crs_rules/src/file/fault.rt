@@ -15,7 +15,7 @@ pub(crate) const OTHER_CLASS: u8 = 43;
 
 pub(crate) const REPEATED: u8 = 44;
 
-/// The first refused line of a rules file: its number, from 1, that of the refusal, and the place in it, in bytes.
+/// The first refused line of a rules file: its number, from 1, the number of the refusal, and the place in it, in bytes.
 #[derive(Clone, Copy, Debug)]
 pub struct RulesRefusal {
     /// The line.

@@ -35,7 +35,7 @@ pub fn read_rules_are_steady()
 }
 
 /// The order of statements says nothing, nor does which of some files they stand in: files with the same lines in
-/// another order are read too, to rules that differ in order alone, and texts have the same forms under them.
+/// another order are read too, to rules that differ only in order, and texts have the same forms under them.
 pub fn order_of_lines_is_nothing()
     ensures rules { (files others : List (List ℕ)) (s : Reading) → AreReordered files others →
         Over ReadsFile start files s → (t : Reading) × Over ReadsFile start others t × DifferInOrder s.rules t.rules }

@@ -35,7 +35,7 @@ pub fn same_unit_is_equivalence()
     same_idents_is_equivalence();
 }
 
-/// Sameness of units of length, of which a missing one is the metre, is an equivalence.
+/// Sameness of units of length, a missing one being the metre, is an equivalence.
 pub fn same_length_is_equivalence()
     ensures { (level : Level) → IsSameness (SameLength level) }
 {

@@ -1,4 +1,4 @@
-//! The checks that a node breaks by itself: of words, of numbers, and of what stands in it.
+//! The checks that a node breaks by itself: of words, of numbers, and of its content.
 ghost use Rattle.std.specs.Prelude.{◌≡◌, ◌≤◌, IsTrue, ◌↔◌, None};
 ghost use Rattle.std.specs.List.{find};
 ghost use Rattle.crs_text.specs.Items.{HasId, arguments};

@@ -55,7 +55,7 @@ pub fn kind_of(items: &Items<'_>) -> Result<Kind, Refusal>
 
 /// The value that the items of a text spell, with the text's bytes borrowed.
 ///
-/// `Refused`: the items spell no value. The number is 11 to 13 for a fault of shape; else it is that of the check that
+/// `Refused`: the items spell no value. The number is 11 to 13 for a fault of shape; else it is the number of the check that
 /// is broken first, from 21 on: the lowest number, and of these the least place. `Memory`: memory for a list was
 /// refused. Time is linear in the items. ISO 19162:2019, "Coordinate reference systems"; the checks are the profile's.
 pub fn value_of<'a>(alloc: Global, items: &Items<'a>) -> Result<Crs<'a>, Fault>
@@ -73,7 +73,7 @@ pub fn value_of<'a>(alloc: Global, items: &Items<'a>) -> Result<Crs<'a>, Fault>
 /// The value that a text spells, with its bytes borrowed.
 ///
 /// `Refused`: the text spells no value. The number is 1 to 8 for a fault of the text; else 11 to 13 for a
-/// fault of shape; else it is that of the check that is broken first, from 21 on. The place counts bytes
+/// fault of shape; else it is the number of the check that is broken first, from 21 on. The place counts bytes
 /// from 0. `Memory`: memory for the items or for a list was refused. Time is linear in the text.
 /// ISO 19162:2019, "Coordinate reference systems"; the limits and the checks are the profile's.
 pub fn read<'a>(alloc: Global, bytes: &'a [u8]) -> Result<Crs<'a>, Fault>

@@ -16,7 +16,7 @@ use std::alloc::Global;
 use std::marker::Model;
 
 /// A conversion, `CONVERSION[name, method, parameter.., id..]`: how projected coordinates come from
-/// those of the base CRS. ISO 19162:2019, "Map projection conversion".
+/// the units of the base CRS. ISO 19162:2019, "Map projection conversion".
 pub struct Conversion<'a> {
     /// The name.
     pub name: &'a [u8],

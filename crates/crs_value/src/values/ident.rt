@@ -1,4 +1,4 @@
-//! Identifiers, and values that have a name and identifiers alone.
+//! Identifiers, and values that have only a name and identifiers.
 ghost use Rattle.std.specs.Prelude.{◌≡◌, IsTrue, IfOk};
 ghost use Rattle.std.specs.Option.{option_copied};
 ghost use Rattle.crs_text.specs.Items.{arguments, skip};
@@ -156,7 +156,7 @@ const GEOID_MODEL: u8 = 2;
 
 const DEFORMATION_MODEL: u8 = 3;
 
-/// A value that has a name and identifiers alone. Each kind of it is a type of its own: `Method` and others. Profile.
+/// A value that has only a name and identifiers. Each kind of it is a type of its own: `Method` and others. Profile.
 #[derive(Drop)]
 pub struct Named<'a, const KIND: u8> {
     /// The name.

@@ -8,7 +8,7 @@ ghost use Rattle.crs_value.specs.Kept.{kept, kept_one};
 pub enum Level {
     /// Everything that the text says.
     Full,
-    /// The definition alone: everything but identifiers, usages and remarks.
+    /// Only the definition: everything but identifiers, usages and remarks.
     Definition,
 }
 

@@ -228,7 +228,7 @@ impl<'i, 'a> Node<'i, 'a> {
         }
     }
 
-    /// The kind that a unit's keyword says, which its first letter tells. Profile.
+    /// The kind of a unit's keyword, known by its first letter. Profile.
     pub fn kind(&self) -> UnitKind
         ensures { (kind : UnitKind) → ReadsKind (item self.now) kind → kind ≡ result }
     {

@@ -1,4 +1,4 @@
-//! Identifiers, nodes that have a name and identifiers alone, units, and nodes of a number in a unit.
+//! Identifiers, nodes that have only a name and identifiers, units, and nodes of a number in a unit.
 ghost use Rattle.std.specs.Prelude.{◌≡◌, ◌∷◌, ◌++◌, [], ℕ, List, OnOk, Option, Some, map};
 ghost use Rattle.std.specs.Option.{option_copied};
 ghost use Rattle.crs_decimal.specs.Numbers.{Value};
