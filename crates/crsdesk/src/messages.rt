@@ -1,4 +1,4 @@
-//! Lines on standard error. A failure of standard error itself can't be told.
+//! Lines on standard error. A failure of standard error itself can't be reported.
 use crate::fault::Fault;
 use crs_desk::append_escaped;
 use std::alloc::{AllocError, Global};
@@ -14,7 +14,7 @@ pub fn tell_of<D: Display + Drop>(rt: &HostRuntime, name: &str, what: D) {
     tell(rt, name, ": ", what);
 }
 
-/// What is told of a name, after these words; by itself where there is no memory for the name.
+/// The message on a name, after these words; only the words if there is no memory for the name.
 pub fn tell<D: Display + Drop>(rt: &HostRuntime, name: &str, words: &str, what: D) {
     let mut shown = Vec::new(rt.alloc());
     if append_escaped(name.as_bytes(), &mut shown).is_ok() {
@@ -93,7 +93,7 @@ pub fn is_marked(word: &str) -> bool {
     word.starts_with(MARK)
 }
 
-/// Tells of a file whose name isn't UTF-8, if this is such a name.
+/// Reports a file whose name isn't UTF-8, if this is such a name.
 pub fn tell_marked(rt: &HostRuntime, name: &str) -> bool {
     let Some(shown) = name.strip_prefix(MARK) else {
         return false;
