@@ -76,14 +76,6 @@ def escaped(c: str) -> str:
     return f"\\u{ord(c):04X}" if steers or hides else c
 
 
-def code_points(first: Any, second: Any) -> str:
-    """The code points of the first characters in which two values differ, unless both are ASCII or a value ends."""
-    pair = next((it for it in zip(first or "", second or "") if it[0] != it[1]), ("", ""))
-    if "".join(pair).isascii() or '"' in pair:
-        return ""
-    return " ({} | {})".format(*(f"U+{ord(it):04X}" for it in pair))
-
-
 def explained(told: Dict[str, Any]) -> str:
     """What an object of `explain` says, in lines."""
     if "accepted" in told:
@@ -92,8 +84,9 @@ def explained(told: Dict[str, Any]) -> str:
         return "same\n"
     if "path" in told:
         mark = MARK if "same_by_rules" in told else ""
-        values = told["first"], told["second"]
-        return f"{mark}{shown(told['path'])}: {shown(values[0])} | {shown(values[1])}{code_points(*values)}\n"
+        first, second = told["first"], told["second"]
+        points = rows.code_points(first or "", second or "")
+        return f"{mark}{shown(told['path'])}: {shown(first)} | {shown(second)}{points}\n"
     return refusal(told)
 
 
