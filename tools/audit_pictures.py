@@ -20,13 +20,13 @@ from test_audit_page import browser, many_texts, opened, page_of_many
 
 # Notes of the page: the part beside which each is written, the first that a selector finds with these words.
 NOTES = [
-    ("#unfold", "", "Shows only what contains these words"),
-    (".to-do li", "", "Likely mistakes come first, each with a link"),
+    ("#unfold", "", "Filter: hides what lacks these words"),
+    (".to-do li", "as registered", "Likely mistakes first, each with a link"),
     (".summary tr", "texts", "Damaged texts are refused, not repaired"),
-    (".summary tr", "CRSs", "How many CRSs the texts really have"),
+    (".summary tr", "CRSs", "How many CRSs there really are"),
     (".summary tr", "near misses", "CRSs that look alike and aren't the same"),
     ("#registry h3", "", "A CRS that isn't as its code says"),
-    ("#registry .parts tr", "flattening", "The characters that differ"),
+    ("#registry .parts tr", "flattening", "Marked: what differs"),
 ]
 # Writes a note at the right edge, with a line of dots from where the part's words end.
 NOTE = """
@@ -35,20 +35,20 @@ const part = [...document.querySelectorAll(selector)].find(it => it.textContent.
 const range = document.createRange();
 range.selectNodeContents(part.querySelector('td:last-child') ?? part);
 const box = [...range.getClientRects()].filter(it => it.width).reduce((a, b) => a.right > b.right ? a : b);
-const right = document.querySelector('main').getBoundingClientRect().right;
-const made = document.createElement('div');
-made.textContent = note;
-Object.assign(made.style, {position: 'absolute', top: `${box.top + scrollY + box.height / 2 - 13}px`, right: '0',
-    padding: '3px 8px', background: '#0550ae', color: '#fff', font: '13px/20px sans-serif', borderRadius: '4px'});
 document.body.style.position = 'relative';
-document.body.append(made);
-Object.assign(made.style, {right: `${document.body.getBoundingClientRect().right - right + 6}px`});
-const line = document.createElement('div');
-Object.assign(line.style, {position: 'absolute', top: `${box.top + scrollY + box.height / 2}px`, left: `${box.right + 8}px`,
-    width: `${made.getBoundingClientRect().left - box.right - 12}px`, borderTop: '2px dotted #0550ae'});
-line.style.left = `${box.right + 8 - document.body.getBoundingClientRect().left}px`;
-document.body.append(line);
-return made.getBoundingClientRect().left - box.right;
+const body = document.body.getBoundingClientRect();
+const middle = box.top + box.height / 2 - body.top;
+const put = style => {
+    const made = document.createElement('div');
+    Object.assign(made.style, {position: 'absolute', zIndex: '2', ...style});
+    return document.body.appendChild(made);
+};
+const made = put({top: `${middle - 12}px`, right: '22px', padding: '2px 8px', borderRadius: '4px', background: '#0550ae',
+    color: '#fff', font: '13px/20px sans-serif'});
+made.textContent = note;
+const room = made.getBoundingClientRect().left - box.right - 12;
+put({top: `${middle - 1}px`, left: `${box.right + 8 - body.left}px`, width: `${room}px`, borderTop: '2px dotted #0550ae'});
+return room;
 """
 
 
