@@ -84,7 +84,9 @@ def explained(told: Dict[str, Any]) -> str:
         return "same\n"
     if "path" in told:
         mark = MARK if "same_by_rules" in told else ""
-        return f"{mark}{shown(told['path'])}: {shown(told['first'])} | {shown(told['second'])}\n"
+        first, second = told["first"], told["second"]
+        points = rows.code_points(first or "", second or "")
+        return f"{mark}{shown(told['path'])}: {shown(first)} | {shown(second)}{points}\n"
     return refusal(told)
 
 
