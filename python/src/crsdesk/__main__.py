@@ -26,14 +26,14 @@ FAULT = 2
 MOST_JOBS = 256
 LEVEL_HELP = "what counts: full, or definition, without identifiers, usages and remarks (default: full)"
 FILE_HELP = "a file with a text; - is standard input"
-LINES_HELP = "a file has a text a line (docs/CATALOGUES.md)"
-WHOLE_HELP = "a file has one text, as where --lines isn't there"
-CONVERT_HELP = "WKT1, PROJ strings, PROJJSON and codes are read by PROJ, which osgeo or pyproj has (docs/PYTHON.md)"
-SOURCE_HELP = "with --convert: a bound CRS is in the group of its source CRS, told with its transformation"
-LINES_HELP_OF_AUDIT = "it has a text a line, and so has a file of another suffix that is named itself"
-REGISTRY_HELP = "compares the CRSs with those of PROJ's database"
+LINES_HELP = "a file has one text per line (docs/CATALOGUES.md)"
+WHOLE_HELP = "a file has one text, as without --lines"
+CONVERT_HELP = "PROJ, which osgeo or pyproj has, reads WKT1, PROJ strings, PROJJSON and codes (docs/PYTHON.md)"
+SOURCE_HELP = "with --convert: a bound CRS is in the group of its source CRS, listed with its transformation"
+LINES_HELP_OF_AUDIT = "a .txt file has one text per line, and so has a file of another suffix that is named itself"
+REGISTRY_HELP = "compares the CRSs with the registered ones of PROJ's database"
 RULES_HELP = (
-    "a rules file, which says what counts as the same; of several the statements count together (docs/RULES.md)"
+    "a rules file, which says what counts as the same; several files count together (docs/RULES.md)"
 )
 
 
@@ -341,7 +341,7 @@ def parser() -> argparse.ArgumentParser:
         made.add_argument("--level", choices=list(LEVELS), default="full", help=LEVEL_HELP)
         add_rules(made)
 
-    made = command("check", "tells what kind of CRS each text spells, or where it is refused", run_check)
+    made = command("check", "prints what kind of CRS each text spells, or where it is refused", run_check)
     add_files(made)
     add_rules(made)
 
@@ -351,7 +351,7 @@ def parser() -> argparse.ArgumentParser:
     add_files(made)
     add_level(made)
 
-    made = command("same", "tells whether two files spell the same CRS, or the first part that differs", run_same)
+    made = command("same", "prints whether two files spell the same CRS, or the first part that differs", run_same)
     made.add_argument("first", metavar="FILE", help=FILE_HELP)
     made.add_argument("second", metavar="FILE", help=FILE_HELP)
     made.add_argument("--all", action="store_true", help="each part that differs, with both values")
@@ -379,7 +379,7 @@ def parser() -> argparse.ArgumentParser:
     made.add_argument("--registry", action="store_true", help=REGISTRY_HELP)
     made.add_argument("--html", metavar="FILE", help="writes the report as a page")
     made.add_argument("--json", metavar="FILE", help="writes it as data (docs/audit.schema.json)")
-    made.add_argument("--csv", metavar="FILE", help="writes a row a text")
+    made.add_argument("--csv", metavar="FILE", help="writes one row per text")
     made.add_argument("--jobs", type=jobs, metavar="N", help="processes that read files (default: the number of cores)")
     return whole
 

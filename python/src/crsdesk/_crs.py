@@ -172,7 +172,7 @@ def rules_of(rules: Optional[Rules], *texts: Text) -> Optional[Rules]:
     for text in texts:
         if isinstance(text, Crs) and text.rules is not None:
             if rules is not None and rules != text.rules:
-                raise ValueError("a Crs is compared under its own rules alone; hand over its text, or Crs(crs.text)")
+                raise ValueError("a Crs is compared only under its own rules; pass its text, or Crs(crs.text)")
             rules = text.rules
     return rules
 
