@@ -6,6 +6,7 @@ ghost use Rattle.crs_explain.specs.InOrder.{AreOrderedTexts, has_step_from, is_o
 ghost use Rattle.crs_explain.specs.Json.{difference_members, difference_object};
 ghost use Rattle.crs_same.specs.SameCrs.{SameCrs};
 
+use crate::code_points::append_code_points;
 use crate::difference_texts::{DifferenceTexts, append_texts};
 use crate::laws::nothing_is_told_where_same;
 use crate::names::Name;
@@ -49,7 +50,8 @@ pub fn ordered_parts<'a>(
 
 /// A line for each part that differs, `PATH: FIRST | SECOND` and a line feed: the values of the first CRS and of the
 /// second, `none` if there are no bytes. Control characters, ends of lines, marks of direction and backslashes are
-/// escaped, such as `\n`, `\x1B`, `\u202E` and `\\`. `AllocError`: there is no memory for it.
+/// escaped, such as `\n`, `\x1B`, `\u202E` and `\\`. If the first characters in which the values differ aren't both
+/// ASCII, their code points follow, such as ` (U+0410 | U+0041)`. `AllocError`: there is no memory for it.
 pub fn difference_lines(alloc: Global, differences: &[DifferenceTexts]) -> Made<Vec<u8>>
     ensures { IfOk result (λ lines. lines.items ≡ flat_map difference_line differences.now) }
 {
@@ -82,6 +84,7 @@ pub fn append_difference_line(difference: &DifferenceTexts, out: &mut Vec<u8>) -
     append_value(&difference.first, out)?;
     out.extend_from_slice(b" | ")?;
     append_value(&difference.second, out)?;
+    append_code_points(&difference.first, &difference.second, out)?;
     out.extend_from_slice(b"\n")
 }
 

@@ -3,6 +3,7 @@
 //! that differs. Each is one text for a person, and pieces or an object of JSON for a program.
 #![tactic(auto)]
 
+mod code_points;
 mod difference_texts;
 mod differences;
 mod excerpt;

@@ -27,17 +27,24 @@ pub fn tell<D: Display + Drop>(rt: &HostRuntime, name: &str, words: &str, what: 
 
 /// `clap`'s text of a wrong command line, in which the words that it repeats are escaped.
 pub fn tell_usage(rt: &HostRuntime, error: &clap::Error) {
-    let Ok(text) = format!(in rt.alloc(); "{error}") else {
+    if let Ok(shown) = usage_shown(rt.alloc(), error)
+        && let Ok(text) = str::from_utf8(&shown)
+    {
+        let _ = eprint!(rt; "{text}");
+    } else {
         let _ = error.print(rt);
-        return;
-    };
-    for line in text.lines() {
-        let mut shown = Vec::new(rt.alloc());
-        if append_escaped(line.as_bytes(), &mut shown).is_ok() {
-            let shown = str::from_utf8(&shown).unwrap_or(line);
-            let _ = eprintln!(rt; "{shown}");
-        }
     }
+}
+
+// Each line escaped; the line feeds stay.
+fn usage_shown(alloc: Global, error: &clap::Error) -> Result<Vec<u8>, AllocError> {
+    let text = format!(in alloc; "{error}")?;
+    let mut shown = Vec::new(alloc);
+    for line in text.lines() {
+        append_escaped(line.as_bytes(), &mut shown)?;
+        shown.push(b'\n')?;
+    }
+    Ok(shown)
 }
 
 /// The words behind the program's name, also those that aren't UTF-8.

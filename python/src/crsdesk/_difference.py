@@ -5,7 +5,7 @@ from __future__ import annotations
 from dataclasses import dataclass
 from typing import List, Optional, Sequence
 
-from ._shown import escaped
+from ._shown import code_points, escaped
 
 NOTHING = "none"
 
@@ -22,7 +22,7 @@ class Difference:
     ``second``  the same of the second CRS
 
     ``str`` of it is a line such as ``datum/kind: ENSEMBLE | DATUM``; a missing value is ``none``, control characters
-    and backslashes are escaped, such as ``\\n`` and ``\\x1B``.
+    and backslashes are escaped, such as ``\\n`` and ``\\x1B``, and code points follow values that may print alike.
     """
 
     path: str
@@ -30,7 +30,8 @@ class Difference:
     second: Optional[str]
 
     def __str__(self) -> str:
-        return f"{escaped(self.path)}: {escaped(self.first or NOTHING)} | {escaped(self.second or NOTHING)}"
+        points = code_points(self.first or "", self.second or "")
+        return f"{escaped(self.path)}: {escaped(self.first or NOTHING)} | {escaped(self.second or NOTHING)}{points}"
 
 
 def differences_of(pieces: Sequence[str]) -> List[Difference]:
