@@ -33,7 +33,7 @@ SOURCE_HELP = "with --convert: a bound CRS is in the group of its source CRS, li
 LINES_HELP_OF_AUDIT = "a .txt file has one text per line, and so has a file of another suffix that is named itself"
 REGISTRY_HELP = "compares the CRSs with the registered ones of PROJ's database"
 RULES_HELP = (
-    "a rules file, which says what counts as the same; several files count together (docs/RULES.md)"
+    "a rules file, which says what counts as the same; of several the statements count together (docs/RULES.md)"
 )
 
 
@@ -304,7 +304,7 @@ def has_proj() -> bool:
 
 
 def rules_of(names: List[str]) -> Optional[Rules]:
-    """The rules of files; None if none is named."""
+    """The rules of files; None where none is named."""
     return Rules.from_file(*names) if names else None
 
 
