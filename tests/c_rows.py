@@ -219,7 +219,8 @@ class Asker:
         assert same.value == (path[1] == b"") == (canons[0] == canons[1]) == (pieces == [])
         assert not path[1] or lines[1].startswith((path[1] + b": ", path[1] + b'["'))
         shown = [it or b"none" for it in pieces]
-        whole = b"".join(b"%s: %s | %s\n" % part for part in zip(pieces[::3], shown[1::3], shown[2::3]))
+        parts = zip(pieces[::3], shown[1::3], shown[2::3])
+        whole = b"".join(b"%s: %s | %s%s\n" % (*it, rows.code_points(it[1].decode(), it[2].decode()).encode()) for it in parts)
         assert len(pieces) % 3 == 0 and (b"\\" in lines[1] or whole == lines[1])
         return path, lines[1]
 

@@ -1,13 +1,15 @@
-"""The words of a page that are written by hand, and what isn't plain English in it.
+"""The words of a page that are written by hand, and what isn't plain English in it, and in comments of the sources.
 
 A word is what has no blank in it, and a letter or a digit: so do the words of code and tables count, and bars don't. What a
 tool writes doesn't count: the pages of GENERATED, and what is between the lines that BEGIN and END. Prose is a page without
-its blocks of code, code in lines and targets of links.
+its blocks of code, code in lines and targets of links; and a source's comments, each paragraph in one line: ``///`` and
+``//!`` of Rattle, docstrings and ``#`` of Python, ``/* */`` of C.
 
     pages.py        prints the words of each page
 """
 from __future__ import annotations
 
+import ast
 import pathlib
 import re
 import sys
@@ -66,9 +68,23 @@ def prose_of(path: pathlib.Path) -> str:
     return re.sub(r"`[^`\n]*`", "`", re.sub(r"\]\([^)]*\)", "]", text))
 
 
-def found_in(path: pathlib.Path, habit: str) -> List[str]:
-    """Each place of a page where a habit shows, with some words around it."""
-    text = prose_of(path)
+def comments_of(path: pathlib.Path) -> str:
+    """The prose of a source's comments, each paragraph in one line."""
+    text = path.read_text(encoding="utf-8")
+    if path.suffix == ".rt":
+        parts = [re.sub(r"^ *//[/!]", "", it, flags=re.M) for it in re.findall(r"(?:^ *//[/!].*\n)+", text, re.M)]
+    elif path.suffix == ".py":
+        named = (ast.Module, ast.ClassDef, ast.FunctionDef, ast.AsyncFunctionDef)
+        parts = [ast.get_docstring(it) or "" for it in ast.walk(ast.parse(text)) if isinstance(it, named)]
+        parts += [re.sub(r"^ *#", "", it, flags=re.M) for it in re.findall(r"(?:^ *#.*\n)+|(?<=  )#.*", text, re.M)]
+    else:
+        parts = re.findall(r"/\*(.*?)\*/", text, re.S)
+    lines = [" ".join(it.split()) for part in parts for it in re.split(r"\n\s*\n", part)]
+    return re.sub(r"`[^`]*`", "`", "\n".join(it for it in lines if not it.startswith(">>>")).replace("``", "`"))
+
+
+def found_in(text: str, habit: str) -> List[str]:
+    """Each place of a prose where a habit shows, with some words around it."""
     return [text[max(0, it.start() - 30) : it.end() + 20] for it in re.finditer(HABITS[habit][0], text, re.I)]
 
 

@@ -61,10 +61,11 @@ SECONDS = 600
 SECONDS_IN_TURN = 60
 ESCAPE = re.compile(rb"\\(?:x([0-9a-f]{2})|\{([^}]*)\}|(.))")
 PLAIN = {b"n": b"\n", b"r": b"\r", b"t": b"\t", b"\\": b"\\"}
-# A line that tells a difference: a mark, or none, its path, in which the name of a member may have any characters, and both
-# values.
+# A line that tells a difference: a mark, or none, its path, in which the name of a member may have any characters, both
+# values, and the code points behind them.
 MARK = rb"(?:the same by the rules: )?"
-TOLD = re.compile(rb"^(" + MARK + rb'[^:\[\n]*(?:\["(?:[^"\n]|"")*"\][^:\n]*)?): (.*) \| (.*)$', re.MULTILINE)
+VALUES = rb"(.*) \| (?!U\+\w+\)$)(.*?)(?: \((U\+\w+) \| (U\+\w+)\))?$"
+TOLD = re.compile(rb"^(" + MARK + rb'[^:\[\n]*(?:\["(?:[^"\n]|"")*"\][^:\n]*)?): ' + VALUES, re.MULTILINE)
 FLAGS = set(b"exchanged input-by-lines input-in-turn input-unreadable output-any output-full output-closed".split())
 FLAGS |= {b"error-none", b"no-growth"}
 OTHER_SIDE = {b"first": b"second", b"second": b"first"}
@@ -202,7 +203,19 @@ def text_of(text: bytes, names: Dict[bytes, bytes]) -> bytes:
 def exchanged(output: bytes) -> bytes:
     """What is said of two texts, as it is said of the second and the first."""
     output = re.sub(rb"\A(first|second)(?= refused )", lambda match: OTHER_SIDE[match[1]], output)
-    return TOLD.sub(rb"\1: \3 | \2", output)
+    return TOLD.sub(lambda it: b"%s: %s | %s" % it.group(1, 3, 2) + points(it[5], it[4]), output)
+
+
+def points(first: Optional[bytes], second: Optional[bytes]) -> bytes:
+    return b" (%s | %s)" % (first, second) if first and second else b""
+
+
+def code_points(first: str, second: str) -> str:
+    """What stands behind two values that may print alike."""
+    pair = next((it for it in zip(first, second) if it[0] != it[1]), None)
+    if not pair or max(pair) < "\x80" or '"' in pair:
+        return ""
+    return points(*(b"U+%04X" % ord(it) for it in pair)).decode()
 
 
 def read_cases(path: pathlib.Path) -> Iterator[Case]:

@@ -101,9 +101,9 @@ def of_parts(case: rows.Case, parts: str, dialect: Dialect) -> Iterator[Statemen
     lines = [it for it in (case.output or b"").splitlines() if it != b"same"]
     for index, line in enumerate(lines):
         told = rows.TOLD.fullmatch(line)
-        if told is None or b"\\" in line or line.count(b" | ") != 1:
+        if told is None or b"\\" in line or b" | " in told[2]:
             continue
-        path, *values = told.groups()
+        path, *values = told.group(1, 2, 3)
         hexes = ", ".join(dialect.hex(dialect.part(parts, key, index)) for key in ("first", "second"))
         wanted = [b"" if it == b"none" else it for it in values]
         asked = f"SELECT {dialect.part(parts, 'path', index)}, {hexes};"

@@ -297,7 +297,7 @@ def check(program: pathlib.Path, level: Level, files: List[pathlib.Path], a: str
         mark = b"the same by the rules: "
         found[path.startswith(mark)].add(bare(path[len(mark) :] if path.startswith(mark) else path))
     assert (found[False], found[True], status) == (after, marked, int(bool(after))), (whole, level, a, b)
-    turned = rows.TOLD.sub(rb"\1: \3 | \2", told(program, level, files, b, a)[0])
+    turned = rows.exchanged(told(program, level, files, b, a)[0])
     assert output == turned, (whole, level, a, b)
     return len(marked)
 

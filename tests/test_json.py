@@ -62,8 +62,8 @@ def shown(value: Any) -> str:
     return "".join(names.get(c) or escaped(c) for c in value)
 
 
-# Ranges of what shows as a blank or as nothing.
-HIDING = [("\u2000", "\u200d"), ("\u205f", "\u206f"), ("\ufe00", "\ufe0f")]
+# Ranges of what shows as a blank or as nothing, and of marks that compose.
+HIDING = [("\u2000", "\u200d"), ("\u205f", "\u206f"), ("\ufe00", "\ufe0f"), ("\u0300", "\u036f")]
 
 
 def escaped(c: str) -> str:
@@ -72,7 +72,7 @@ def escaped(c: str) -> str:
     steers = (
         "\x80" <= c <= "\x9f" or c in "\u061c\u200e\u200f" or "\u2028" <= c <= "\u202e" or "\u2066" <= c <= "\u2069"
     )
-    hides = c in "\xa0\xad\u034f\u202f\u3000\ufeff" or any(a <= c <= b for a, b in HIDING)
+    hides = c in "\xa0\xad\u202f\u3000\ufeff\u3099\u309a" or any(a <= c <= b for a, b in HIDING)
     return f"\\u{ord(c):04X}" if steers or hides else c
 
 
@@ -84,7 +84,9 @@ def explained(told: Dict[str, Any]) -> str:
         return "same\n"
     if "path" in told:
         mark = MARK if "same_by_rules" in told else ""
-        return f"{mark}{shown(told['path'])}: {shown(told['first'])} | {shown(told['second'])}\n"
+        first, second = told["first"], told["second"]
+        points = rows.code_points(first or "", second or "")
+        return f"{mark}{shown(told['path'])}: {shown(first)} | {shown(second)}{points}\n"
     return refusal(told)
 
 

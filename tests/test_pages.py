@@ -1,4 +1,5 @@
-"""The pages that are in plain English: at most so many words by hand each, and no habit that pages.py lists."""
+"""What is in plain English: pages, each with at most so many words by hand, manual pages and comments of the sources. They
+have no habit that pages.py lists."""
 import re
 
 import pages
@@ -39,6 +40,14 @@ MOST = {
 PATHS = {path.stem: path for path in pages.PAGES}
 # These, and the manual pages.
 PROSE = {name: PATHS[name] for name in MOST} | {it: pages.ROOT / "man" / it for it in ("crsdesk.1", "crsdesk.3")}
+# Sources whose comments are read as English: by crate, the Python package, and the header.
+CRATES = sorted(it for it in (pages.ROOT / "crates").iterdir() if it.name not in {"crs_desk"})
+SOURCES = {it.name: sorted(it.glob("src/**/*.rt")) for it in CRATES} | {
+    "python": sorted((pages.ROOT / "python" / "src").rglob("*.py")),
+    "crsdesk.h": [pages.ROOT / "crates" / "crs_c" / "crsdesk.h"],
+}
+# Places that their crate's next change mends.
+LEFT = {("sets.rt", "the noun")}
 # The most words of all pages.
 MOST_WORDS = 28_000
 # How often "where" may stand in all of them: as "if" it is a habit, which no pattern tells from a place.
@@ -62,7 +71,15 @@ def test_every_page() -> None:
 @pytest.mark.parametrize("habit", pages.HABITS)
 @pytest.mark.parametrize("name", PROSE)
 def test_habit(name: str, habit: str) -> None:
-    assert not pages.found_in(PROSE[name], habit), f"better: {pages.HABITS[habit][1]}"
+    assert not pages.found_in(pages.prose_of(PROSE[name]), habit), f"better: {pages.HABITS[habit][1]}"
+
+
+@pytest.mark.parametrize("name", SOURCES)
+def test_comments(name: str) -> None:
+    texts = {path: pages.comments_of(path) for path in SOURCES[name]}
+    assert "".join(texts.values())
+    places = [(path.name, habit, it) for path in texts for habit in pages.HABITS for it in pages.found_in(texts[path], habit)]
+    assert not [it for it in places if it[:2] not in LEFT], "pages.py has what is better"
 
 
 def test_where() -> None:

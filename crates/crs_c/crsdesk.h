@@ -180,7 +180,8 @@ uint32_t crsdesk_first_part(const char *first, size_t first_length, const char *
 
    The line of the set, if others differ, comes after these. Values are spelled as in the canonical text; control
    characters, line ends, direction marks and backslashes in quoted texts and in names are escaped, such as `\n`,
-   `\x1B`, `\u202E` and `\\`. There are no lines exactly if the CRSs are the same.
+   `\x1B`, `\u202E` and `\\`. If the first characters in which two values differ aren't both ASCII, their code points
+   follow, such as ` (U+0410 | U+0041)`. There are no lines exactly if the CRSs are the same.
 
    CRSDESK_OK: each text spells a CRS; the buffer begins with the lines, *length is their number of bytes.
    CRSDESK_REFUSED: the first spells none; *refusal says why. The second wasn't checked.

@@ -1,4 +1,4 @@
-//! What the calls of C answer, over values that Rust knows.
+//! What the calls of C return, over values that Rust knows.
 
 pub(crate) mod buffer;
 pub(crate) mod canon;

@@ -13,8 +13,9 @@ use crate::{
 use crs_group::Catalogue;
 use std::alloc::Global;
 
-/// The front of `struct crsdesk_catalogue` of C, which holds a catalogue, or of `struct crsdesk_rules`, which holds rules.
-/// How many words C has there is in the header alone; `layout.c` compares them with what a catalogue and rules take.
+/// The front of `struct crsdesk_catalogue` of C, which holds a catalogue, or of `struct crsdesk_rules`, which holds
+/// rules. How many words C reserves there is only in the header; `layout.c` compares them with what a catalogue and
+/// rules need.
 #[repr(C)]
 pub struct Room {
     hidden: u64,
@@ -32,8 +33,8 @@ pub unsafe extern "C" fn crsdesk_catalogue_new(alloc: Global, at: *mut Room, lev
     code
 }
 
-/// Adds a text to a catalogue, under a number of the caller's. The code of what is answered is 0: it is in the group
-/// of that number, or in none where it is white space alone; 1: it spells no CRS, and `refused` says why; 3: memory
+/// Adds a text to a catalogue, under a number of the caller's. The code of the answer is 0: the text is in the group of
+/// the answer's number, or in none if it is only white space; 1: it spells no CRS, and `refused` says why; 3: memory
 /// was refused, and the catalogue is as before.
 #[unsafe(no_mangle)]
 pub unsafe extern "C" fn crsdesk_catalogue_add(at: *mut Room, number: u64, text: &[u8]) -> Standing
@@ -50,8 +51,8 @@ pub unsafe extern "C" fn crsdesk_catalogue_add(at: *mut Room, number: u64, text:
 }
 
 /// Adds a text to a catalogue under rules, with the texts that are the same under them; a group's text is its form. All
-/// texts of a catalogue are added under the same rules. The code of what is answered is as of `crsdesk_catalogue_add`.
-/// The rules are as before, and the form that they keep is too.
+/// texts of a catalogue are added under the same rules. The codes of the answer are the codes of
+/// `crsdesk_catalogue_add`. The rules are as before, and the form that they keep is too.
 #[unsafe(no_mangle)]
 pub unsafe extern "C" fn crsdesk_catalogue_add_under(
     at: *mut Room,

@@ -70,9 +70,9 @@ pub struct Marks {
     pub line: Numbered,
     /// A piece of a text.
     pub piece: Piece,
-    /// What is answered of a rules file.
+    /// The answer to a rules file.
     pub rules_standing: RulesStanding,
-    /// What is answered of a text under rules.
+    /// The answer to a text under rules.
     pub form: Form,
     /// A refusal and its place as a person counts.
     pub explained: Explained,

@@ -11,9 +11,9 @@ use std::alloc::Global;
 
 /// Whether two texts spell the same CRS at a level.
 ///
-/// 0: each spells a CRS, and `is_same` is 1 where they are the same, else 0. 1: the first spells none, and `refused`
-/// says why. 2: the first spells a CRS and the second none, and `refused` says why. 3: memory was refused. 4: there
-/// is no such level. What a code doesn't mention is as before.
+/// 0: each spells a CRS, and `is_same` is 1 if they are the same, else 0. 1: the first spells none, and `refused` says
+/// why. 2: the first spells a CRS and the second none, and `refused` says why. 3: memory was refused. 4: there is no
+/// such level. What a code doesn't mention is as before.
 #[unsafe(no_mangle)]
 pub extern "C" fn crsdesk_same(
     alloc: Global,
@@ -63,8 +63,8 @@ pub extern "C" fn crsdesk_first_part(
     })
 }
 
-/// All parts in which the CRSs of two texts differ at a level, a line each: the path, and the values in the first and
-/// in the second. No lines exactly where they are the same.
+/// All parts in which the CRSs of two texts differ at a level, one per line: the path, and the values in the first and
+/// in the second. No lines exactly if they are the same.
 ///
 /// 0: each spells a CRS, and the lines are at the front of `out`; `length` is their number of bytes. 1: the first
 /// spells none, and `refused` says why. 2: the first spells a CRS and the second none, and `refused` says why. 3:
@@ -92,7 +92,7 @@ pub extern "C" fn crsdesk_differences(
 }
 
 /// All parts in which the CRSs of two texts differ at a level, three pieces each: the path, and the values in the first
-/// and in the second, with nothing escaped and no bytes for no value. No pieces exactly where they are the same.
+/// and in the second, with nothing escaped and no bytes if there is no value. No pieces exactly if they are the same.
 ///
 /// 0: each spells a CRS; the bytes of all pieces are at the front of `out`, one after the other, and where each ends at
 /// the front of `ends`; `length` and `count` are their numbers. 1: the first spells none, and `refused` says why. 2: the

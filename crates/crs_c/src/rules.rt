@@ -22,9 +22,9 @@ pub unsafe extern "C" fn crsdesk_rules_new(alloc: Global, at: *mut Room)
     place.write(new);
 }
 
-/// Adds the rules of one more file. The code of what is answered is 0: they are added. 1: the file is refused, with the
-/// number of its first refused line, the number of the refusal and its place in the line; 3: memory was refused. With
-/// both all is as before. With code 0 no form is kept.
+/// Adds the rules of one more file. The code of the answer is 0: they are added, and no form is kept; 1: the file is
+/// refused, with the number of its first refused line, the number of the refusal and its place in the line; 3: memory
+/// was refused. With 1 and 3 all is as before.
 #[unsafe(no_mangle)]
 pub unsafe extern "C" fn crsdesk_rules_add(at: *mut Room, text: &[u8]) -> RulesStanding
     ghost held: { HeldParts }
@@ -38,8 +38,8 @@ pub unsafe extern "C" fn crsdesk_rules_add(at: *mut Room, text: &[u8]) -> RulesS
     told
 }
 
-/// Keeps the form of a text under rules, at the level of this number. The code of what is answered is 0: the form has so
-/// many bytes; 1: the text spells no CRS, and `refused` says why; 3: memory was refused; 4: there is no such level. With
+/// Keeps the form of a text under rules, at the level of this number. The code of the answer is 0: the form has so many
+/// bytes; 1: the text spells no CRS, and `refused` says why; 3: memory was refused; 4: there is no such level. With
 /// another code than 0 the form before it is still kept.
 #[unsafe(no_mangle)]
 pub unsafe extern "C" fn crsdesk_rules_form(at: *mut Room, level: u32, text: &[u8]) -> Form

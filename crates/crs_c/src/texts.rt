@@ -20,7 +20,7 @@ use crs_canon::canon;
 use sha2::{Digest, Sha256};
 use std::alloc::Global;
 
-/// Whether a text spells a CRS, and of which kind; no value is built.
+/// Whether a text spells a CRS, and the kind of the CRS; no value is built.
 ///
 /// 0: it does, and `kind` is the number of its kind. 1: it spells none, and `refused` says why. 3: memory was
 /// refused. What a code doesn't mention is as before. ISO 19162:2019, "Coordinate reference systems".
@@ -47,7 +47,7 @@ pub extern "C" fn crsdesk_check(
 }
 
 /// Why a text spells no CRS, over some lines: its refusal, the line and column, the piece of the line with a caret,
-/// what is expected there, what the number means, and a hint where one holds. No bytes where the text spells a CRS.
+/// what is expected there, what the number means, and a hint if one applies. No bytes if the text spells a CRS.
 ///
 /// 0: the explanation is at the front of `out`; `length` is its number of bytes. 3: memory was refused. 5: it has
 /// more bytes than `out`; `length` is their number. What a code doesn't mention is as before.
@@ -71,9 +71,9 @@ pub extern "C" fn crsdesk_explain(
 }
 
 /// Why a text spells no CRS, in pieces: the piece of the line with a caret, in two lines; for 11 to 13, 21 and 25 the
-/// line of what is found and what could stand there, the keyword of the node in which something else is expected, and
-/// what is found; what is open, was meant or is asked for; what the number means; hints; and then the name of each that
-/// could stand there. What isn't to be said has no bytes.
+/// line of what is found and what could be there, the keyword of the node in which something else is expected, and what
+/// is found; what is open, was meant or is expected; what the number means; hints; and then the name of each that could
+/// be there. A piece that doesn't apply has no bytes.
 ///
 /// 0: the text spells a CRS. 1: it spells none, and `explained` says why and where; the bytes of all pieces are at the
 /// front of `out`, one after the other, and where each ends at the front of `ends`; `length` and `count` are their
@@ -158,12 +158,12 @@ pub extern "C" fn crsdesk_digest(
 }
 
 /// The canonical texts, at a level, of many texts in one buffer, written one after the other into another. The text of
-/// an entry is what the buffer has from its beginning to its end; where it has less, the text is what there is.
+/// an entry is what the buffer has from its beginning to its end; if the buffer has less, the text is what there is.
 ///
-/// 0: each entry is answered; `done` is their number. 3: memory was refused to the entry after the first `done`. 4:
-/// there is no such level, and all is as before. 5: the canonical text of the entry after the first `done` has more bytes
-/// than there is room for. The first `done` entries are answered with 3 and 5 too: their code is 0, and their canonical
-/// text ends at `written_end`, or 1, and they say why their text spells no CRS. All else is as before.
+/// 0: each entry has its answer; `done` is their number. 3: memory was refused to the entry after the first `done`. 4:
+/// there is no such level, and all is as before. 5: the canonical text of the entry after the first `done` has more
+/// bytes than there is room for. With 3 and 5 the first `done` entries have their answers too: code 0, and their
+/// canonical text ends at `written_end`, or 1, and they say why their text spells no CRS. All else is as before.
 #[unsafe(no_mangle)]
 #[tactic(auto, unfolding(crate::specs::Each::IsEachAt))]
 pub extern "C" fn crsdesk_canon_each(
@@ -186,8 +186,8 @@ pub extern "C" fn crsdesk_canon_each(
     })
 }
 
-/// The digests of the canonical texts, at a level, of many texts in one buffer: as `crsdesk_canon_each`, but that of each
-/// text that spells a CRS its 32 bytes are written.
+/// The digests of the canonical texts, at a level, of many texts in one buffer: like `crsdesk_canon_each`, but for each
+/// text that spells a CRS the 32 bytes of its digest are written.
 #[unsafe(no_mangle)]
 #[tactic(auto, unfolding(crate::specs::Each::IsEachAt))]
 pub extern "C" fn crsdesk_digest_each(

@@ -34,6 +34,7 @@ use Rattle.crs_streams.specs.Escaped.{escaped}
 use Rattle.crs_explain.proofs.DifferingLemmas.{NotSet}
 use Rattle.crs_explain.proofs.ToldLemmas.{both-empty}
 use Rattle.crs_explain.specs.InOrder.{AreOrderedTexts}
+use Rattle.crs_explain.specs.CodePoints.{code_points}
 use Rattle.crs_explain.specs.Differing.{AreDifferenceTexts, AreTexts, AreTextsBehind, AreTextsOf, AreTextsOfName, AreTextsOfNames, AreTextsOfOne, AreTextsOfSet, PartTexts, are_empty, difference_line, has_part, shown, is_of_part, parameter_path, part_of}
 use Rattle.crs_canon.specs.Named.{named_once}
 
@@ -373,5 +374,5 @@ pub line-has-bytes : (text : PartTexts) (others : List ℕ) → difference_line 
 line-has-bytes text others e =
     let line = (both-empty (difference_line text) others (sym e)).0 in
     let end =
-    (both-empty (escaped text.path ++ codes ": " ++ shown text.first ++ codes " | " ++ shown text.second) (10 ∷ []) (sym line)).1 in
+    (both-empty (escaped text.path ++ codes ": " ++ shown text.first ++ codes " | " ++ shown text.second ++ code_points text.first text.second) (10 ∷ []) (sym line)).1 in
     absurd (cc)

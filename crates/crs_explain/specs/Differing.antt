@@ -11,6 +11,7 @@ use Rattle.std.specs.List.{flat_map, list_any, prefix_len}
 use Rattle.std.specs.Str.{bytes_eq}
 use Rattle.crs_value.specs.declared.values.crs.Crs.{Crs}
 use Rattle.crs_streams.specs.Escaped.{escaped}
+use Rattle.crs_explain.specs.CodePoints.{code_points}
 use Rattle.crs_shape.specs.declared.unit_kind.UnitKind.TheVariants as kinds
 use Rattle.crs_same.specs.declared.content.Content.TheVariants as content
 use Rattle.crs_same.specs.declared.step.Step.TheVariants as step
@@ -124,10 +125,12 @@ abbrev pub AreDifferenceTexts : Level → Crs → Crs → List PartTexts → Typ
 AreDifferenceTexts level a b texts =
     (parts : List DifferenceParts) × DifferencesInCrs level a b parts × AreTexts level parts texts
 
--- the line of what differs: its path, its value in the first CRS, and in the second
+-- the line of what differs: its path, its value in the first CRS and in the second, and the code points behind values
+-- that may print alike
 abbrev pub difference_line : PartTexts → List ℕ
 difference_line part =
-    escaped part.path ++ codes ": " ++ shown part.first ++ codes " | " ++ shown part.second ++ 10 ∷ []
+    escaped part.path ++ codes ": " ++ shown part.first ++ codes " | " ++ shown part.second
+    ++ code_points part.first part.second ++ 10 ∷ []
 
 -- the lines of all parts in which two CRSs differ at a level, in order
 abbrev pub IsDifferencesText : Level → Crs → Crs → List ℕ → Type 0

@@ -1,4 +1,5 @@
 pub mod Around
+pub mod CodePoints
 pub mod Differing
 pub mod Excerpt
 pub mod Expectation

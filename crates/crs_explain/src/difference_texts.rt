@@ -1,4 +1,5 @@
-//! All parts in which two CRSs differ, each as three texts; in a set of parameters those of one name, and then the others.
+//! All parts in which two CRSs differ, each as three texts. Parameters of one name are compared one by one, the others
+//! as a set.
 ghost use Rattle.std.specs.Prelude.{◌≡◌, ◌++◌, ◌∷◌, [], IfOk, OnOk, map};
 ghost use Rattle.std.specs.Option.{option_copied};
 ghost use Rattle.crs_shape.specs.declared.unit_kind.UnitKind.TheVariants as kinds;
@@ -26,14 +27,14 @@ use std::alloc::Global;
 use std::collections::BTreeSet;
 use std::marker::Model;
 
-/// A part that differs: its path, and its values as the canonical text writes them, no bytes for nothing.
+/// A part that differs: its path, and its values as the canonical text writes them; no bytes if there is none.
 #[derive(Drop)]
 pub struct DifferenceTexts {
-    /// Its path; a parameter's has its name, as `conversion/parameters["NAME"]/unit`.
+    /// Its path; a parameter's path has its name, such as `conversion/parameters["NAME"]/unit`.
     pub path: Vec<u8>,
-    /// Its value in the first CRS, of a set the members that the second lacks.
+    /// Its value in the first CRS; if it is a set, the members that the second lacks.
     pub first: Vec<u8>,
-    /// Its value in the second, of a set the members that the first lacks.
+    /// Its value in the second CRS; if it is a set, the members that the first lacks.
     pub second: Vec<u8>,
 }
 
@@ -55,10 +56,10 @@ struct Site<'p> {
     path: &'p [u8],
 }
 
-/// The texts of each part in which two CRSs differ at a level, in the order of the canonical text; none exactly where
-/// they are the same. Of parameters those whose name stands once on each side, among at most 64, are told by
-/// themselves, in order of the names, by the number at `conversion/parameters["NAME"]`, the unit at `/unit` and the
-/// identifiers at `/id` behind that, each where it differs; then come those of the others. `AllocError`: no memory.
+/// The texts of each part in which two CRSs differ at a level, in the order of the canonical text; none exactly if they
+/// are the same. A parameter whose name is there once on each side, among at most 64, has parts of its own, in the
+/// order of the names: the number at `conversion/parameters["NAME"]`, the unit at `/unit` and the identifiers at `/id`
+/// behind that, each if it differs; then come the other parameters, as a set. `AllocError`: no memory.
 pub fn differing_parts<'a>(alloc: Global, a: &Crs<'a>, b: &Crs<'a>, level: Level) -> Made<Texts>
     ensures { IfOk result (λ texts. AreDifferenceTexts level a.now b.now texts.items) }
 {
@@ -68,7 +69,7 @@ pub fn differing_parts<'a>(alloc: Global, a: &Crs<'a>, b: &Crs<'a>, level: Level
     Ok(texts)
 }
 
-/// Appends the texts of differences that it owns: lent alone, they make a function slow to prove.
+/// Appends the texts of differences that it owns: borrowed, they make a function slow to prove.
 pub(crate) fn append_texts(
     out: &mut Texts,
     alloc: Global,

@@ -6,6 +6,7 @@ ghost use Rattle.crs_explain.specs.InOrder.{AreOrderedTexts, has_step_from, is_o
 ghost use Rattle.crs_explain.specs.Json.{difference_members, difference_object};
 ghost use Rattle.crs_same.specs.SameCrs.{SameCrs};
 
+use crate::code_points::append_code_points;
 use crate::difference_texts::{DifferenceTexts, append_texts};
 use crate::laws::nothing_is_told_where_same;
 use crate::names::Name;
@@ -17,9 +18,9 @@ use crs_value::laws::crs_is_sound;
 use crs_value::{Crs, Level};
 use std::alloc::Global;
 
-/// The texts of all parts in which two CRSs differ, in the order of some words: first those whose path has the first
-/// word, then those whose path has the next, and so on, then the others; those of one word in the order of
-/// `differing_parts`. None exactly where the CRSs are the same. `AllocError`: there is no memory for it.
+/// The texts of all parts in which two CRSs differ, in the order of some words: first the parts whose path has the
+/// first word, then the parts whose path has the next, and so on, then the others; the parts of one word are in the
+/// order of `differing_parts`. None exactly if the CRSs are the same. `AllocError`: there is no memory for it.
 // The CRSs come first: what is called with a CRS behind another reference is slow to prove.
 pub fn ordered_parts<'a>(
     alloc: Global,
@@ -48,8 +49,9 @@ pub fn ordered_parts<'a>(
 }
 
 /// A line for each part that differs, `PATH: FIRST | SECOND` and a line feed: the values of the first CRS and of the
-/// second, `none` where there are no bytes; control characters, ends of lines, marks of direction and backslashes are
-/// escaped, as `\n`, `\x1B`, `\u202E` and `\\`. `AllocError`: there is no memory for it.
+/// second, `none` if there are no bytes. Control characters, ends of lines, marks of direction and backslashes are
+/// escaped, such as `\n`, `\x1B`, `\u202E` and `\\`. If the first characters in which the values differ aren't both
+/// ASCII, their code points follow, such as ` (U+0410 | U+0041)`. `AllocError`: there is no memory for it.
 pub fn difference_lines(alloc: Global, differences: &[DifferenceTexts]) -> Made<Vec<u8>>
     ensures { IfOk result (λ lines. lines.items ≡ flat_map difference_line differences.now) }
 {
@@ -60,8 +62,8 @@ pub fn difference_lines(alloc: Global, differences: &[DifferenceTexts]) -> Made<
     Ok(lines)
 }
 
-/// An object of JSON and a line feed for each part that differs: its path, and the values of the first and of the
-/// second, `null` for what has none. `AllocError`: there is no memory for it.
+/// An object of JSON and a line feed for each part that differs: its path, and the values of the first CRS and of the
+/// second, `null` if there is none. `AllocError`: there is no memory for it.
 pub fn difference_objects(alloc: Global, differences: &[DifferenceTexts]) -> Made<Vec<u8>>
     ensures { IfOk result (λ objects. objects.items ≡ flat_map difference_object differences.now) }
 {
@@ -82,6 +84,7 @@ pub fn append_difference_line(difference: &DifferenceTexts, out: &mut Vec<u8>) -
     append_value(&difference.first, out)?;
     out.extend_from_slice(b" | ")?;
     append_value(&difference.second, out)?;
+    append_code_points(&difference.first, &difference.second, out)?;
     out.extend_from_slice(b"\n")
 }
 
@@ -97,7 +100,7 @@ pub fn append_difference_members(difference: &DifferenceTexts, out: &mut Vec<u8>
 }
 
 /// The same as data: three texts for each part, its path, and the values of the first CRS and of the second, with
-/// nothing escaped and no bytes where there is no value. `AllocError`: there is no memory for it.
+/// nothing escaped and no bytes if there is no value. `AllocError`: there is no memory for it.
 pub fn difference_pieces(alloc: Global, differences: &[DifferenceTexts]) -> Made<Pieces>
     ensures { IfOk result (λ pieces. pieces ≡ flat_map part_pieces differences.now) }
 {

@@ -20,7 +20,7 @@ const BYTES_BEFORE: usize = 200;
 
 const BYTES_BEHIND: usize = 100;
 
-/// The piece of the line at a place, and a caret under the place, a line each.
+/// The piece of the line at a place, and a caret under the place, in two lines.
 pub(crate) fn excerpt(alloc: Global, text: &[u8], place: usize) -> Made<Vec<u8>>
     requires { place ≤ length text.now }
     ensures { IfOk result (λ lines. IsExcerpt text.now place lines.items) }

@@ -1,4 +1,4 @@
-//! What is found at the place of a refusal, and what could stand there: as texts, and in a line for a person.
+//! What is found at the place of a refusal, and what could be there: as texts, and in a line for a person.
 ghost use Rattle.std.specs.Prelude.{◌≡◌, ◌++◌, ◌∷◌, [], IfOk, None, OnOk, codes, filter};
 ghost use Rattle.crs_shape.specs.Expected.{may_come};
 ghost use Rattle.crs_shape.specs.Keywords.{every_class};
@@ -22,19 +22,19 @@ pub(crate) const UNKNOWN_WORD: u8 = 21;
 // More or fewer axes than the dimension.
 const AXIS_COUNT: u8 = 25;
 
-/// What is expected, where that is known.
+/// What is expected, if that is known.
 type MadeIfKnown = Made<Option<ExpectedTexts>>;
 
-/// What is found at a place, and the names of what could stand there.
+/// What is found at a place, and the names of what could be there.
 #[derive(Drop)]
 pub(crate) struct ExpectedTexts {
-    /// The keyword of the node in which that is; no bytes where the text is of no class.
+    /// The keyword of the node in which that is; no bytes if the text is of no class.
     pub(crate) node: Vec<u8>,
     /// Where the node begins.
     pub(crate) place: usize,
     pub(crate) found: Vec<u8>,
     pub(crate) names: Vec<Name>,
-    /// The name that was likely meant; no bytes where none is near. No public clause says which.
+    /// The name that was likely meant; no bytes if none is close. No public clause says which.
     pub(crate) meant: Vec<u8>,
 }
 
@@ -47,7 +47,7 @@ impl Model for ExpectedTexts {
 }
 
 impl ExpectedTexts {
-    /// Nothing that is found or could stand there.
+    /// Nothing is found, and nothing is expected.
     pub(crate) fn nothing(alloc: Global) -> ExpectedTexts
         ensures { result ≡ or_nothing None }
     {
@@ -60,7 +60,7 @@ impl ExpectedTexts {
         }
     }
 
-    /// Appends the line of what is found and what could stand there; nothing where there are no names.
+    /// Appends the line of what is found and what could be there; nothing if there are no names.
     pub(crate) fn append_line(&self, out: &mut Vec<u8>) -> Made<()>
         ensures { OnOk result (out.new.items ≡ out.old.items ++ expected_line self.now) }
     {
@@ -83,7 +83,7 @@ impl ExpectedTexts {
     }
 }
 
-/// What is expected, or nothing where that isn't known.
+/// What is expected, or nothing if that isn't known.
 pub(crate) fn or_nothing<'e>(
     expected: &'e Option<ExpectedTexts>,
     nothing: &'e ExpectedTexts,
@@ -120,7 +120,7 @@ fn append_node(word: &[u8], place: usize, out: &mut Vec<u8>) -> Made<()>
     append_number(place, out)
 }
 
-/// What is expected at a refusal of a text; nothing where that isn't known.
+/// What is expected at a refusal of a text; nothing if that isn't known.
 pub(crate) fn expectation(alloc: Global, text: &[u8], refusal: Refusal) -> MadeIfKnown
     ensures { IfOk result (IsExpected text.now refusal) }
 {

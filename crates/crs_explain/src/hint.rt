@@ -17,12 +17,12 @@ pub(crate) struct Hint<'a> {
     pub(crate) about: About,
 }
 
-/// What a hint is about, as far as that decides on a hint beside it.
+/// What a hint is about, as far as another hint beside it depends on that.
 #[derive(Clone, Copy)]
 pub(crate) enum About {
     /// A class of CRS that isn't read: beside it damage is named.
     Class,
-    /// What follows a complete text, which is no damage: behind WKT1 a second text may stand.
+    /// What follows a complete text, which is no damage: a second text may follow WKT1.
     Behind,
     Other,
 }
@@ -79,7 +79,7 @@ pub(crate) fn filled<'a>(sentence: &'static str, filling: Filling<'a>) -> Option
     })
 }
 
-/// Bytes that are looked for, and the sentence that tells of them, with the words that are filled in.
+/// Bytes to look for, and the sentence for them, with the words that are filled in.
 pub(crate) type Entry = (&'static [u8], &'static str, &'static [u8]);
 
 /// The hint of the first of these entries with which the bytes begin.

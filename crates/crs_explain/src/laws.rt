@@ -1,4 +1,4 @@
-//! Laws of what is told, as contracts of functions that do nothing.
+//! Laws of reported differences, as contracts of functions that do nothing.
 ghost use Rattle.std.specs.Prelude.{◌≡◌, ◌↔◌, [], ℕ, List, map, true};
 ghost use Rattle.crs_value.specs.Values.{ParameterParts};
 ghost use Rattle.crs_value.specs.Sound.{Each};
@@ -23,7 +23,7 @@ use crs_same::laws::{
     no_part_differs_where_same,
 };
 
-/// Two sets of parameters of which nothing is told are the same.
+/// Two sets of parameters in which no difference is found are the same.
 pub fn parameters_that_differ_are_told()
     ensures { (level : Level) (path : List ℕ) (xs ys : List ParameterParts) → Each IsParameter xs →
         Each IsParameter ys → AreTextsOfSet level path xs ys [] → SameSet (SameParameter level) xs ys }
@@ -56,7 +56,7 @@ pub fn exchanged_crss_are_told_alike()
     same_idents_is_equivalence();
 }
 
-/// No text, no line and no piece tells of two CRSs exactly where they are the same.
+/// Two CRSs have no texts, no lines and no pieces of differences exactly if they are the same.
 pub fn nothing_is_told_where_same()
     ensures texts { (level : Level) (a b : Crs) → IsCrs a → IsCrs b → (texts : List PartTexts) →
         AreDifferenceTexts level a b texts → (texts ≡ []) ↔ SameCrs level a b }
@@ -72,7 +72,8 @@ pub fn nothing_is_told_where_same()
     parameters_that_differ_are_told();
 }
 
-/// Texts of the same two CRSs tell of the same parts, in the order of whatever words: to a part of the one there is one of the other.
+/// Texts of the same two CRSs, in the order of whatever words, have the same parts: each part of one is a part of the
+/// other.
 pub fn the_same_parts_are_told()
     ensures { (words : List (List ℕ)) (level : Level) (a b : Crs) → IsCrs a → IsCrs b → (these others : List PartTexts) →
         AreOrderedTexts words level a b these → AreOrderedTexts words level a b others →
@@ -82,7 +83,7 @@ pub fn the_same_parts_are_told()
     parameters_that_differ_are_told();
 }
 
-/// Where there are no words, parts stay in their order.
+/// Without words, parts keep their order.
 pub fn no_words_keep_the_order()
     ensures { (parts ordered : List PartTexts) → AreInOrder [] parts ordered → ordered ≡ parts }
 {}

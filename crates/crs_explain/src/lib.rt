@@ -1,8 +1,9 @@
 //! A refusal of a text, and the parts in which two CRSs differ, explained so that a person can act on them: where a
 //! text is refused, what is found there and what is expected, what the text most likely is; the values of each part
-//! that differs. Each is one text for a person, and for a program pieces, or an object of JSON.
+//! that differs. Each is one text for a person, and pieces or an object of JSON for a program.
 #![tactic(auto)]
 
+mod code_points;
 mod difference_texts;
 mod differences;
 mod excerpt;

@@ -1,4 +1,4 @@
-//! Names of what could stand at a place, by themselves, listed, and in JSON; names of classes; and words of paths.
+//! Names of what could be at a place, by themselves, listed, and in JSON; names of classes; and words of paths.
 ghost use Rattle.std.specs.Prelude.{◌≡◌, ◌++◌, ◌∷◌, [], IfOk, OnOk};
 ghost use Rattle.crs_explain.specs.Expectation.{listed};
 ghost use Rattle.crs_explain.specs.Expected.{class_names, names_of};
@@ -11,7 +11,8 @@ use crs_text::Keyword;
 use std::alloc::Global;
 use std::marker::Model;
 
-/// A word of a path, as `datum`, of an axis `axis` alone; inside the crate also a name of what could stand.
+/// A word of a path, such as `datum`, for an axis only `axis`; inside the crate also a name of what could be at a
+/// place.
 #[derive(Drop)]
 pub struct Name {
     bytes: Vec<u8>,
@@ -106,7 +107,7 @@ fn append_more(names: &[Name], out: &mut Vec<u8>) -> Made<()>
     Ok(())
 }
 
-/// Adds the names of classes, and the end of the node where it may end.
+/// Adds the names of classes, and the end of the node if it may end.
 pub(crate) fn push_names(classes: &[Class], may_end: bool, out: &mut Vec<Name>) -> Made<()>
     ensures { OnOk result (out.new.items ≡ out.old.items ++ names_of classes.now may_end) }
 {

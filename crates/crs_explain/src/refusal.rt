@@ -153,10 +153,10 @@ fn in_line(byte: u8) -> u8
 }
 
 /// Explains the refusal of a text, so that a person can repair the text: a line with the refusal and its line and
-/// column; the piece of that line with a caret under the place; for a fault of shape, a word that isn't known and a
-/// number of axes a line with the node, what is found there and what is expected; what is open, which name was meant or
-/// which units are asked for; what the number means, and a hint where one applies. Each line has its line feed.
-/// `AllocError`: there is no memory for it. Time is linear in the text.
+/// column; the piece of that line with a caret under the place; for a fault of shape, an unknown word or a number of
+/// axes a line with the node, what is found there and what is expected; what is open, which name was meant or which
+/// units are expected; what the number means, and a hint if one applies. Each line has its line feed. `AllocError`:
+/// there is no memory for it. Time is linear in the text.
 pub fn refusal_text(alloc: Global, text: &[u8], refusal: Refusal) -> Made<Vec<u8>>
     requires { refusal.place ≤ length text.now }
     ensures { IfOk result (λ told. IsExplained text.now refusal told.items) }
@@ -178,10 +178,10 @@ pub struct ExplanationPieces {
     pub line: usize,
     /// The character of the line at the place, counted from 1.
     pub column: usize,
-    /// Where the node begins in which something else is expected, the first byte being 0; 0 where that isn't known.
+    /// Where the node begins in which something else is expected, the first byte being 0; 0 if that isn't known.
     pub node: usize,
     /// The piece of the line with the caret, in two lines; the line of what is found and expected; the keyword of that
-    /// node; what is found; what is open, was meant or is asked for; what the number means; hints; and then names.
+    /// node; what is found; what is open, was meant or is expected; what the number means; hints; and then names.
     pub pieces: Pieces,
 }
 
@@ -193,8 +193,8 @@ impl Model for ExplanationPieces {
     ghost view = { λ e. record { line = e.line; column = e.column; node = e.node; pieces = e.pieces } };
 }
 
-/// Explains the refusal of a text as `refusal_text` does, to a program: each thing that is said there by itself. A
-/// sentence has no line feed, and no bytes where nothing is to be said. `AllocError`: no memory. Time is linear.
+/// Explains the refusal of a text like `refusal_text`, to a program: each line or sentence by itself. A sentence has no
+/// line feed, and no bytes if it doesn't apply. `AllocError`: no memory. Time is linear.
 pub fn refusal_pieces(alloc: Global, text: &[u8], refusal: Refusal) -> Made<ExplanationPieces>
     requires { refusal.place ≤ length text.now }
     ensures { IfOk result (AreExplainedPieces text.now refusal) }
@@ -215,10 +215,10 @@ pub fn refusal_pieces(alloc: Global, text: &[u8], refusal: Refusal) -> Made<Expl
     })
 }
 
-/// Explains the refusal of a text as `refusal_text` does, in an object of JSON and a line feed: the number, its name,
-/// the place, line and column; the piece of the line and the caret; what is found and what could stand there, `null`
-/// and no name where that isn't known; and sentences, `null` where nothing is to be said. Of two texts a word says
-/// which it is, as `first `; no bytes say nothing. `AllocError`: no memory for it. Time is linear in the text.
+/// Explains the refusal of a text like `refusal_text`, in an object of JSON and a line feed: the number, its name, the
+/// place, line and column; the piece of the line and the caret; what is found and what could be there, `null` and no
+/// name if that isn't known; and sentences, `null` if they don't apply. A word says which of two texts it is, such as
+/// `first `; for a single text it has no bytes. `AllocError`: no memory for it. Time is linear in the text.
 pub fn refusal_object(alloc: Global, which: &[u8], text: &[u8], refusal: Refusal) -> Made<Vec<u8>>
     requires { refusal.place ≤ length text.now }
     ensures { IfOk result (λ object. IsRefusalObject which.now text.now refusal object.items) }

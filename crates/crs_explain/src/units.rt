@@ -1,4 +1,4 @@
-//! Which unit is found and which each axis asks for, where they don't fit. No clause says which words these are.
+//! Which unit is found and which each axis requires, if they don't fit. No clause says which words these are.
 ghost use Rattle.crs_text.specs.Items.{HasId};
 ghost use Rattle.crs_value.specs.inner.Arguments.{Holds};
 
@@ -13,9 +13,9 @@ use std::alloc::Global;
 // The keywords of units.
 const UNITS: [Keyword; 3] = [Keyword::LengthUnit, Keyword::AngleUnit, Keyword::PlainUnit];
 
-/// For a unit on an axis, or where there is none, `found LENGTHUNIT in AXIS at 66, expected ANGLEUNIT`; for one that all
-/// axes share `found LENGTHUNIT for all axes, expected ANGLEUNIT for AXIS at 66, LENGTHUNIT for AXIS at 84`; nothing
-/// where the text has no items, or no unit is at the place or missing there.
+/// For a unit on an axis, or if there is none, `found LENGTHUNIT in AXIS at 66, expected ANGLEUNIT`; for one that all
+/// axes share `found LENGTHUNIT for all axes, expected ANGLEUNIT for AXIS at 66, LENGTHUNIT for AXIS at 84`; nothing if
+/// the text has no items, or no unit is at the place or missing there.
 pub(crate) fn units(alloc: Global, text: &[u8], place: usize) -> Made<Vec<u8>> {
     match read_items(alloc, text) {
         Ok(items) => units_of(alloc, &items, place),

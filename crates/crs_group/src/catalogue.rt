@@ -109,7 +109,7 @@ impl Catalogue {
         &self.refused
     }
 
-    /// Adds a line, and answers where it was placed: with the lines whose CRSs are the same, where it spells a CRS.
+    /// Adds a line, and returns where it was placed: with the lines whose CRSs are the same, if it spells a CRS.
     ///
     /// `AllocError`: there is no memory for the line; the catalogue is as before.
     pub fn add(&mut self, line: u64, text: &[u8]) -> Result<Placed, AllocError>
@@ -134,8 +134,9 @@ impl Catalogue {
         }
     }
 
-    /// Adds a line under rules, and answers where it was placed: with the lines whose texts have the same form under the
-    /// rules, where it spells a CRS. A group's text is the form. All lines of a catalogue are added under the same rules.
+    /// Adds a line under rules, and returns where it was placed: with the lines whose texts have the same form under
+    /// the rules, if it spells a CRS. A group's text is the form. All lines of a catalogue are added under the same
+    /// rules.
     ///
     /// `AllocError`: there is no memory for the line; the catalogue is as before.
     pub fn add_under(&mut self, line: u64, text: &[u8], rules: &Rules) -> Result<Placed, AllocError>
@@ -274,7 +275,7 @@ impl Catalogue {
     }
 }
 
-/// Whether a text is white space alone, or nothing: a blank line is in no group.
+/// Whether a text is only white space, or empty: a blank line is in no group.
 pub fn is_blank(text: &[u8]) -> bool
     ensures { result ≡ list_all is_white text.now }
 {

@@ -1,4 +1,4 @@
-//! Canonical texts with their digests: that of a text is computed once, however often it is looked up and kept.
+//! Canonical texts with their digests: a text's digest is computed once, however often the text is looked up and kept.
 ghost use Rattle.std.specs.Prelude.{◌≡◌};
 ghost use Rattle.std.specs.Cmp.{partial_equiv_from_equiv};
 ghost use Rattle.crs_writer.specs.Canonical.{canon_writes, canons_equal};
@@ -44,7 +44,7 @@ impl Digested {
         self.canon.bytes()
     }
 
-    /// The text alone.
+    /// The text without its digest.
     pub fn into_canon(self) -> Canon
         ensures { result ≡ self }
     {

@@ -1,4 +1,4 @@
-//! How a catalogue is written: groups and refused lines, each in a line, or as an object of JSON in one.
+//! How a catalogue is written: one line per group and refused line, as text or as an object of JSON.
 ghost use Rattle.std.specs.Prelude.{◌≡◌, ◌++◌, IfOk, OnOk, Some};
 ghost use Rattle.std.specs.List.{flat_map};
 ghost use Rattle.crs_group.specs.Catalogue.{GroupParts, nth};

@@ -7,7 +7,7 @@ ghost use Rattle.crs_group.specs.UnderRules.{IsCatalogueOfUnder};
 ghost use Rattle.crs_group.specs.United.{AreUnited};
 ghost use Rattle.crs_rules.specs.Rules.{AreRules, RulesParts};
 
-/// The catalogue of some lines, at a level, is one; so is that of lines under rules.
+/// The catalogue of some lines, at a level, is one; so is the catalogue of lines under rules.
 pub fn catalogue_is_one()
     ensures alone { (lines : List Line) (a b : CatalogueParts) → IsCatalogueOf lines a → IsCatalogueOf lines b →
         a.level ≡ b.level → a ≡ b }
@@ -19,7 +19,7 @@ pub fn catalogue_is_one()
     crs_rules::laws::accepted_text_has_one_form();
 }
 
-/// The groups of a catalogue by definition are unions of its groups at the full level.
+/// The groups of a catalogue at level `definition` are unions of its groups at level `full`.
 pub fn groups_are_united_by_definition()
     ensures { (placed united : List PlacedLine) (full definition : CatalogueParts) →
         IsPartition placed full → IsPartition united definition → map (λ p. p.line) placed ≡ map (λ p. p.line) united →

@@ -1,5 +1,5 @@
-//! A catalogue of lines that are numbered as they come, counted, and named where they have names; and how a line is
-//! added to it: by its canonical text, or by its form under rules.
+//! A catalogue of lines that are numbered as they come, counted, and named if they have names; and how a line is added
+//! to it: by its canonical text, or by its form under rules.
 ghost use Rattle.std.specs.Prelude.{◌≡◌, ◌+◌, ◌^◌, ◌<◌, ◌≤◌, ◌++◌, ◌∷◌, [], ℕ, List, OnOk, length, IfOk};
 ghost use Rattle.crs_group.specs.inner.GroupReading.{IsLedgerOf, IsLedgerOfNamed, blank_count, no_lines};
 ghost use Rattle.crs_value.specs.declared.values.level.Level.{Level};

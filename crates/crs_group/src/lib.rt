@@ -1,5 +1,5 @@
-//! Groups of texts: two texts are in one group exactly where their CRSs are the same. Crates above know places, groups
-//! and refusals alone, or hand over a reader and a writer.
+//! Groups of texts: two texts are in one group exactly if their CRSs are the same. Crates above use only places, groups
+//! and refusals, or pass a reader and a writer.
 #![tactic(auto)]
 
 mod catalogue;

@@ -3,7 +3,7 @@ use crs_text::Refusal;
 /// Where a line was placed in a catalogue.
 #[derive(Clone, Copy, Debug, PartialEq, Eq)]
 pub enum Placed {
-    /// The line is white space alone, or nothing.
+    /// The line is only white space, or empty.
     Blank,
     /// The line spells no CRS.
     Refused(Refusal),

@@ -3,7 +3,7 @@
 pub struct Summary {
     /// How many lines there are, blank ones included.
     pub lines: u64,
-    /// How many lines are white space alone, or nothing.
+    /// How many lines are only white space, or empty.
     pub blank: u64,
     /// How many lines spell no CRS and are not blank.
     pub refused: u64,

@@ -3,18 +3,18 @@ use Rattle.std.specs.Prelude.{◌/◌, ◌%◌, ◌++◌, ◌∷◌, [], ◌==�
 use Rattle.std.specs.List.{flat_map}
 use Rattle.std.specs.Str.{is_utf8}
 use Rattle.bstr.specs.Utf8.{lossy_chars}
-use Rattle.crs_streams.specs.Escaped.{hex_byte, hides, steers}
+use Rattle.crs_streams.specs.Escaped.{coded, hex_byte}
 
 -- a character by its code, as `\u202E`
 abbrev pub code_text : ℕ → List ℕ
 code_text c = codes "\\u" ++ hex_byte (c / 256) ++ hex_byte (c % 256)
 
--- a character in a string: a quote and a backslash have a backslash before them; what steers a terminal,
--- ends a line, changes the direction of a text or hides is a code
+-- a character in a string: a quote and a backslash have a backslash before them; control characters and what is coded
+-- in lines are codes
 abbrev pub json_char : ℕ → List ℕ
 json_char c =
     if c == 34 || c == 92 then 92 ∷ c ∷ []
-    else if (nat_lt c 32 || c == 127) || (steers c || hides c) then code_text c
+    else if (nat_lt c 32 || c == 127) || coded c then code_text c
     else encode_utf8 c
 
 -- a string of characters

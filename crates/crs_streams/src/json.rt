@@ -11,8 +11,9 @@ use bstr::{ByteSlice, ByteVec};
 use std::alloc::AllocError;
 
 /// Appends a text as a string, in which a quote and a backslash have a backslash before them, and what steers a
-/// terminal, ends a line, changes the direction of a text or shows as a blank or as nothing is a code, such as `\u202E`; or where it isn't UTF-8 as an
-/// object with its bytes by two hexadecimal digits each, such as `{"bytes":"FF"}`. `AllocError`: no memory for it.
+/// terminal, ends a line, changes the direction of a text, shows as a blank or as nothing or composes with the character
+/// before it is a code, such as `\u202E`; or, if it isn't UTF-8, as an object with its bytes as two hexadecimal digits
+/// each, such as `{"bytes":"FF"}`. `AllocError`: no memory for it.
 pub fn append_text(bytes: &[u8], out: &mut Vec<u8>) -> Result<(), AllocError>
     ensures { OnOk result (out.new.items ≡ out.old.items ++ json_text bytes.now) }
 {

@@ -13,7 +13,7 @@ mod refusal;
 mod sink;
 mod stream;
 
-pub use escape::append_escaped;
+pub use escape::{append_code_point, append_escaped};
 pub use fault::RunFault;
 pub use filling::Filling;
 pub use line::{MAX_LINE, append_bytes, split_line, text_of};

@@ -5,7 +5,7 @@ use std::fmt::Display;
 use std::io;
 use std::io::Write;
 
-/// The bytes of an answer. It remembers that memory ran out, so that what puts a part of it needn't tell.
+/// The bytes of an answer. It remembers that memory ran out, so that what puts a part of it needn't report that.
 #[derive(Drop)]
 pub struct Answer {
     bytes: Vec<u8>,
@@ -46,23 +46,23 @@ impl Answer {
         Ok(self.bytes()? == other.bytes()?)
     }
 
-    /// Remembers that memory ran out, where it did.
+    /// Remembers that memory ran out, if it did.
     pub fn note(&mut self, done: Result<(), AllocError>) {
         self.had_memory = self.had_memory && done.is_ok();
     }
 
-    /// What was made; None where memory ran out, which it remembers.
+    /// What was made; None if memory ran out, which it remembers.
     pub fn made<T>(&mut self, made: Result<T, AllocError>) -> Option<T> {
         self.had_memory = self.had_memory && made.is_ok();
         made.ok()
     }
 
-    /// Whether what was asked holds; not where memory ran out, which it remembers.
+    /// Whether what was asked holds; not if memory ran out, which it remembers.
     pub fn holds(&mut self, asked: Result<bool, AllocError>) -> bool {
         self.made(asked).unwrap_or(false)
     }
 
-    /// What was accepted; None where a text was refused, which is put.
+    /// What was accepted; None if a text was refused, which is put.
     pub fn accepted<T>(&mut self, found: Result<T, Fault>) -> Option<T> {
         match found {
             Ok(value) => return Some(value),
@@ -91,7 +91,7 @@ impl Answer {
         &mut self.bytes
     }
 
-    /// Puts what a format gives, as `write!` asks for it.
+    /// Puts what a format gives; `write!` calls it.
     pub fn write_fmt<D: Display + Drop>(&mut self, value: D) {
         let mut text = String::new(self.alloc());
         let done = text.write_fmt(value);

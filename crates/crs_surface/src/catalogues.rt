@@ -5,7 +5,7 @@ use crs_group::{Catalogue, Placed};
 use crs_text::Refusal;
 use std::str;
 
-/// The answers of a catalogue's calls, one a line: `add N TEXT`, `groups`, `lines N`, `text N` and `refused`.
+/// The answers of a catalogue's calls, one per line: `add N TEXT`, `groups`, `lines N`, `text N` and `refused`.
 pub fn put_catalogue(out: &mut Answer, row: &Row<'_>) {
     let mut catalogue = Catalogue::new(out.alloc(), row.level);
     for (index, line) in row.text().split(|byte| *byte == b'\n').enumerate() {
@@ -77,7 +77,7 @@ fn put_refused(out: &mut Answer, refused: &[(u64, Refusal)]) {
     }
 }
 
-/// All that a catalogue answers: each group's lines and text, then the refused lines.
+/// All that a catalogue returns: each group's lines and text, then the refused lines.
 pub fn put_all(out: &mut Answer, catalogue: &Catalogue) {
     for group in 1..=catalogue.groups() {
         out.put("; ");

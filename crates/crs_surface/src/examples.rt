@@ -7,7 +7,7 @@ use crate::answer::Answer;
 use crate::row::Row;
 use indexmap::IndexMap;
 
-/// What the functions of an example, `key` or `difference`, answer of the parts of a row.
+/// What the functions of an example, `key` or `difference`, return for the parts of a row.
 pub fn put_example(out: &mut Answer, row: &Row<'_>, name: &str) {
     match name {
         "key" => put_keys(out, row),

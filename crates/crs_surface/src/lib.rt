@@ -1,6 +1,6 @@
-//! Every item that the specified surface has, called by its specified path: an item that is moved, renamed or changed no
-//! longer compiles. What a call answers is put as a row of the tests expects it. Values are taken apart by patterns with
-//! all their fields and variants. The examples of `docs/CALLING.md` are here too.
+//! Every item that the specified surface has, called by its specified path: an item that is moved, renamed or changed
+//! no longer compiles. What a call returns is put as a row of the tests expects it. Values are taken apart by patterns
+//! with all their fields and variants. The examples of `docs/CALLING.md` are here too.
 #![tactic(auto)]
 
 mod answer;

@@ -5,8 +5,8 @@ use crs_decimal::{Decimal, NumberFault};
 use crs_text::Refusal;
 use std::str;
 
-/// What a call answers of the number that is read, or `fault` and what it displays: its `plain` spelling, `text` and
-/// the next part with it behind, its parts, `whole` and the number that it is, or whether it equals that of the next part.
+/// What a call returns for the number that is read, or `fault` and what it displays: its `plain` spelling, `text` and
+/// the next part with it behind, its parts, `whole` and the number that it is, or whether it equals the next part's.
 pub fn put_number(out: &mut Answer, row: &Row<'_>, call: &str) {
     if let Some(number) = parsed(out, row.part(0)) {
         match call {
@@ -65,7 +65,7 @@ fn equality<T: Copy + Eq>(a: &T, b: &T) -> bool {
     copy == *b
 }
 
-/// `name` and the name of the refusal that has this number; `none` where no refusal has it.
+/// `name` and the name of the refusal that has this number; `none` if no refusal has it.
 pub fn put_name(out: &mut Answer, input: &[u8]) {
     match refusal_of(input) {
         Some(refusal) => write!(out, "name {}", refusal.name()),

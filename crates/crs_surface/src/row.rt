@@ -71,7 +71,7 @@ impl<'t> Row<'t> {
         self.ends.len()
     }
 
-    /// The part at an index; an empty one where there is none.
+    /// The part at an index; an empty one if there is none.
     pub fn part(&self, index: usize) -> &[u8] {
         let begin = match index {
             0 => 0,

@@ -23,7 +23,7 @@ pub struct Run<'t> {
     pub transfer: Transfer,
 }
 
-/// What a command answers beside what it writes.
+/// What a command returns beside what it writes.
 #[derive(Clone, Copy)]
 pub enum Outcome {
     /// Its status.
@@ -63,7 +63,7 @@ impl<'t> Run<'t> {
         })
     }
 
-    /// Whether each line is answered by itself.
+    /// Whether each line has its own answer.
     pub fn is_by_line(self) -> bool {
         self.command.ends_with("_lines")
     }
@@ -112,7 +112,7 @@ pub fn put_outcome(out: &mut Answer, outcome: &Result<Outcome, RunFault>) {
     }
 }
 
-/// What the run that a row's words name did; `no such call` where they name none.
+/// What the run that a row's words name did; `no such call` if they name none.
 pub fn put_run(out: &mut Answer, row: &Row<'_>) {
     let Some(run) = Run::of(row.call, row) else {
         return out.put("no such call");
@@ -165,7 +165,7 @@ pub fn put_filled(out: &mut Answer, words: &str, input: &[u8]) {
     out.put("no end");
 }
 
-/// What a source gives of a text in one read of 8 bytes, as a sink hands it on.
+/// What a source gives of a text in one read of 8 bytes, as a sink passes it on.
 pub fn put_handed(out: &mut Answer, input: &[u8]) {
     let mut written = Vec::new(out.alloc());
     let mut source: Source<&[u8]> = Source::new(input);
@@ -181,8 +181,8 @@ pub fn put_handed(out: &mut Answer, input: &[u8]) {
 }
 
 /// Runs a command with its first read failing, then its second, and so on, or its writes. A run whose read fails must
-/// end with `ReadFailed` and nothing written, or the first whole lines where lines are answered as they come; one whose
-/// write fails with `WriteFailed` and a front of the answer, longer each time. How many did, and what the next one did.
+/// end with `ReadFailed` and nothing written, or the first whole lines if each line has its own answer; one whose write
+/// fails with `WriteFailed` and a front of the answer, longer each time. How many did, and what the next one did.
 pub fn put_failed(out: &mut Answer, words: &str, row: &Row<'_>, what: &str) {
     let Some(mut run) = Run::of(words, row) else {
         return out.put("no such call");
@@ -222,7 +222,7 @@ pub fn put_failed(out: &mut Answer, words: &str, row: &Row<'_>, what: &str) {
     out.put("no end");
 }
 
-/// The command, and its words in brackets, the level first; where the line is wrong, what is said to the user.
+/// The command, and its words in brackets, the level first; if the line is wrong, the message for the user.
 pub fn put_request(out: &mut Answer, asked: &Result<Request, RequestFault>) {
     match asked {
         Ok(Request::Canon(level)) => put_command(out, "canon", &[level]),

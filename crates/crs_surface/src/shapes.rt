@@ -6,7 +6,7 @@ use crs_shape::{Class, Slot, class_of, fit, fit_root, keywords, root_class, slot
 use crs_text::{Fault, read_items};
 use std::str;
 
-/// `class` and the root class's first keyword, or a refusal; `another answer in pieces` where pieces give one.
+/// `class` and the root class's first keyword, or a refusal; `another answer in pieces` if pieces give one.
 pub fn put_class(out: &mut Answer, input: &[u8]) {
     if let Some(items) = read_agreed(out, input)
         && let Some(class) = out.accepted(fit_root(&items).map_err(Fault::Refused))
@@ -40,7 +40,7 @@ fn named_class(path: &[u8]) -> Option<Class> {
     Some(class)
 }
 
-/// `keywords` and those of the class that keywords lead to from a root; `none` where they name nothing there.
+/// `keywords` and the keywords of the class that these lead to from a root; `none` if they name nothing there.
 pub fn put_keywords(out: &mut Answer, input: &[u8]) {
     if let Some(class) = class_at(out, input) {
         out.put("keywords");
@@ -51,7 +51,7 @@ pub fn put_keywords(out: &mut Answer, input: &[u8]) {
 }
 
 /// The slots of the class that keywords lead to: each with its classes' first keywords, or `number`, `text` and `word`,
-/// joined by `|`, and a mark: `?` where it may be left out, `+` where it may be repeated, `*` for both.
+/// joined by `|`, and a mark: `?` if it may be left out, `+` if it may be repeated, `*` for both.
 pub fn put_slots(out: &mut Answer, input: &[u8]) {
     if let Some(class) = class_at(out, input) {
         out.put("slots");
@@ -86,7 +86,7 @@ fn put_class_word(out: &mut Answer, class: Class) {
     }
 }
 
-/// `fits` where a text has the shape of the class that the keywords of the part before it lead to, or its refusal.
+/// `fits` if a text has the shape of the class that the keywords of the part before it lead to, or its refusal.
 pub fn put_fit(out: &mut Answer, row: &Row<'_>) {
     if let Some(class) = class_at(out, row.part(0))
         && let Some(items) = out.accepted(read_items(out.alloc(), row.part(1)))

@@ -20,7 +20,7 @@ pub struct Transfer {
 }
 
 impl Transfer {
-    /// The transfer that the words say; None where a word says none.
+    /// The transfer that the words say; None if a word says none.
     pub fn read(words: &str) -> Option<Transfer> {
         let mut transfer = Transfer {
             piece: usize::MAX,

@@ -10,7 +10,7 @@ use std::alloc::{AllocError, Global};
 // No item is inside more delimiters than these.
 const DEPTH: u8 = 12;
 
-/// The items of a text, node by node, or its refusal; `another answer in pieces` where a cut into pieces gives one.
+/// The items of a text, node by node, or its refusal; `another answer in pieces` if a cut into pieces gives one.
 pub fn put_tree(out: &mut Answer, input: &[u8]) {
     if let Some(items) = read_agreed(out, input) {
         put_read(out, Ok(items));
@@ -22,10 +22,10 @@ pub fn put_read(out: &mut Answer, read: Result<Items<'_>, Fault>) {
     put_items(out, read, "tree");
 }
 
-/// What each item has in the column that a call names, `none` where it has nothing there, in the order in which the items
+/// What each item has in the column that a call names, `none` if it has nothing there, in the order in which the items
 /// begin, behind the name of the call: the `places` of their first bytes, where nodes have their closing delimiters
-/// (`closes`), the values of `numbers`, how many items are in each, itself included (`sizes`), the places of the arguments
-/// after them in their nodes (`nexts`), and the `keywords` that words and nodes' words are.
+/// (`closes`), the values of `numbers`, how many items are in each, itself included (`sizes`), the places of the
+/// arguments after them in their nodes (`nexts`), and the `keywords` that words and nodes' words are.
 pub fn put_column(out: &mut Answer, row: &Row<'_>, column: &str) {
     let read = read_items(out.alloc(), row.text());
     put_items(out, read, column);
@@ -38,8 +38,8 @@ fn put_items(out: &mut Answer, read: Result<Items<'_>, Fault>, column: &str) {
     }
 }
 
-/// The refusal of each proper prefix, its number and place joined by `@`; `accepted` where it has none, and
-/// `another-in-pieces` where its pieces of 1 to 7 bytes have another.
+/// The refusal of each proper prefix, its number and place joined by `@`; `accepted` if it has none, and
+/// `another-in-pieces` if its pieces of 1 to 7 bytes have another.
 pub fn put_prefixes(out: &mut Answer, input: &[u8]) {
     out.put("refusals");
     for count in 0..input.len() {
@@ -121,7 +121,7 @@ fn put_cell(out: &mut Answer, items: &Items<'_>, id: ItemId, column: &str) -> Op
 // The longest text of which every cut is tried.
 const LONGEST: usize = 2000;
 
-/// The answer of each piece, and then that of `finish`, with `; ` between two: `ok`, the items, or the refusal.
+/// The answer of each piece, and then of `finish`, with `; ` between two: `ok`, the items, or the refusal.
 pub fn put_fed(out: &mut Answer, row: &Row<'_>) {
     let mut feeder = Feeder::new(out.alloc());
     for index in 0..row.count() {
@@ -131,14 +131,14 @@ pub fn put_fed(out: &mut Answer, row: &Row<'_>) {
     put_read(out, feeder.finish());
 }
 
-/// What `feed` answers: `ok`, or the refusal.
+/// What `feed` returns: `ok`, or the refusal.
 pub fn put_taken(out: &mut Answer, taken: Result<(), Fault>) {
     if out.accepted(taken).is_some() {
         out.put("ok");
     }
 }
 
-/// The items of a text. None where it is refused, which is put, or has another answer in pieces, as is then put.
+/// The items of a text. None if it is refused, which is put, or has another answer in pieces, which is put too.
 pub fn read_agreed<'t>(out: &mut Answer, text: &'t [u8]) -> Option<Items<'t>> {
     if !out.made(agree(out.alloc(), text))? {
         out.put("another answer in pieces");
@@ -179,7 +179,7 @@ fn agrees_in(alloc: Global, pieces: &[&[u8]], whole: &Answer) -> Result<bool, Al
     answer_of(feeder.finish(), alloc).is(whole)
 }
 
-/// A feeder of these pieces; `finish` answers the refusal of one again.
+/// A feeder of these pieces; `finish` returns the refusal of one again.
 pub fn fed(alloc: Global, pieces: &[&[u8]]) -> Result<Feeder, AllocError> {
     let mut feeder = Feeder::new(alloc);
     for piece in pieces {

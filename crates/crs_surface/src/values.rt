@@ -9,8 +9,8 @@ use crs_text::{Fault, read_items};
 use crs_value::{Axis, Crs, Ident, Kind, Level, Vertical, read, value_of};
 use std::alloc::{AllocError, Global};
 
-/// `kind` and the kind of the CRS that a text spells, or its refusal; `another answer in pieces` where a cut into pieces
-/// gives one, and `another answer of items` where the text's items do.
+/// `kind` and the kind of the CRS that a text spells, or its refusal; `another answer in pieces` if a cut into pieces
+/// gives one, and `another answer of items` if the text's items do.
 pub fn put_read(out: &mut Answer, input: &[u8]) {
     let alloc = out.alloc();
     let of_text = kind_told(alloc, read(alloc, input));
@@ -55,8 +55,8 @@ pub fn kind_word(kind: Kind) -> &'static str {
     }
 }
 
-/// `text` and the canonical text of a text, or its refusal; `another text` where the text's value has another one, or
-/// where the canonical text isn't its own, with everything too, or isn't that of the one with everything.
+/// `text` and the canonical text of a text, or its refusal; `another text` if the text's value has another one, or if
+/// the canonical text isn't its own, with everything too, or isn't the canonical text of the one with everything.
 pub fn put_canon(out: &mut Answer, row: &Row<'_>) {
     let (alloc, input, level) = (out.alloc(), row.text(), row.level);
     if let Some(text) = out.accepted(canon(alloc, input, level))
@@ -104,12 +104,12 @@ pub fn put_spelling(out: &mut Answer, text: &Canon) {
     out.put_after("text ", text.bytes());
 }
 
-/// Whether a part is the same as itself, once it is appended; None where there is no such part.
+/// Whether a part is the same as itself, once it is appended; None if there is no such part.
 pub type Appended = Option<Result<bool, AllocError>>;
 
-/// Appends at a level what this name says of a CRS: `crs`, the CRS itself; of a vertical one `frame`, `dynamic part` and
-/// its `model`, the first `axis` and its `unit`, the first `usage` and its `extent`, the first `identifier`, or the `set`
-/// of all identifiers. None where there is no such part, also for any other name.
+/// Appends at a level what this name says of a CRS: `crs`, the CRS itself; of a vertical one `frame`, `dynamic part`
+/// and its `model`, the first `axis` and its `unit`, the first `usage` and its `extent`, the first `identifier`, or the
+/// `set` of all identifiers. None if there is no such part, also for any other name.
 pub fn append_part(crs: &Crs<'_>, part: &str, level: Level, out: &mut Vec<u8>) -> Appended {
     match crs {
         _ if part == "crs" => append_whole(crs, level, out),
@@ -153,7 +153,7 @@ fn append_set(idents: &[Ident<'_>], level: Level, out: &mut Vec<u8>) -> Appended
 }
 
 /// `text` and what a part of a text's CRS appends by itself, or the refusal; `no` and the name of a part that it lacks,
-/// `one way` where the part isn't the same as itself, and `nothing` for an empty set, which appends nothing.
+/// `one way` if the part isn't the same as itself, and `nothing` for an empty set, which appends nothing.
 pub fn put_part(out: &mut Answer, row: &Row<'_>, part: &str) {
     let mut text = Vec::new(out.alloc());
     let appended = match read(out.alloc(), row.text()) {
@@ -211,8 +211,8 @@ fn of_two<'t>(first: &Crs<'t>, second: &Crs<'t>, level: Level) -> Comparison {
     }
 }
 
-/// `same`, or `different` and the first part in which two texts' CRSs differ, or what is told of axes, or the first
-/// refusal; `one way` where the orders of the two disagree, or one call alone says that they are the same.
+/// `same`, or `different` and the first part in which two texts' CRSs differ, or the answer on axes, or the first
+/// refusal; `one way` if the orders of the two disagree, or only one call says that they are the same.
 pub fn put_same(out: &mut Answer, row: &Row<'_>, what: &str) {
     let (alloc, first, second) = (out.alloc(), row.part(0), row.part(1));
     if let Some(forth) = out.accepted(compared(alloc, first, second, row.level))

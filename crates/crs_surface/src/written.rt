@@ -51,8 +51,8 @@ use crs_value::{
 };
 use std::alloc::AllocError;
 
-/// The CRS of a text, taken apart and written. Of one that is `canonical` each node is looked at by itself, too: `another`
-/// is put behind one that isn't the same as itself, or that appends another text than how it stands.
+/// The CRS of a text, taken apart and written. Of one that is `canonical` each node is looked at by itself, too:
+/// `another` is put behind one that isn't the same as itself, or that appends another text than its own.
 pub fn put_whole(out: &mut Answer, row: &Row<'_>, how: &str) {
     let mut text = Text {
         out: Answer::new(out.alloc()),

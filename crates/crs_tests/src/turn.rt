@@ -1,4 +1,4 @@
-//! One call that takes memory, between two lines on standard output, so that a test refuses growths to it alone.
+//! One call that takes memory, between two lines on standard output, so that a test refuses growths only to it.
 use crs_surface::Answer;
 use std::alloc::Global;
 use std::io;
@@ -39,8 +39,8 @@ impl<'r, R: Print + AllocGlobal> Turn<'r, R> {
         &mut self.out
     }
 
-    /// Prints a line `answer`, and whether that is all: where it is `memory`, out of memory, a line `kept` says whether
-    /// what the call was handed is as before, `yes` or `no`, and the same call comes once more, with a line `again`.
+    /// Prints a line `answer`, and whether that is all: if it is `memory`, out of memory, a line `kept` says whether
+    /// what the call was passed is as before, `yes` or `no`, and the same call comes once more, with a line `again`.
     pub fn is_done(&mut self, is_kept: bool) -> io::Result<bool> {
         let is_answered = self.out.bytes().is_ok();
         if is_answered || !self.is_tried {

@@ -25,7 +25,7 @@ pub enum Fault {
     /// A run ended with a fault.
     #[error("{0}")]
     Run(#[from] RunFault),
-    /// The user was told already, or nobody reads standard output any more.
+    /// The user has a message already, or nobody reads standard output any more.
     #[error("told")]
     Told,
 }

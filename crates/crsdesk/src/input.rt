@@ -56,7 +56,7 @@ impl Read for Input {
     }
 }
 
-/// The files of this system, whose faults are told on standard error.
+/// The files of this system, whose faults are printed on standard error.
 #[derive(Drop)]
 pub struct Opener {
     /// The system.

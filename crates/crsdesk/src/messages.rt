@@ -1,4 +1,4 @@
-//! Lines on standard error. A failure of standard error itself can't be told.
+//! Lines on standard error. A failure of standard error itself can't be reported.
 use crate::fault::Fault;
 use crs_desk::append_escaped;
 use std::alloc::{AllocError, Global};
@@ -14,7 +14,7 @@ pub fn tell_of<D: Display + Drop>(rt: &HostRuntime, name: &str, what: D) {
     tell(rt, name, ": ", what);
 }
 
-/// What is told of a name, after these words; by itself where there is no memory for the name.
+/// The message on a name, after these words; only the words if there is no memory for the name.
 pub fn tell<D: Display + Drop>(rt: &HostRuntime, name: &str, words: &str, what: D) {
     let mut shown = Vec::new(rt.alloc());
     if append_escaped(name.as_bytes(), &mut shown).is_ok() {
@@ -27,17 +27,24 @@ pub fn tell<D: Display + Drop>(rt: &HostRuntime, name: &str, words: &str, what: 
 
 /// `clap`'s text of a wrong command line, in which the words that it repeats are escaped.
 pub fn tell_usage(rt: &HostRuntime, error: &clap::Error) {
-    let Ok(text) = format!(in rt.alloc(); "{error}") else {
+    if let Ok(shown) = usage_shown(rt.alloc(), error)
+        && let Ok(text) = str::from_utf8(&shown)
+    {
+        let _ = eprint!(rt; "{text}");
+    } else {
         let _ = error.print(rt);
-        return;
-    };
-    for line in text.lines() {
-        let mut shown = Vec::new(rt.alloc());
-        if append_escaped(line.as_bytes(), &mut shown).is_ok() {
-            let shown = str::from_utf8(&shown).unwrap_or(line);
-            let _ = eprintln!(rt; "{shown}");
-        }
     }
+}
+
+// Each line escaped; the line feeds stay.
+fn usage_shown(alloc: Global, error: &clap::Error) -> Result<Vec<u8>, AllocError> {
+    let text = format!(in alloc; "{error}")?;
+    let mut shown = Vec::new(alloc);
+    for line in text.lines() {
+        append_escaped(line.as_bytes(), &mut shown)?;
+        shown.push(b'\n')?;
+    }
+    Ok(shown)
 }
 
 /// The words behind the program's name, also those that aren't UTF-8.
@@ -86,7 +93,7 @@ pub fn is_marked(word: &str) -> bool {
     word.starts_with(MARK)
 }
 
-/// Tells of a file whose name isn't UTF-8, if this is such a name.
+/// Reports a file whose name isn't UTF-8, if this is such a name.
 pub fn tell_marked(rt: &HostRuntime, name: &str) -> bool {
     let Some(shown) = name.strip_prefix(MARK) else {
         return false;

@@ -8,7 +8,7 @@ CRS in one canonical spelling.
     >>> height == Crs('VerticalCRS("H",VRF("D"),CS(vertical,1),AXIS("h",UP,LENGTHUNIT("metre",1.0)))')
     True
 
-What the calls answer is that of a library whose answers are proved; this package around them is tested.
+The calls return what a library with proved answers returns; this package around it is tested.
 """
 
 from ._crs import Catalogue, Crs, Group, Level, Text, canon, check, difference, differences, digest, same

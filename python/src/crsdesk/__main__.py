@@ -2,11 +2,11 @@
 
 Answers go to standard output, refusals in full and faults to standard error. Status 0: no text is refused, and of
 ``same`` both spell the same CRS. 1: a text is refused, or the two CRSs differ. 2: a file can't be read, or another
-fault. Where nobody reads the output any more the run ends with status 2, and says nothing.
+fault. If nobody reads the output any more, the run ends with status 2, without a message.
 
-With ``--lines`` a file has a text a line; one line at a time is held, and ``group`` holds each CRS's canonical text.
-With ``--convert`` PROJ reads texts in other forms, and each that it read is marked. With ``--rules`` texts are compared, and
-written, by their forms.
+With ``--lines`` a file has one text per line; one line at a time is held, and ``group`` holds each CRS's canonical
+text. With ``--convert`` PROJ reads texts in other forms, and each that it read is marked. With ``--rules`` texts are
+compared, and written, by their forms.
 """
 
 from __future__ import annotations
@@ -26,14 +26,14 @@ FAULT = 2
 MOST_JOBS = 256
 LEVEL_HELP = "what counts: full, or definition, without identifiers, usages and remarks (default: full)"
 FILE_HELP = "a file with a text; - is standard input"
-LINES_HELP = "a file has a text a line (docs/CATALOGUES.md)"
-WHOLE_HELP = "a file has one text, as where --lines isn't there"
-CONVERT_HELP = "WKT1, PROJ strings, PROJJSON and codes are read by PROJ, which osgeo or pyproj has (docs/PYTHON.md)"
-SOURCE_HELP = "with --convert: a bound CRS is in the group of its source CRS, told with its transformation"
-LINES_HELP_OF_AUDIT = "it has a text a line, and so has a file of another suffix that is named itself"
-REGISTRY_HELP = "compares the CRSs with those of PROJ's database"
+LINES_HELP = "a file has one text per line (docs/CATALOGUES.md)"
+WHOLE_HELP = "a file has one text, as without --lines"
+CONVERT_HELP = "PROJ, which osgeo or pyproj has, reads WKT1, PROJ strings, PROJJSON and codes (docs/PYTHON.md)"
+SOURCE_HELP = "with --convert: a bound CRS is in the group of its source CRS, listed with its transformation"
+LINES_HELP_OF_AUDIT = "a .txt file has one text per line, and so has a file of another suffix that is named itself"
+REGISTRY_HELP = "compares the CRSs with the registered ones of PROJ's database"
 RULES_HELP = (
-    "a rules file, which says what counts as the same; of several the statements count together (docs/RULES.md)"
+    "a rules file, which says what counts as the same; several files count together (docs/RULES.md)"
 )
 
 
@@ -90,7 +90,7 @@ class Run:
                 yield Place(name), self.text(name)
 
     def text(self, name: str) -> Optional[bytes]:
-        """A file's text; None where it can't be read, which is reported."""
+        """A file's text; None if it can't be read, which is reported."""
         try:
             with opened(name) as file:
                 return file.read()
@@ -121,7 +121,7 @@ class Run:
 
 
 class Parser(argparse.ArgumentParser):
-    """A parser whose texts are written at once: those of argparse are lost without a word where that fails."""
+    """A parser whose texts are written at once: argparse loses its own without a word if that fails."""
 
     def _print_message(self, message: str, file: Any = None) -> None:
         if message:
@@ -140,15 +140,14 @@ def open_closed_streams() -> None:
     files of the run."""
     for number, name in enumerate(("stdin", "stdout", "stderr")):
         if getattr(sys, name) is None:
-            # It's opened the other way round.
+            # It's opened for the other direction.
             os.dup2(os.open(os.devnull, os.O_RDONLY if number else os.O_WRONLY), number)
             os.set_inheritable(number, True)
             setattr(sys, name, open(number, "w" if number else "r", closefd=False))
 
 
 def asked_text(run: Run, asked: argparse.Namespace, place: Place, text: bytes) -> Text:
-    """The text that is judged: with ``--convert`` the CRS that it spells in any form, and it is told where PROJ read
-    it."""
+    """The text that is judged: with ``--convert`` the CRS that it spells in any form, with a note if PROJ read it."""
     if not asked.convert:
         return text
     crs = Crs.from_user(text)
@@ -293,7 +292,7 @@ def run_audit(run: Run, asked: argparse.Namespace) -> None:
     run_audit(run, asked)
 
 
-# The commands of which the options are checked here; the audit checks its own.
+# The commands whose options are checked here; the audit checks its own.
 OVER_FILES = (run_check, run_canon, run_same, run_group, run_fill)
 
 
@@ -305,7 +304,7 @@ def has_proj() -> bool:
 
 
 def rules_of(names: List[str]) -> Optional[Rules]:
-    """The rules of files; None where none is named."""
+    """The rules of files; None if none is named."""
     return Rules.from_file(*names) if names else None
 
 
@@ -342,7 +341,7 @@ def parser() -> argparse.ArgumentParser:
         made.add_argument("--level", choices=list(LEVELS), default="full", help=LEVEL_HELP)
         add_rules(made)
 
-    made = command("check", "tells what kind of CRS each text spells, or where it is refused", run_check)
+    made = command("check", "prints what kind of CRS each text spells, or where it is refused", run_check)
     add_files(made)
     add_rules(made)
 
@@ -352,7 +351,7 @@ def parser() -> argparse.ArgumentParser:
     add_files(made)
     add_level(made)
 
-    made = command("same", "tells whether two files spell the same CRS, or the first part that differs", run_same)
+    made = command("same", "prints whether two files spell the same CRS, or the first part that differs", run_same)
     made.add_argument("first", metavar="FILE", help=FILE_HELP)
     made.add_argument("second", metavar="FILE", help=FILE_HELP)
     made.add_argument("--all", action="store_true", help="each part that differs, with both values")
@@ -380,13 +379,13 @@ def parser() -> argparse.ArgumentParser:
     made.add_argument("--registry", action="store_true", help=REGISTRY_HELP)
     made.add_argument("--html", metavar="FILE", help="writes the report as a page")
     made.add_argument("--json", metavar="FILE", help="writes it as data (docs/audit.schema.json)")
-    made.add_argument("--csv", metavar="FILE", help="writes a row a text")
+    made.add_argument("--csv", metavar="FILE", help="writes one row per text")
     made.add_argument("--jobs", type=jobs, metavar="N", help="processes that read files (default: the number of cores)")
     return whole
 
 
 def answered(run: Run, words: Optional[List[str]]) -> int:
-    """Runs a command line and answers the status; OSError where standard output takes no more."""
+    """Runs a command line and answers the status; OSError if standard output takes no more."""
     try:
         asked = parser().parse_args(words)
         if asked.run in OVER_FILES:
@@ -412,7 +411,7 @@ def answered(run: Run, words: Optional[List[str]]) -> int:
 
 
 def main(words: Optional[List[str]] = None) -> int:
-    """Runs a command line, that of the process where none is given, and answers the status."""
+    """Runs a command line, the process's if none is given, and returns the status."""
     run = Run()
     try:
         return answered(run, words)

@@ -73,7 +73,7 @@ def spellings_of(texts: Sequence[bytes], level: int) -> List[Union[bytes, Refuse
 
 
 def answers_of(entries: Any, out: Any) -> List[Union[bytes, Refused]]:
-    """What is answered of each entry."""
+    """The answer to each entry."""
     ends = entries["written_end"].tolist()
     whole = out[: ends[-1]] if ends else b""
     found: List[Union[bytes, Refused]] = [whole[begin:end] for begin, end in zip([0, *ends], ends)]

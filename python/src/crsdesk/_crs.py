@@ -69,7 +69,7 @@ def bytes_of(text: Text) -> bytes:
 
 
 def advice_on(found: object) -> str:
-    """What to pass instead of what is no text, after a semicolon; nothing where that isn't known."""
+    """What to pass instead of what is no text, after a semicolon; nothing if that isn't known."""
     package = type(found).__module__.partition(".")[0]
     # A table of geometries has a CRS, and a to_wkt that writes those.
     if hasattr(found, "crs"):
@@ -89,7 +89,7 @@ def text_of_user(found: object) -> Text:
     elif hasattr(found, "to_wkt") and not hasattr(found, "crs"):
         try:
             text = asked.to_wkt(version="WKT2_2019")
-        except TypeError:  # a CRS of a package that writes one version alone
+        except TypeError:  # a CRS of a package that writes only one version
             text = asked.to_wkt()
     else:
         advice = "; Crs.from_file reads a file" if hasattr(found, "__fspath__") else advice_on(found)
@@ -114,7 +114,7 @@ def number_of(level: str) -> int:
 def check(text: Text) -> str:
     """The kind of CRS that a text spells: ``geodetic``, ``geographic``, ``projected``, ``vertical`` or ``compound``.
 
-    Raises ``Refused`` where it spells none, ``MemoryError`` where memory is refused, and ``TypeError`` or
+    Raises ``Refused`` if it spells none, ``MemoryError`` if memory is refused, and ``TypeError`` or
     ``ValueError`` for what is no text: ``None``, a number, a str with a lone surrogate. So do the other calls.
     docs/REFUSALS.md and docs/GRAMMAR.md have the rules.
     """
@@ -125,9 +125,9 @@ def canon(text: Text, level: Level = "full", rules: Optional[Rules] = None) -> s
     """The canonical text of the CRS that a text spells, at a level (docs/CANONICAL.md).
 
     ``full`` keeps everything that the text says; ``definition`` leaves identifiers, usages and remarks out. Two texts
-    have equal canonical texts exactly where their CRSs are the same at the level. ``ValueError`` for another level.
+    have equal canonical texts exactly if their CRSs are the same at the level. ``ValueError`` for another level.
 
-    Under rules it is the form: two texts have equal forms exactly where they are the same under the rules
+    Under rules it is the form: two texts have equal forms exactly if they are the same under the rules
     (docs/RULES.md). ``ValueError`` for a ``Crs`` under other rules.
     """
     if rules is not None:
@@ -146,15 +146,15 @@ def canon(text: Text, level: Level = "full", rules: Optional[Rules] = None) -> s
 def digest(text: Text, level: Level = "full", rules: Optional[Rules] = None) -> str:
     """A short key: the SHA-256 of the canonical text, or of the form under rules, in hexadecimal, 64 characters.
 
-    The same CRS has the same digest; another CRS has another, but for a collision of SHA-256, of which none is known. It
-    stays the same from version to version as canonical texts do, and is what the command ``crsdesk digest`` writes. Raises
-    as ``canon`` does.
+    The same CRS has the same digest; another CRS has another, except for a collision of SHA-256; none is known. It
+    stays the same from version to version, like canonical texts, and is what the command ``crsdesk digest`` writes.
+    Raises like ``canon``.
     """
     return hashlib.sha256(canon(text, level, rules).encode()).hexdigest()
 
 
 def form_of(text: Text, level: Level, rules: Rules) -> str:
-    """The form of a text under rules that are those of a ``Crs``, if the text is one under rules."""
+    """The form of a text under rules, which are the ``Crs``'s own if the text is one under rules."""
     asked = rules_of(rules, text)
     assert asked is not None
     if not isinstance(text, Crs):
@@ -165,14 +165,14 @@ def form_of(text: Text, level: Level, rules: Rules) -> str:
 
 
 def rules_of(rules: Optional[Rules], *texts: Text) -> Optional[Rules]:
-    """The rules by which texts are compared: those that are asked for, and those of each ``Crs``. ``ValueError`` where
-    they aren't the same ones, ``TypeError`` for what are no rules."""
+    """The rules by which texts are compared: the rules that are asked for, and the rules of each ``Crs``.
+    ``ValueError`` if they aren't the same ones, ``TypeError`` for what are no rules."""
     if rules is not None and not isinstance(rules, Rules):
         raise TypeError(f"rules are crsdesk.Rules, not {type(rules).__name__}")
     for text in texts:
         if isinstance(text, Crs) and text.rules is not None:
             if rules is not None and rules != text.rules:
-                raise ValueError("a Crs is compared under its own rules alone; hand over its text, or Crs(crs.text)")
+                raise ValueError("a Crs is compared only under its own rules; pass its text, or Crs(crs.text)")
             rules = text.rules
     return rules
 
@@ -192,7 +192,7 @@ def same(first: Text, second: Text, level: Level = "full", rules: Optional[Rules
     """Whether two texts spell the same CRS at a level (docs/SAMENESS.md), or are the same under rules (docs/RULES.md).
 
     ``Refused`` has in ``which`` the text that spells none; where the first does, the second isn't judged. A ``Crs``
-    under rules brings its rules; ``ValueError`` where others are asked for.
+    under rules brings its rules; ``ValueError`` if others are asked for.
     """
     number = number_of(level)
     asked = rules_of(rules, first, second)
@@ -204,9 +204,9 @@ def same(first: Text, second: Text, level: Level = "full", rules: Optional[Rules
 
 
 def difference(first: Text, second: Text, level: Level = "full", rules: Optional[Rules] = None) -> Optional[str]:
-    """The path of the first part in which the CRSs of two texts differ, such as ``datum/ellipsoid/flattening``; None
-    where they are the same (docs/SAMENESS.md, "The parts that differ"). Under rules it is that of their forms. Raises
-    as ``same`` does."""
+    """The path of the first part in which the CRSs of two texts differ, such as ``datum/ellipsoid/flattening``; None if
+    they are the same (docs/SAMENESS.md, "The parts that differ"). Under rules the forms are compared. Raises like
+    ``same``."""
     number = number_of(level)
     path = _library.first_part(*compared(first, second, number, rules), number)
     if not path:
@@ -216,11 +216,11 @@ def difference(first: Text, second: Text, level: Level = "full", rules: Optional
 
 
 def differences(first: Text, second: Text, level: Level = "full", rules: Optional[Rules] = None) -> List[Difference]:
-    """All parts in which the CRSs of two texts differ, in their order; none where they are the same. Under rules they
-    are those of their forms.
+    """All parts in which the CRSs of two texts differ, in their order; none if they are the same. Under rules the forms
+    are compared.
 
-    The path of the first begins with that of ``difference``, which a parameter's name may follow. Raises as ``same``
-    does.
+    The path of the first begins with the path that ``difference`` returns, which a parameter's name may follow. Raises
+    like ``same``.
     """
     number = number_of(level)
     pieces = _library.difference_pieces(*compared(first, second, number, rules), number)
@@ -250,11 +250,11 @@ def bound_parts(first: Text, second: Text) -> List[Difference]:
 class Crs:
     """A CRS, from a text that spells it. It doesn't change, and goes wherever a text goes.
 
-    Two are equal, and hash alike, exactly where they are the same with everything that their texts say: so the keys of
+    Two are equal, and hash alike, exactly if they are the same with everything that their texts say: so the keys of
     a ``dict`` and the members of a ``set`` are CRSs. ``str`` of it is the canonical text; by that they are sorted.
 
-    With ``rules`` the form under them stands for the canonical text in all this (docs/RULES.md): it is the key. Those of
-    other rules are unequal, aren't sorted, and aren't compared: ``ValueError``.
+    With ``rules`` the form under them replaces the canonical text in all this (docs/RULES.md): it is the key. CRSs
+    under different rules are unequal; to sort or compare them raises ``ValueError``.
 
     Raises as ``check`` does.
     """
@@ -282,7 +282,7 @@ class Crs:
     def from_file(
         cls, path: Union[str, bytes, os.PathLike[str], os.PathLike[bytes]], *, rules: Optional[Rules] = None
     ) -> Self:
-        """The CRS that a file's bytes spell. ``OSError`` where it can't be read, ``TypeError`` for what is no path, as
+        """The CRS that a file's bytes spell. ``OSError`` if it can't be read, ``TypeError`` for what is no path, as
         the number of an open file; else raises as ``check`` does."""
         with open(os.fspath(path), "rb") as file:
             return cls._made(file.read(), rules)
@@ -298,10 +298,10 @@ class Crs:
         which is asked for WKT2:2019; or of a text in any form that PROJ reads.
 
         A text in WKT2 is read as ``Crs(text)`` does. One in another form (WKT1 of GDAL or Esri, a BOUNDCRS, a PROJ
-        string, PROJJSON, ``EPSG:4326``, a URN) is read by PROJ, where osgeo or pyproj is installed: ``read_by`` says
-        which, ``text`` is what PROJ wrote, and ``transformation`` is that of a bound CRS, which counts. What PROJ warns
-        of, repairs or passes over is ``Refused``, with its words in ``proj``. ``TypeError`` for an object that is
-        neither; else raises as ``check`` does.
+        string, PROJJSON, ``EPSG:4326``, a URN) is read by PROJ, if osgeo or pyproj is installed: ``read_by`` says
+        which, ``text`` is what PROJ wrote, and ``transformation`` is a bound CRS's, which counts. What PROJ warns of,
+        repairs or passes over is ``Refused``, with its words in ``proj``. ``TypeError`` for an object that is neither;
+        else raises as ``check`` does.
         """
         if isinstance(found, cls) and rules_of(rules, found) == found.rules:
             return found
@@ -355,7 +355,7 @@ class Crs:
 
     @property
     def rules(self) -> Optional[Rules]:
-        """The rules under which it is compared; None where everything counts."""
+        """The rules under which it is compared; None if everything counts."""
         return self._rules
 
     @property
@@ -370,19 +370,20 @@ class Crs:
 
     @property
     def identifiers(self) -> Tuple[str, ...]:
-        """Its own identifiers, as ``("EPSG:4326",)``: authority and code of each, in the order of the canonical text."""
+        """Its own identifiers, such as ``("EPSG:4326",)``: authority and code of each, in the order of the canonical
+        text."""
         return _facts.identifiers_of(self._plain)
 
     @property
     def read_by(self) -> Optional[str]:
-        """Which PROJ read a text in another form, as ``PROJ 9.1.1, EPSG v10.076`` (``from_user``); None where the library
-        itself read it."""
+        """Which PROJ read a text in another form, such as ``PROJ 9.1.1, EPSG v10.076`` (``from_user``); None if the
+        library itself read it."""
         return self._read_by
 
     @property
     def transformation(self) -> Optional[str]:
         """Target and transformation of a bound CRS, and of bound members of a compound CRS, as PROJ writes them; None
-        where there is none. They count at both levels."""
+        if there is none. They count at both levels."""
         return ",".join(text for _, text in self._bound) or None
 
     @property
@@ -399,8 +400,8 @@ class Crs:
         return self._kind
 
     def canonical(self, level: Level = "full") -> str:
-        """The canonical text, or the form under its rules, as ``canon`` writes it; for a bound CRS, inside the text
-        of a ``BOUNDCRS``. ``ValueError`` for a level that isn't there."""
+        """The canonical text, or the form under its rules, which ``canon`` writes; for a bound CRS, inside the text of
+        a ``BOUNDCRS``. ``ValueError`` for a level that isn't there."""
         if number_of(level) == 0:
             return self._full
         if self._definition is None:
@@ -408,7 +409,7 @@ class Crs:
         return self._definition
 
     def digest(self, level: Level = "full") -> str:
-        """The SHA-256 of ``canonical`` in hexadecimal: a key of 64 characters, as ``digest`` answers it."""
+        """The SHA-256 of ``canonical`` in hexadecimal: a key of 64 characters, which ``digest`` returns."""
         return hashlib.sha256(self.canonical(level).encode()).hexdigest()
 
     def to_wkt(self, version: str = "WKT2_2019") -> str:
@@ -421,10 +422,9 @@ class Crs:
         return self._with_bound(self._plain)
 
     def same(self, other: Text, level: Level = "full") -> bool:
-        """Whether another CRS, or the one that another text spells, is the same at a level, where ``==`` counts
-        everything.
+        """Whether another CRS, or the one that another text spells, is the same at a level; ``==`` counts everything.
 
-        It compares the canonical texts, or the forms under its rules, which are equal exactly where the CRSs are the
+        It compares the canonical texts, or the forms under its rules, which are equal exactly if the CRSs are the
         same.
         """
         rules = rules_of(self._rules, crs_of(other))
@@ -433,11 +433,11 @@ class Crs:
         return self.canonical(level) == crs_of(other).canonical(level)
 
     def difference(self, other: Text, level: Level = "full") -> Optional[str]:
-        """The path of the first part that differs, as ``difference`` answers it; None where the two are the same."""
+        """The path of the first part that differs, which ``difference`` returns; None if the two are the same."""
         return difference(self, other, level)
 
     def differences(self, other: Text, level: Level = "full") -> List[Difference]:
-        """All parts that differ, as ``differences`` answers them."""
+        """All parts that differ, which ``differences`` returns."""
         return differences(self, other, level)
 
     def __eq__(self, other: object) -> bool:
@@ -496,7 +496,7 @@ def crs_of(other: Text) -> Crs:
 
 
 def is_blank(text: Text) -> bool:
-    """Whether a text is white space alone, or nothing."""
+    """Whether a text is only white space, or empty."""
     return not isinstance(text, Crs) and not bytes_of(text).strip(BLANK)
 
 
@@ -516,9 +516,9 @@ class Group(NamedTuple):
 class Catalogue:
     """Texts by the CRS that they spell, at a level: the same CRS, the same group (docs/CATALOGUES.md).
 
-    Groups are found by canonical texts, which are equal exactly where the CRSs are the same. A catalogue may be used by
+    Groups are found by canonical texts, which are equal exactly if the CRSs are the same. A catalogue may be used by
     several threads. For a text that spells no CRS it keeps what is needed to say why, and with ``keep_texts`` the text.
-    ``ValueError`` for a level that isn't there. With ``rules`` texts are in one group where they are the same under them
+    ``ValueError`` for a level that isn't there. With ``rules`` texts are in one group if they are the same under them
     (docs/RULES.md), and a group's text is their form.
     """
 
@@ -536,9 +536,9 @@ class Catalogue:
     def add(self, text: Text, name: object = None) -> Optional[int]:
         """Adds a text under a name of any kind; without one it is the text's number, counted from 1.
 
-        The answer is the number of its group, a new one where no text before spells the same CRS; None where the text
-        is blank (white space alone, or nothing). ``Refused`` where it spells no CRS: then it is
-        listed in ``refused``, and the catalogue goes on. Where memory is refused to the library, it is as before.
+        The answer is the number of its group, a new one if no text before spells the same CRS; None if the text is
+        blank (only white space, or empty). ``Refused`` if it spells no CRS: then it is listed in ``refused``, and the
+        catalogue goes on. If memory is refused to the library, it is as before.
         """
         try:
             spelling = "" if is_blank(text) else self._spelling_of(text)
@@ -583,7 +583,7 @@ class Catalogue:
         return len(self._groups)
 
     def group(self, number: int) -> Group:
-        """A group by its number, counted from 1. ``IndexError`` where there is none."""
+        """A group by its number, counted from 1. ``IndexError`` if there is none."""
         if not 1 <= number <= len(self._groups):
             raise IndexError(f"no such group: {number}")
         with self._lock:

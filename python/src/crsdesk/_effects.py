@@ -1,18 +1,18 @@
 """What is read must have counted: each number, name and word of a text that PROJ reads.
 
-WKT1: PROJ writes its answer, the CRS in WKT2, once more in the form of the text. A part that stands there again, in the
-same node with the same value, has counted: the answer says it, once or twice. Each other part is altered alone, and the
-text is read again. Where the answer stays as it is, PROJ has passed the part over, and the text is refused with the part
-and its place; an altered text that PROJ doesn't read is another answer. So a text that PROJ or its like wrote needs one
-conversion more, one of another tool one for each part that it writes otherwise; and nothing here knows what PROJ passes
-over.
+WKT1: PROJ writes its answer, the CRS in WKT2, once more in the form of the text. A part that is there again, in the
+same node with the same value, has counted: the answer says it, once or twice. Each other part is altered by itself, and
+the text is read again. If the answer stays the same, PROJ has passed the part over, and the text is refused with the
+part and its place; an altered text that PROJ doesn't read is another answer. So a text that PROJ or its like wrote
+needs one conversion more, one of another tool one for each part that it writes otherwise; and nothing here knows what
+PROJ passes over.
 
-- The answer is written again, not what PROJ holds: that has more than WKT2 says, as an ``EXTENSION``.
+- The answer is written again, not what PROJ holds: that has more than WKT2 says, such as an ``EXTENSION``.
 - WKT1 is written as GDAL and as Esri write it, and either may have the part. So ``D_WGS_1984`` is as good as ``WGS_1984``.
 - Numbers are alike by the 15 digits that PROJ writes, and altered both ways in the last but one: so one that PROJ replaces
   by a number near it has no effect. Words, codes and names of parameters are alike whatever their case and quotes, other
   names letter by letter.
-- Parameters have no order, axes have. The name of a parameter has counted where its value has.
+- Parameters have no order, axes have. The name of a parameter has counted if its value has.
 - A datum may have two names of one: the identifier beside it says the other.
 - WKT2 has no place for identifiers of most parts and for axes of a base CRS. They aren't tried.
 
@@ -29,7 +29,7 @@ from typing import Callable, Dict, Iterable, Iterator, List, NamedTuple, Optiona
 
 from ._tree import Node, tree_of
 
-# What PROJ writes of a text in WKT2; None where its reading isn't taken.
+# What PROJ writes of a text in WKT2; None if its reading isn't taken.
 Answer = Callable[[str], Optional[str]]
 DIGITS = 15
 ALL_DIGITS = f".{DIGITS}g"
@@ -83,15 +83,15 @@ NAMES = {
     "shape": ("square", "diamond"),
     "sweep": ("x", "y"),
 }
-# Keys of one thing, of which PROJ takes one.
+# Keys of one thing; PROJ reads one of them.
 TWINS = (("k", "k_0"), ("units", "to_meter"), ("vunits", "vto_meter"))
-# What says an ellipsoid, of which one may follow from others.
+# What says an ellipsoid; one may follow from others.
 SIZES = frozenset("a b rf f e es R ellps datum".split())
 NAMES_OF_SIZES = ("ellps", "datum")
 
 
 class NotRead(ValueError):
-    """Why PROJ's reading of a text isn't taken, in one line: in its words where it has any."""
+    """Why PROJ's reading of a text isn't taken, in one line: in its words if it has any."""
 
 
 class Leaf(NamedTuple):
@@ -127,8 +127,8 @@ class Part:
 
 
 def check_parts(text: str, written: str, again: Iterable[str], answer: Answer) -> None:
-    """NotRead where a part of a text in WKT1 has no effect. ``written`` is the answer, ``again`` what it is written in
-    again, of which no more is asked once all parts stand there."""
+    """NotRead if a part of a text in WKT1 has no effect. ``written`` is the answer, ``again`` the forms it is written
+    in again; no more are asked for once they have all parts."""
     root, names = nodes_of(text), names_in(written)
     leaves = [it for it in unsaid(root, None) if it.keyword not in NAMED or said(it.written) not in names]
     for told in again:
@@ -140,7 +140,7 @@ def check_parts(text: str, written: str, again: Iterable[str], answer: Answer) -
 
 
 def check_numbers(text: str, written: str, answer: Answer) -> None:
-    """NotRead where a number of a text in WKT2 has no effect, and isn't in the answer."""
+    """NotRead if a number of a text in WKT2 has no effect, and isn't in the answer."""
     root, other = nodes_of(text), part_of(written)
     known = {said(it.written) for it in unsaid(other, None)} if other else set()
     numbers = [it for it in unsaid(root, None) if NUMBER.fullmatch(it.written) and said(it.written) not in known]
@@ -148,7 +148,7 @@ def check_numbers(text: str, written: str, answer: Answer) -> None:
 
 
 def check_each(text: str, root: Part, leaves: Sequence[Leaf], written: str, answer: Answer) -> None:
-    """NotRead where one of the leaves of a text has no effect."""
+    """NotRead if one of the leaves of a text has no effect."""
     if len(leaves) > MOST_TRIED:
         raise NotRead(f"PROJ would write {len(leaves):,} parts otherwise, too many to try each")
 
@@ -165,7 +165,7 @@ def check_each(text: str, root: Part, leaves: Sequence[Leaf], written: str, answ
 
 
 def nodes_of(text: str) -> Part:
-    """The nodes of a text; NotRead where it has others than nodes."""
+    """The nodes of a text; NotRead if it has others than nodes."""
     root = part_of(text)
     if root is None:
         raise NotRead("it has more than nodes of WKT")
@@ -173,7 +173,7 @@ def nodes_of(text: str) -> Part:
 
 
 def names_in(written: str) -> Set[str]:
-    """The names of datums and methods in a text in WKT2, some of which no form of WKT1 has."""
+    """The names of datums and methods in a text in WKT2; no form of WKT1 has some of them."""
     root = part_of(written)
     return {said(it.leaves[0].written) for it in root.all() if it.keyword in NAMED} if root else set()
 
@@ -191,7 +191,7 @@ def without_effect(part: str, place: int) -> str:
 
 
 def part_of(text: str) -> Optional[Part]:
-    """A node of a text's nodes, of which Esri's WKT1 may have two; None where there are others than nodes."""
+    """A node of a text's nodes; Esri's WKT1 may have two; None if there are others than nodes."""
     waiting = [Part("", 0)]
     for token in TOKEN.finditer(text):
         found, place = token[0], token.start()
@@ -281,7 +281,7 @@ def others_than(written: str, digits: int = DIGITS - 1) -> List[str]:
 
 
 def checked_string(text: str) -> str:
-    """A PROJ string that says a CRS. NotRead where it has a key that PROJ passes over: an unknown one, one again."""
+    """A PROJ string that says a CRS. NotRead if it has a key that PROJ passes over: an unknown one, one again."""
     keys: Set[str] = set()
     for word in text.split():
         key = key_of(word)
@@ -298,8 +298,8 @@ def key_of(word: str) -> str:
 
 
 def check_words(text: str, written: str, answer: Answer) -> None:
-    """NotRead where a PROJ string has a word, no default, without which and with another value of which it says the same
-    CRS: PROJ passes over those that a projection doesn't have."""
+    """NotRead if a PROJ string has a word, no default, and says the same CRS without it and with another value of it:
+    PROJ passes over words that a projection doesn't have."""
     words = text.split()
     whole = without_remark(written)
 
@@ -330,7 +330,7 @@ def check_words(text: str, written: str, answer: Answer) -> None:
 
 
 def other_words(word: str) -> List[str]:
-    """A word with other values, that PROJ knows where the key has such."""
+    """A word with other values, that PROJ knows if the key has such."""
     key, _, value = word.partition("=")
     known = [f"{key}={it}" for it in NAMES.get(key_of(word), ()) if it != value]
     return known[:1] or others_than(word, DIGITS_OF_WORDS)
@@ -339,8 +339,8 @@ def other_words(word: str) -> List[str]:
 def has_own_size(
     word: str, of_size: List[str], words: List[str], whole: Node, told: Callable[[Sequence[str]], Optional[Node]]
 ) -> bool:
-    """Whether one of the words that say an ellipsoid says that of the CRS: a name alone, a number alone or with another of
-    them, so that another number says another one."""
+    """Whether one of the words that say an ellipsoid says the CRS's: only a name, or a number, by itself or with
+    another of them, so that another number says another one."""
     others = [it for it in of_size if it != word]
     wanted = sizes_of(whole)
 

@@ -1,9 +1,9 @@
 """Texts in other forms than WKT2, as PROJ reads them: WKT1 of GDAL and Esri, a BOUNDCRS, PROJ strings, PROJJSON, codes and
 URNs. It takes a PROJ that osgeo or pyproj has brought into the process.
 
-The reading is strict: what PROJ warns of, repairs or passes over is refused. So its library is called by itself: GDAL tells
-warnings in its log, pyproj none. Each text has a context of its own, since a context's answers depend on what it has read
-before; it has no network. That all of a text has counted is told by no warning, and looked for (``_effects``).
+The reading is strict: what PROJ warns of, repairs or passes over is refused. So its library is called by itself: GDAL
+writes warnings in its log, pyproj has none. Each text has a context of its own, since a context's answers depend on
+what it has read before; it has no network. No warning says that all of a text has counted, so ``_effects`` checks that.
 """
 
 from __future__ import annotations
@@ -141,7 +141,7 @@ def read(text: Union[str, bytes]) -> Foreign:
 
 
 def reader() -> Optional[str]:
-    """Which PROJ reads texts, as ``PROJ 9.1.1, EPSG v10.076``; None where there is none."""
+    """Which PROJ reads texts, such as ``PROJ 9.1.1, EPSG v10.076``; None if there is none."""
     proj = loaded()
     return proj.name if proj else None
 
@@ -150,7 +150,7 @@ def reader() -> Optional[str]:
 
 
 def unbound(written: str) -> Tuple[str, Tuple[Tuple[int, str], ...]]:
-    """A text of PROJ's without its transformations, and these: the whole one's, or those of a compound CRS's members."""
+    """A text of PROJ's without its transformations, and these: the whole one's, or a compound CRS's members'."""
     if written.startswith(FRONT):
         source, rest = source_and_rest(written)
         bound: Tuple[Tuple[int, str], ...] = ((0, rest),)
@@ -186,7 +186,7 @@ def source_and_rest(text: str) -> Tuple[str, str]:
 
 
 def arguments_of(text: str) -> List[str]:
-    """The arguments of a node that is spelled with square brackets, without white space between. NotRead where the text
+    """The arguments of a node that is spelled with square brackets, without white space between. NotRead if the text
     isn't one node, as where PROJ writes a quote in a name as it is."""
     begin = text.index("[") + 1
     parts, depth = [], 1
@@ -208,11 +208,11 @@ def joined(node: str, parts: List[str]) -> str:
     return f"{node[: node.index('[')]}[{','.join(parts)}]"
 
 
-# What no warning tells.
+# What no warning says.
 
 
 def check_delimiters(text: str) -> None:
-    """NotRead where a text isn't one node, or Esri's two of a compound CRS, closed as they are opened: PROJ takes ``)`` for
+    """NotRead if a text isn't one node, or Esri's two of a compound CRS, closed as they are opened: PROJ takes ``)`` for
     ``]``, and some more after the end."""
     closing: List[str] = []
     is_second = False
@@ -231,7 +231,7 @@ def check_delimiters(text: str) -> None:
 
 
 def parsed_json(text: str) -> Any:
-    """What JSON says. NotRead where it is none, has a name twice in one object, or is too deep."""
+    """What JSON says. NotRead if it is none, has a name twice in one object, or is too deep."""
     try:
         return json.loads(text, object_pairs_hook=each_once)
     except (ValueError, RecursionError) as error:
@@ -331,7 +331,7 @@ class Context:
         self.calls["proj_context_destroy"](self.at)
 
     def refuse(self) -> NoReturn:
-        # The text around the place is in the words; the caret under it stands below nothing in one line.
+        # The text around the place is in the words; the caret under it is below nothing in one line.
         words = ["PROJ: " + " ".join(it.replace("^", " ").split()) for it in dict.fromkeys(self.said)]
         raise NotRead("; ".join(words) or "PROJ doesn't read it, and says nothing")
 
@@ -355,7 +355,7 @@ class Proj:
 
     @contextlib.contextmanager
     def reading(self, text: str, form: str) -> Iterator[Reading]:
-        """What PROJ reads of a text, in a context of its own. NotRead where PROJ says anything."""
+        """What PROJ reads of a text, in a context of its own. NotRead if PROJ says anything."""
         with Context(self.calls, self.paths) as context, self.made(context, text, form in (WKT1, BOUND)) as crs:
             if not crs:
                 context.refuse()
@@ -364,13 +364,13 @@ class Proj:
             yield Reading(self, context, crs, self.written(context, crs, WKT2_2019))
 
     def answer(self, form: str, text: str) -> Optional[str]:
-        """What PROJ writes of a text; None where its reading isn't taken."""
+        """What PROJ writes of a text; None if its reading isn't taken."""
         with contextlib.suppress(NotRead), self.reading(text, form) as found:
             return found.written
         return None
 
     def written(self, context: Context, crs: Any, form: int) -> str:
-        """A CRS in a form of WKT; NotRead where PROJ says anything."""
+        """A CRS in a form of WKT; NotRead if PROJ says anything."""
         options = ["MULTILINE=NO", *["OUTPUT_AXIS=YES"][: form == WKT1_GDAL]]
         written = self.calls["proj_as_wkt"](context.at, crs, form, texts_of(options))
         if context.said or written is None:
@@ -437,7 +437,7 @@ def listed(given: Any) -> Iterator[str]:
 
 @functools.lru_cache(maxsize=None)
 def loaded() -> Optional[Proj]:
-    """PROJ as one of the packages has it; None where there is none."""
+    """PROJ as one of the packages has it; None if there is none."""
     for package in PACKAGES:
         try:
             module = importlib.import_module(package)
@@ -453,7 +453,7 @@ def loaded() -> Optional[Proj]:
 
 
 def paths_of(module: Any) -> List[str]:
-    """Where a package has PROJ look for its data; nothing where that is PROJ's own choice."""
+    """Where a package has PROJ look for its data; nothing if that is PROJ's own choice."""
     of_pyproj: Optional[Callable[[], str]] = getattr(getattr(module, "datadir", None), "get_data_dir", None)
     if of_pyproj:
         return of_pyproj().split(os.pathsep)

@@ -107,7 +107,7 @@ class Places:
 
 
 def load() -> ctypes.CDLL:
-    """The shared object; an ImportError where it isn't there, or has not all calls, as an older one."""
+    """The shared object; an ImportError if it isn't there, or has not all calls, as an older one."""
     path = os.environ.get(LIBRARY) or str(pathlib.Path(__file__).resolve().parent / "libcrsdesk.so")
     try:
         library = ctypes.CDLL(path)
@@ -334,7 +334,7 @@ def difference_pieces(first: bytes, second: bytes, level: int) -> List[str]:
 
 
 def explained(text: bytes, number: int, place: int) -> Optional[Told]:
-    """The explanation of this refusal of a text; None where the text isn't refused so."""
+    """The explanation of this refusal of a text; None if the text isn't refused so."""
     found, where = places(), Explained()
     code, pieces = pieces_from(found, lambda *rooms: _refusal_pieces(text, len(text), *rooms, ctypes.byref(where)))
     _kept.append(found)

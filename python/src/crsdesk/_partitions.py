@@ -37,8 +37,8 @@ Spelled = Tuple[bytes, Optional[str]]
 class Standing(NamedTuple):
     """The place of a text.
 
-    ``group``    the number of its group; None where it is in none
-    ``refusal``  why it spells no CRS, as ``refused 7 UnexpectedEnd at 11``; None where it is in a group or is blank
+    ``group``    the number of its group; None if it is in none
+    ``refusal``  why it spells no CRS, such as ``refused 7 UnexpectedEnd at 11``; None if it is in a group or is blank
     """
 
     group: Optional[int]
@@ -144,7 +144,7 @@ def own_groups(texts: Iterable[Any], level: Level, missing: Any = None, rules: O
 def spelled(
     texts: Iterable[Any], level: Level, missing: Any, rules: Optional[Rules], known: Mapping[Plain, Any]
 ) -> Iterator[Tuple[Any, Optional[Spelled]]]:
-    """Each text and how it is spelled; None where the text is known when it is its turn."""
+    """Each text and how it is spelled; None if the text is known when it is its turn."""
     number = number_of(level)
     for some in batches(texts):
         together = {} if rules is not None else spelled_together(some, known, number)
@@ -172,7 +172,7 @@ def batches(texts: Iterable[Any]) -> Iterator[List[Any]]:
 
 
 def spelled_together(texts: List[Any], known: Mapping[Plain, Any], level: int) -> Dict[Plain, Spelled]:
-    """How those of the texts are spelled that are str or bytes, and not known, at the level of this number."""
+    """How texts that are str or bytes, and not known, are spelled at the level of this number."""
     fresh = list(dict.fromkeys(text for text in texts if type(text) in PLAIN and text not in known))
     found = spellings(map(bytes_of, fresh), level)
     return {
@@ -213,7 +213,7 @@ def texts_in(block: Block) -> List[bytes]:
 
 
 def sent(digests: Sequence[Array], begin: int, meetings: int) -> List[Keys]:
-    """The keys of neighbouring partitions, of which the first has a number, for each meeting."""
+    """The keys of neighbouring partitions, and the number of the first, for each meeting."""
     rows = numpy.concatenate([numpy.empty((0, 2), dtype="<u8"), *digests])
     sizes = [len(it) for it in digests]
     partitions = numpy.repeat(numpy.arange(begin, begin + len(sizes), dtype="int32"), sizes)
@@ -275,7 +275,7 @@ def joined(parts: Sequence[Sequence[Block]]) -> List[Block]:
 
 
 def judged(meeting: Met, texts: Sequence[Block]) -> List[Tuple[Array, Array, Array, Array]]:
-    """For each span partition and group of its keys, and those of their leaders, by whole texts."""
+    """For each span partition and group of its keys, and their leaders' partition and group, by whole texts."""
     leaders = meeting.leaders
     shared = numpy.flatnonzero(meeting.shared)
     by_key = dict(zip(shared.tolist(), (text for block in texts for text in texts_in(block))))
@@ -314,7 +314,7 @@ def led(parts: Sequence[Tuple[Array, Array, Array, Array]], begin: int, end: int
 
 
 class Ranks(NamedTuple):
-    """The bits of all leaders, those of each partition from a word on, and how many bits are before each word."""
+    """The bits of all leaders, each partition's from a word on, and how many bits are before each word."""
 
     words: Array
     before: Array
@@ -337,7 +337,7 @@ def ones(words: Array) -> Array:
 
 
 def numbers_of(own: Led, all_ranks: Ranks) -> Array:
-    """The number of each group of a partition, by the partition's own numbers, of which 0 is that of no group."""
+    """The number of each group of a partition, by the partition's own numbers; 0 is no group."""
     words = all_ranks.begins[own.partitions] + own.groups // WORD
     below = (numpy.uint64(1) << (own.groups % WORD).astype("<u8")) - numpy.uint64(1)
     before = all_ranks.before[words] + ones(all_ranks.words[words] & below)

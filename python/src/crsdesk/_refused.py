@@ -8,7 +8,7 @@ FROM_USER = "In Python, Crs.from_user has PROJ read it, where osgeo or pyproj is
 
 
 class Told(NamedTuple):
-    """What the library explains of a refusal (crsdesk_refusal_pieces); a line of 0 is that of one made by hand."""
+    """What the library explains of a refusal (crsdesk_refusal_pieces); a refusal made by hand has line 0."""
 
     line: int
     column: int
@@ -33,13 +33,13 @@ class Refused(ValueError):
                   text in UTF-8
     ``line``      the line of that byte, counted from 1; lines end at line feeds
     ``column``    the character of that line, counted from 1
-    ``expected``  what could stand at the place, such as ``("PRIMEM", "CS")``; empty where that isn't known
-    ``text``      the text, as bytes; None where it isn't kept, as by a ``Catalogue``
-    ``which``     ``"first"`` or ``"second"`` where two texts were handed over, else None
-    ``proj``      what is said of PROJ's reading, in a line, where it was asked (``Crs.from_user``), else None
+    ``expected``  what could stand at the place, such as ``("PRIMEM", "CS")``; empty if that isn't known
+    ``text``      the text, as bytes; None if it isn't kept, such as by a ``Catalogue``
+    ``which``     ``"first"`` or ``"second"`` if two texts are compared, else None
+    ``proj``      why PROJ's reading isn't taken, in a line, if PROJ was asked (``Crs.from_user``), else None
 
     The mistake is often before the place. ``str`` of a refusal has the piece of the text with a caret under the place,
-    what is expected there, what the number means, and hints where the text shows what it is.
+    what is expected there, what the number means, and hints if the text shows what it is.
     """
 
     __slots__ = ("_told", "is_of_crs", "name", "number", "place", "proj", "text", "which")
@@ -108,7 +108,7 @@ class Refused(ValueError):
     @property
     def keyword(self) -> str:
         """The keyword at the place, in capitals, where no CRS that is read has a node of this name there, such as
-        ``BOUNDCRS``; nothing where it is misspelt, and where the number isn't 11."""
+        ``BOUNDCRS``; nothing if it is misspelt, and where the number isn't 11."""
         return self._parts.found if self.number == 11 and not self._parts.open_or_meant else ""
 
     @property
@@ -119,7 +119,7 @@ class Refused(ValueError):
     @property
     def hint(self) -> Optional[str]:
         """What is open, which name was meant, which units are asked for, what the text is and what to do with it, in a
-        line or two; None where none of it is known."""
+        line or two; None if none of it is known."""
         return "\n".join(self.hints_of_file()) or None
 
     @property

@@ -24,7 +24,7 @@ class RulesRefused(ValueError):
     ``number``  1 to 8 as of a text, 41 to 44 of a statement (docs/RULES.md, "What is refused")
     ``place``   where in that line, in bytes from 0
     ``piece``   the line
-    ``path``    the file, as it was handed over; None of a text
+    ``path``    the file, as the caller named it; None for a text
     """
 
     def __init__(self, line: int, number: int, place: int, piece: bytes = b"", path: Optional[Path] = None) -> None:
@@ -66,7 +66,7 @@ class Rules:
 
     @classmethod
     def from_file(cls, *paths: Path) -> Rules:
-        """The rules that files spell. ``OSError`` where one can't be read; else raises as ``Rules`` does."""
+        """The rules that files spell. ``OSError`` if one can't be read; else raises as ``Rules`` does."""
         texts: List[bytes] = []
         for path in paths:
             with open(os.fspath(path), "rb") as file:

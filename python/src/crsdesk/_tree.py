@@ -28,7 +28,7 @@ class Node:
 
     @property
     def name(self) -> str:
-        """Its first value; nothing where it has none."""
+        """Its first value; nothing if it has none."""
         return next(iter(self.values), "")
 
     def child(self, keyword: str) -> Optional[Node]:
@@ -47,7 +47,7 @@ def unquoted(value: str) -> str:
 
 
 def tree_of(text: str) -> Node:
-    """The tree of a text. ValueError where it is none."""
+    """The tree of a text. ValueError if it is none."""
     nodes = nodes_in(text)
     if len(nodes) != 1:
         raise ValueError("no text of one node")

@@ -8,7 +8,7 @@
      Standing(group=None, refusal='refused 1 BadCharacter at 4'), Standing(group=1, refusal=None)]
 
 The package has it with the extra ``crsdesk[dask]``. What is called here is tested, not proved: that two texts have equal
-canonical texts exactly where their CRSs are the same is what the library's proof says, and all that it is built on.
+canonical texts exactly if their CRSs are the same is what the library's proof says, and all that it is built on.
 """
 
 from __future__ import annotations
@@ -43,8 +43,8 @@ def lines(
     path: Union[str, "os.PathLike[str]", List[str]], blocksize: Union[int, str] = "16 MiB", **options: Any
 ) -> Any:
     """A bag of the lines of files, as bytes, without their ends: what a catalogue has (docs/CATALOGUES.md). Each block
-    of about ``blocksize`` bytes is a partition. Path and options are those of ``dask.bytes.read_bytes``: a name, a
-    pattern or a list, with ``s3://`` and others where their packages are there."""
+    of about ``blocksize`` bytes is a partition. Path and options are passed to ``dask.bytes.read_bytes``: a name, a
+    pattern or a list, with ``s3://`` and others if their packages are there."""
     found = read_bytes(path, delimiter=b"\n", blocksize=blocksize, sample=False, **options)[1]
     # Files without a byte have no block.
     blocks = [block for blocks in found for block in blocks] or [b""]
@@ -66,13 +66,13 @@ def lines_of(block: bytes) -> List[bytes]:
 def groups(
     texts: Any, level: Level = "full", *, npartitions: Optional[int] = None, rules: Optional[Rules] = None
 ) -> Any:
-    """The group or the refusal of each text of a bag or of a dataframe's column, as those of one ``Catalogue``.
+    """The group or the refusal of each text of a bag or of a dataframe's column, in one ``Catalogue``.
 
     Groups are numbered from 1 by their first texts, in the collection's order. For a bag the answer is a bag of
-    ``Standing``; for a column it is a dataframe with its index, its partitions, and the columns ``group`` (``Int64``, with
-    NA) and ``refusal`` (a str or None). A blank text, and NA in a column, has neither. Nothing is computed before the
-    answer is asked for. ``npartitions`` is in how many partitions keys are compared; where none is given, as many as the
-    collection has up to 8, and above 256 partitions one for each 32. With ``rules`` texts are in one group where they are
+    ``Standing``; for a column it is a dataframe with its index, its partitions, and the columns ``group`` (``Int64``,
+    with NA) and ``refusal`` (a str or None). A blank text, and NA in a column, has neither. Nothing is computed before
+    the answer is asked for. ``npartitions`` is in how many partitions keys are compared; without it, as many as the
+    collection has up to 8, and above 256 partitions one for each 32. With ``rules`` texts are in one group if they are
     the same under them.
 
     ``TypeError`` for another collection, and while it is computed for what is no text; ``ValueError`` for a level that
@@ -164,7 +164,7 @@ def add_tasks(
 
 def canon(texts: Any, level: Level = "full", rules: Optional[Rules] = None) -> Any:
     """The canonical text of each text of a bag or of a dataframe's column, or the form under rules, in a collection like
-    it; None where it spells no CRS, and where it is NA. Raises as ``groups`` does."""
+    it; None if it spells no CRS, and where it is NA. Raises as ``groups`` does."""
     number_of(level)
     rules_of(rules)
     if is_bag_of(texts):

@@ -18,7 +18,7 @@ ESCAPE, ESCAPED = re.compile(rb"\\(.)"), re.compile(b"[\\\\\b\f\n\r\t\v]")
 
 
 def columns_of(row: bytes) -> List[bytes]:
-    """A key and a text, as they are written; ``ValueError`` where there are more or fewer columns."""
+    """A key and a text, as they are written; ``ValueError`` if there are more or fewer columns."""
     columns = row.split(b"\t")
     if len(columns) != 2:
         raise ValueError("not two columns, a key and a text")
@@ -27,7 +27,7 @@ def columns_of(row: bytes) -> List[bytes]:
 
 def filled(key: bytes, written: bytes) -> Optional[bytes]:
     """The row of a key and a text in any form that ``Crs.from_user`` reads: the key, the text in WKT2, and the
-    transformation of a bound CRS, of which the text is the source CRS. None for a blank text and for NULL; raises as
+    transformation of a bound CRS, whose source CRS the text is. None for a blank text and for NULL; raises as
     ``Crs.from_user`` does."""
     text = b"" if written == NULL else ESCAPE.sub(lambda it: PLAIN.get(it[1], it[1]), written)
     if not text.strip():

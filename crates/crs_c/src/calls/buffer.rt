@@ -5,7 +5,7 @@ ghost use Rattle.crs_c.specs.PieceBuffers.{AreGiven, buffers_of};
 use crate::calls::codes::{NO_ROOM, OK};
 use crs_explain::Pieces;
 
-/// Puts an answer at the front of a buffer, where it has the room, and answers its length.
+/// Puts an answer at the front of a buffer, if that has the room, and returns its length.
 #[tactic(auto, unfolding(crate::specs::Buffers::IsGiven))]
 pub fn give<T: Copy>(answer: &[T], out: &mut [T], length: &mut usize) -> u32
     ensures { IsGiven answer.now
@@ -23,8 +23,8 @@ pub fn give<T: Copy>(answer: &[T], out: &mut [T], length: &mut usize) -> u32
     OK
 }
 
-/// Puts the bytes of pieces at the front of a buffer, and where each ends at the front of another, each where it has the
-/// room, and answers how many bytes and how many pieces there are.
+/// Puts the bytes of pieces at the front of a buffer, and where each ends at the front of another, each if it has the
+/// room, and returns how many bytes and how many pieces there are.
 #[tactic(auto, unfolding(crate::specs::PieceBuffers::AreGiven))]
 pub fn give_pieces(
     pieces: &Pieces,

@@ -14,7 +14,7 @@ use crs_value::Level;
 use sha2::{Digest, Sha256};
 use std::alloc::Global;
 
-/// A text of many, and what is answered of it: `struct crsdesk_entry` of C.
+/// A text of many, and the answer to it: `struct crsdesk_entry` of C.
 #[repr(C)]
 #[derive(Clone, Copy)]
 pub struct Entry {
@@ -22,22 +22,22 @@ pub struct Entry {
     pub begin: usize,
     /// Where it ends there. The caller sets it.
     pub end: usize,
-    /// Where what is answered of it ends among the bytes written; it begins where that of the entry before ends.
+    /// Where the answer ends among the bytes written; it begins where the answer of the entry before ends.
     pub written_end: usize,
-    /// Where it is refused, in bytes from its own first.
+    /// The place of its refusal, in bytes from its own first.
     pub place: usize,
-    /// Why.
+    /// The number of its refusal.
     pub number: u32,
     /// The code.
     pub code: u32,
 }
 
-/// What is answered of a text.
+/// The answer to a text.
 #[derive(Clone, Copy)]
 pub enum Wanted {
     /// Its canonical text at a level.
     Canonical(Level),
-    /// The digest of that.
+    /// The digest of its canonical text.
     Digest(Level),
 }
 

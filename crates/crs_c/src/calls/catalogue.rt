@@ -1,4 +1,4 @@
-//! What each call does to a catalogue, taken by value and handed back: where a text was placed, and C's numbers.
+//! What each call does to a catalogue, which it takes by value and returns: where a text was placed, and C's numbers.
 ghost use Rattle.std.specs.Prelude.{◌≡◌, length};
 ghost use Rattle.crs_c.specs.Catalogues.{IsAdded, IsAddedUnder, IsMadeEmpty, IsPieceAt, line_at, standing_of, without_memory};
 
@@ -15,7 +15,7 @@ use std::alloc::Global;
 #[repr(C)]
 #[derive(Drop)]
 pub struct Standing {
-    /// The number of its group; 0 where it is in none.
+    /// The number of its group; 0 if it is in none.
     pub group: usize,
     /// Why it spells no CRS, with code 1.
     pub refused: Refused,

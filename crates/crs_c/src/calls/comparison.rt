@@ -13,7 +13,8 @@ use crs_value::laws::crs_is_sound;
 use crs_value::{Crs, Level, read};
 use std::alloc::{AllocError, Global};
 
-/// What is made of two CRSs. It is asked by value: a call with a CRS is slow to prove where another reference comes first.
+/// What is made of two CRSs. It is passed by value: a call with a CRS is slow to prove if another reference comes
+/// first.
 pub trait Comparing: Copy {
     type Made: Drop;
 
@@ -88,7 +89,7 @@ impl Comparing for Sameness {
     }
 }
 
-/// The words of the first part in which two CRSs differ at a level; no words exactly where they are the same.
+/// The words of the first part in which two CRSs differ at a level; no words exactly if they are the same.
 #[derive(Clone, Copy)]
 pub struct FirstPart(pub Level);
 
@@ -116,7 +117,7 @@ fn words_of(alloc: Global, found: Option<Path>) -> Result<Vec<u8>, AllocError>
     Ok(words)
 }
 
-/// The lines of all parts in which two CRSs differ at a level; no lines exactly where they are the same.
+/// The lines of all parts in which two CRSs differ at a level; no lines exactly if they are the same.
 #[derive(Clone, Copy)]
 pub struct Lines(pub Level);
 
@@ -135,7 +136,7 @@ impl Comparing for Lines {
     }
 }
 
-/// The pieces of all parts in which two CRSs differ at a level; no pieces exactly where they are the same.
+/// The pieces of all parts in which two CRSs differ at a level; no pieces exactly if they are the same.
 #[derive(Clone, Copy)]
 pub struct DifferencePieces(pub Level);
 

@@ -42,7 +42,7 @@ fn refusal_of(alloc: Global, text: &[u8]) -> Result<Option<Refusal>, AllocError>
     }
 }
 
-/// The explanation of a text's refusal; nothing of a text that spells a CRS.
+/// The explanation of a text's refusal; nothing for a text that spells a CRS.
 pub fn explanation(alloc: Global, text: &[u8]) -> Result<Vec<u8>, AllocError>
     ensures { IfOk result (λ told. IsExplanation text.now told.items) }
 {
@@ -53,7 +53,7 @@ pub fn explanation(alloc: Global, text: &[u8]) -> Result<Vec<u8>, AllocError>
     }
 }
 
-/// A text's refusal, and its explanation in pieces; none of a text that spells a CRS.
+/// A text's refusal, and its explanation in pieces; none for a text that spells a CRS.
 pub fn explained_refusal(
     alloc: Global,
     text: &[u8],
@@ -81,7 +81,7 @@ pub struct Explained {
     pub line: usize,
     /// The character of that line at its place, counted from 1.
     pub column: usize,
-    /// Where the node begins in which something else is expected; 0 where that isn't known.
+    /// Where the node begins in which something else is expected; 0 if that isn't known.
     pub node: usize,
 }
 
@@ -97,7 +97,7 @@ pub fn refusal_and_numbers(refusal: Refusal, told: &ExplanationPieces) -> Explai
     }
 }
 
-/// Gives the pieces of a refusal: with code 1 where they have room.
+/// Gives the pieces of a refusal: with code 1 if they have room.
 pub fn give_refused(
     pieces: &Pieces,
     out: &mut [u8],

@@ -1,4 +1,4 @@
-//! Rules as a caller of C holds them: what each call does to them, taken by value and handed back, and what it answers.
+//! Rules as a caller of C holds them: what each call does to them, which it takes by value and returns, and its answer.
 ghost use Rattle.std.specs.Prelude.{◌≡◌, MatchResult};
 ghost use Rattle.crs_text.specs.Fault.{refusal_of};
 ghost use Rattle.crs_value.specs.Spells.{IsFaultOfText};
@@ -38,7 +38,7 @@ impl Model for HeldRules {
     ghost invariant = { λ held. AreOfFiles held.reader };
 }
 
-/// What is answered of a rules file: `struct crsdesk_rules_standing` of C.
+/// The answer to a rules file: `struct crsdesk_rules_standing` of C.
 #[repr(C)]
 #[derive(Drop)]
 pub struct RulesStanding {
@@ -52,7 +52,7 @@ pub struct RulesStanding {
     pub code: u32,
 }
 
-/// What is answered of a text under rules: `struct crsdesk_form` of C.
+/// The answer to a text under rules: `struct crsdesk_form` of C.
 #[repr(C)]
 #[derive(Drop)]
 pub struct Form {

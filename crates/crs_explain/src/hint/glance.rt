@@ -77,7 +77,7 @@ pub(crate) fn split_word(text: &[u8]) -> (&[u8], &[u8]) {
     (front(text, length), rest(text, length).trim_ascii_start())
 }
 
-/// The keyword of the node that the bytes begin with, after white space; empty where they begin with no node.
+/// The keyword of the node that the bytes begin with, after white space; empty if they begin with no node.
 pub(crate) fn keyword_at(text: &[u8]) -> &[u8] {
     match split_word(text) {
         (word, [b'[' | b'(', ..]) => word,

@@ -19,8 +19,8 @@ use std::alloc::Global;
 // The last number of a refusal of the text itself; those of shapes and values are above it.
 const LAST_OF_TEXT: u8 = 8;
 
-/// The hints that apply to a refused text, a sentence or more without a line end; nothing where none applies. A hint
-/// looks at the text's front, the refusal's place, and what is open there. `AllocError`: no memory for them.
+/// The hints that apply to a refused text, a sentence or more without a line end; nothing if none applies. A hint looks
+/// at the text's front, the refusal's place, and what is open there. `AllocError`: no memory for them.
 pub fn hints(alloc: Global, text: &[u8], refusal: Refusal) -> Made<Vec<u8>> {
     let whole = by_front(text);
     let before = look_before(text, refusal.place());
@@ -44,7 +44,7 @@ fn beside<'a>(whole: Option<Hint<'_>>, there: Option<Hint<'a>>, number: u8) -> O
     (is_of_class && is_of_damage).then_some(there?)
 }
 
-/// The node open at a refusal, as `CS[ at 24 is still open`; nothing where none is. `AllocError`: no memory.
+/// The node open at a refusal, such as `CS[ at 24 is still open`; nothing if none is. `AllocError`: no memory.
 pub fn still_open(alloc: Global, text: &[u8], refusal: Refusal) -> Made<Vec<u8>>
     ensures { IfOk result (λ words. IsOpenText words.items) }
 {

@@ -5,7 +5,7 @@ use crs_text::Fault;
 use crs_value::{Crs, Level, read};
 use std::alloc::{AllocError, Global};
 
-/// `same`, or the path of the first part in which the CRSs of two texts differ, as `datum/ellipsoid/flattening`.
+/// `same`, or the path of the first part in which the CRSs of two texts differ, such as `datum/ellipsoid/flattening`.
 pub fn difference<'t>(alloc: Global, first: &'t [u8], second: &'t [u8]) -> Result<String, Fault> {
     match read(alloc, first) {
         Ok(first) => difference_from(alloc, &first, second),

@@ -1,9 +1,9 @@
-//! What to tell a user where there is no answer.
+//! The message for a user if there is no answer.
 
 use crs_text::Fault;
 use std::alloc::{AllocError, Global};
 
-/// What to tell a user: a refusal's number, name, place and the text from there on; or that memory ran out.
+/// The message for a user: a refusal's number, name, place and the text from there on; or that memory ran out.
 pub fn told(alloc: Global, text: &[u8], fault: &Fault) -> Result<String, AllocError> {
     match fault.refusal() {
         Some(refusal) => {

@@ -6,7 +6,7 @@ use crs_value::Level;
 use indexmap::IndexMap;
 use std::alloc::{AllocError, Global};
 
-/// The number of a text's CRS in a cache, as CRSs come: one number for two texts exactly where they spell one CRS.
+/// The number of a text's CRS in a cache, as CRSs come: one number for two texts exactly if they spell one CRS.
 pub fn number_of(
     alloc: Global,
     cache: &mut IndexMap<Canon, usize>,

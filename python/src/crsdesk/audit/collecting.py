@@ -26,7 +26,7 @@ Answer = TypeVar("Answer")
 MOST_ITEMS = 32
 
 
-# What a system tells of itself, which has no end: no link leads there, nor a folder that is named above it.
+# What a system reports of itself, which has no end: no link leads there, nor a folder that is named above it.
 SYSTEM = ("/proc", "/sys", "/dev")
 LEADS_OUT = "a link that leads out of what was named (--follow follows it)"
 LISTED = "a folder that is listed already"
@@ -105,7 +105,7 @@ class Walk:
         self.links: Deque[Entry] = deque()
 
     def holds(self, path: str) -> bool:
-        """Whether a path without links may be read: it lies in what is named, which alone can be the system's."""
+        """Whether a path without links may be read: it lies in what is named, and only that can be the system's."""
         roots = [it for it in upwards(path) if it in self.roots]
         return any(map(is_of_system, roots)) if is_of_system(path) else self.follows or bool(roots)
 
@@ -170,7 +170,7 @@ class Walk:
         suffix = suffix_of(entry.path)
         if way is None:
             if os.path.islink(entry.real):
-                os.stat(entry.path)  # it leads to itself alone
+                os.stat(entry.path)  # it leads only to itself
             self.listing.others[suffix] = self.listing.others.get(suffix, 0) + 1
             return
         if way is Way.GDAL:

@@ -73,7 +73,7 @@ def stop(number: int, _: object) -> None:
 
 
 def rules_files_of(names: Sequence[str]) -> List[RulesFile]:
-    """Rules files, read. OSError where one can't be, RulesRefused where one is refused."""
+    """Rules files, read. OSError if one can't be, RulesRefused where one is refused."""
     rules = Rules.from_file(*names)
     return [RulesFile(name, text) for name, text in zip(names, rules.texts)]
 
@@ -150,7 +150,7 @@ def clash_of(names: Sequence[str], read: Sequence[str]) -> str:
 
 
 def identity_of(path: str) -> Optional[Tuple[int, int]]:
-    """What a file is whatever its names are; None where there is none."""
+    """What a file is whatever its names are; None if there is none."""
     try:
         status = os.stat(path)
     except OSError:

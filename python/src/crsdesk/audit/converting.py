@@ -1,7 +1,7 @@
 """Texts in other forms, as PROJ writes them in WKT2:2019: ``Crs.from_user`` of the package, as the audit needs it.
 
-Whatever PROJ warns of, repairs, fills in or passes over refuses the text. A bound CRS is split: its source CRS is the text,
-and its transformation stands beside it.
+Whatever PROJ warns of, repairs, fills in or passes over refuses the text. A bound CRS is split: its source CRS is the
+text, and its transformation is beside it.
 """
 
 from __future__ import annotations
@@ -16,10 +16,10 @@ from .._tree import nodes_in, number_shown
 class Conversion(NamedTuple):
     """A text that PROJ has read.
 
-    ``text``            in WKT2:2019; for a bound CRS, that of its source CRS
+    ``text``            in WKT2:2019; for a bound CRS, its source CRS
     ``producer``        the reader's name and version: ``PROJ 9.1.1, EPSG v10.076``
-    ``warnings``        why it isn't taken, in PROJ's words where it has any; then there is no text
-    ``transformation``  that of a bound CRS in one line, its part of a key; nothing where there is none
+    ``warnings``        why it isn't taken, in PROJ's words if it has any; then there is no text
+    ``transformation``  a bound CRS's in one line, its part of a key; nothing if there is none
     """
 
     text: str
@@ -30,7 +30,7 @@ class Conversion(NamedTuple):
 
 @functools.lru_cache(maxsize=1024)
 def converted(text: bytes) -> Optional[Conversion]:
-    """What PROJ reads a text as. None where the text has no form that PROJ is asked for. An archive has many copies."""
+    """What PROJ reads a text as. None if the text has no form that PROJ is asked for. An archive has many copies."""
     if not _foreign.is_foreign(text):
         return None
     try:

@@ -1,6 +1,6 @@
 """What GDAL and PROJ warn of while they read a CRS, and what GDAL repairs or replaces without a word.
 
-Each function answers in GDAL's words, or in a few of its own, why a data set's CRS isn't taken; nothing where it is.
+Each function answers in GDAL's words, or in a few of its own, why a data set's CRS isn't taken; nothing if it is.
 """
 
 from __future__ import annotations
@@ -30,7 +30,7 @@ ERRORS = {5: "corrupt data", 7: "unsupported CRS"}
 
 
 def words_of(code: object) -> str:
-    """An error of OGR, of which the bindings answer the number or raise the words."""
+    """An error of OGR: the bindings return its number or raise its words."""
     return ERRORS.get(code, f"OGR error {code}") if isinstance(code, int) else str(code)
 
 

@@ -31,15 +31,15 @@ class Belongs(NamedTuple):
 
 
 def belongs_to(file: str, layer: str) -> Optional[Belongs]:
-    """Where a text of a file belongs; None where it stands alone."""
+    """Where a text of a file belongs; None if it is by itself."""
     is_member = bool(layer) and file.lower().endswith(".zip")
     match = MEMBER.fullmatch(layer) if is_member else FILE.fullmatch(file)
     return Belongs(file if is_member else "", match[1], match[2].lower()) if match else None
 
 
 def filled_by(file: str, layer: str) -> FrozenSet[Kind]:
-    """What GDAL fills in where a text is what it writes of a data set. None of the formats beside which texts lie has
-    axes, and those of MapInfo have a datum's number, for which GDAL has names of its own."""
+    """What GDAL fills in if a text is what it writes of a data set. None of the formats beside which texts lie has
+    axes, and MapInfo's have a datum's number, for which GDAL has names of its own."""
     belongs = belongs_to(file, layer)
     if belongs is None or belongs.is_beside:
         return NOTHING

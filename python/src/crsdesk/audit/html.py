@@ -1,8 +1,8 @@
 """The report as one page that needs no network and no scripts.
 
-Everything that comes from files goes through the templates, which escape it. By its policy the page allows nothing but
-its own style and script. Its length is bounded: where a part of the report has no room on it, the page says how much
-more the data has.
+Everything that comes from files goes through the templates, which escape it. The page's policy allows only its own
+style and script. Its length is bounded: if a part of the report has no room on it, the page says how much more the data
+has.
 """
 
 from __future__ import annotations
@@ -223,7 +223,7 @@ def misses_of(blocks: Any, report: Report, misses: Sequence[NearMiss]) -> Part:
 
 
 def lines_of(parts: Sequence[Difference]) -> List[Line]:
-    """Parts that differ, those of the kinds to look at first before the others."""
+    """Parts that differ, with the kinds to look at first before the others."""
     rows = sorted(rows_of(parts), key=lambda it: it.kind)
     return [Line(row.path, row.kind.label, *values_of(row.first, row.second)) for row in rows]
 
@@ -243,7 +243,7 @@ def written(pieces: Pieces) -> Markup:
 
 
 def places_shown(places: Sequence[Place]) -> List[str]:
-    """Places, with the version of PROJ that has read them; those of one data set in one row."""
+    """Places, with the version of PROJ that has read them; one row for the places of one data set."""
     rows: Dict[object, List[Place]] = {}
     for place in places:
         belongs = belongs_to(place.file, place.layer)
@@ -283,8 +283,8 @@ def definitions_of(blocks: Any, definitions: Sequence[Definition]) -> Tuple[Part
 
 
 class Refusals(NamedTuple):
-    """Texts that are refused for one cause, by what to do with them, those of the most texts first; and the width of their
-    bar, from 0 to 1."""
+    """Texts that are refused for one cause, by what to do with them, largest first; and the width of their bar, from 0
+    to 1."""
 
     cause: str
     texts: int

@@ -32,10 +32,10 @@ class Spelled:
     """A CRS that a text spells.
 
     ``full``         its canonical text with everything, ``definition`` the one without identifiers, usages and remarks
-    ``form``         by which it is grouped: the one by definition under rules; without rules it is ``definition``
-    ``identifiers``  its own, as ``EPSG:4326``
-    ``boxes``        its areas of use, and those of its parts
-    ``transformation``  of a bound CRS, which makes it another one than its source CRS; nothing of any other
+    ``form``         the text by which it is grouped: at level ``definition`` under rules; without rules ``definition``
+    ``identifiers``  its own, such as ``EPSG:4326``
+    ``boxes``        its areas of use, and the areas of its parts
+    ``transformation``  a bound CRS's, which makes it another one than its source CRS; else nothing
     """
 
     full: str
@@ -51,10 +51,11 @@ class Spelled:
 @dataclass(frozen=True)
 class Refusal:
     """Why a text is refused, in the words of ``Refused``: ``place`` is its byte, ``piece`` the line with a caret below,
-    ``expected`` what could stand there, ``hint`` what the text most likely is and what to do, or nothing, ``doubts`` why
-    what PROJ reads the text as isn't taken, where that was tried. ``form`` is that of a text that PROJ is asked for, as
-    ``WKT1``, damaged or not; nothing of any other. ``keyword`` is one that is nowhere read there, as ``TIMECRS``. Of a text
-    that doesn't look like that of a CRS nothing is quoted: ``instead`` says what it is, ``length`` how many bytes it has.
+    ``expected`` what could stand there, ``hint`` what the text most likely is and what to do, or nothing, ``doubts``
+    why PROJ's reading of the text isn't taken, if that was tried. ``form`` is the form of a text that PROJ is asked
+    for, such as ``WKT1``, damaged or not; else nothing. ``keyword`` is one that is nowhere read there, such as
+    ``TIMECRS``. Nothing is quoted of a text that doesn't look like a CRS's: ``instead`` says what it is, ``length`` how
+    many bytes it has.
     """
 
     number: int
@@ -74,9 +75,9 @@ class Refusal:
 
 
 class Judged(NamedTuple):
-    """A text's answer: the CRS by its place in the list of its file, or the refusal; the digest tells equal texts.
-    ``read_by`` is the version of PROJ that has read it, where that was asked and the library refuses it; ``filled``
-    has the kinds of parts that a reader filled in: PROJ the axes that WKT1 mostly has none of, GDAL what a format lacks.
+    """A text's answer: the CRS by its place in the list of its file, or the refusal; equal texts have equal digests.
+    ``read_by`` is the version of PROJ that has read it, if that was asked and the library refuses it; ``filled`` has
+    the kinds of parts that a reader filled in: PROJ the axes that WKT1 mostly has none of, GDAL what a format lacks.
     """
 
     layer: str
@@ -184,7 +185,7 @@ def spelled_by(crs: Crs, transformation: str, rules: Optional[Rules]) -> Spelled
 
 
 def refusal_of(refused: Refused, found: Text) -> Refusal:
-    """A refusal's words, as they are said of files."""
+    """A refusal's words, for files."""
     instead = kind_of_text(found.text)
     return Refusal(
         refused.number,

@@ -17,12 +17,12 @@ from .._tree import Node, nodes_in, text_of_node, tree_of, unquoted
 
 
 class Kind(enum.IntEnum):
-    """The kinds, those first that are looked at first.
+    """The kinds, in the order to look at them.
 
     ``NUMBERS``  numbers that differ in more than their last digits; another method
     ``AXES``     directions or order of the axes, or how many there are
     ``DATUM``    another reference frame, epoch or geoid, or a CRS of another kind
-    ``SHIFT``    another transformation, as ``TOWGS84`` brings it, or one beside none
+    ``SHIFT``    another transformation, such as a ``TOWGS84``, or one beside none
     ``NAMES``    names, identifiers, usages, and numbers in their last digits
     """
 
@@ -47,7 +47,7 @@ LABELS = {
 # The kinds of parts that a reader fills in where a text, or a format, has no place for them.
 NOTHING: FrozenSet[Kind] = frozenset()
 NO_AXES = frozenset((Kind.AXES,))
-# Numbers that differ by less than this part of the larger one differ in digits alone. It is less than the difference of
+# Numbers that differ by less than this part of the larger one differ only in digits. It is less than the difference of
 # the flattenings of WGS 84 and GRS 1980, which is 5 parts in 10^9.
 NEAR = 1e-9
 NEAR_ZERO = 1e-10
@@ -69,7 +69,7 @@ class Row(NamedTuple):
 
 
 def kind_of(parts: Sequence[Difference], filled: FrozenSet[Kind] = NOTHING) -> Kind:
-    """The kind of a pair of CRSs: the first of those of its parts, but for kinds that a reader filled in on a side."""
+    """The kind of a pair of CRSs: the first of its parts' kinds, except kinds that a reader filled in on a side."""
     return min((row.kind for row in rows_of(parts) if row.kind not in filled), default=Kind.NAMES)
 
 
@@ -176,7 +176,7 @@ def by_name(written: Optional[str]) -> Dict[str, Node]:
 
 
 def kind_of_parameters(first: Optional[Node], second: Optional[Node]) -> Kind:
-    """The values of two parameters of one name count, each in its unit; one that is on one side alone counts unless it
+    """The values of two parameters of one name count, each in its unit; one that is only on one side counts unless it
     does nothing there."""
     sides = [number_and_factor(it) for it in (first, second) if it is not None]
     if len(sides) == 1:

@@ -1,4 +1,4 @@
-"""Whether a text looks like that of a CRS: a report quotes nothing of another, and tells its kind and its length."""
+"""Whether a text looks like a CRS's: a report quotes nothing of another, but has its kind and its length."""
 
 from __future__ import annotations
 
@@ -24,7 +24,7 @@ PROJJSON = re.compile(r'\{\s*"(?:\$schema"\s*:\s*"https?://proj\.org/|type"\s*:\
 AUTHORITIES = ("epsg:", "esri:", "ignf:", "ogc:", "nkg:", "iau_2015:", "urn:ogc:", "http://", "https://")
 BOM = "\ufeff"
 UTF_16 = (b"\xff\xfe", b"\xfe\xff")
-# As much of a text as tells what it is.
+# As much of a text as shows what it is.
 FRONT = 4096
 
 
@@ -40,7 +40,7 @@ def looks_like_crs(text: bytes) -> bool:
 
 
 def kind_of_text(text: bytes) -> str:
-    """What a text is that isn't quoted; nothing of one that looks like that of a CRS."""
+    """What a text is that isn't quoted; nothing for one that looks like a CRS's."""
     if looks_like_crs(text):
         return ""
     front = text[:FRONT]

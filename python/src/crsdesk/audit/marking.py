@@ -1,4 +1,4 @@
-"""Where two values differ: the characters that one of them alone has."""
+"""Where two values differ: the characters that only one of them has."""
 
 from __future__ import annotations
 
@@ -6,7 +6,7 @@ import difflib
 import re
 from typing import List, NamedTuple, Optional, Tuple
 
-# Longer values are compared by their ends alone.
+# Of longer values only the ends are compared.
 MOST_WORDS = 2000
 WORD = re.compile(r"\w+|\s|[^\w\s]")
 

@@ -38,7 +38,8 @@ def visible(text: str) -> str:
 
 
 def distinct(text: str) -> str:
-    """A text in which every character is told from any other: ``visible``, with spaces other than the space escaped."""
+    """A text in which every character differs visibly from any other: ``visible``, with spaces other than the space
+    escaped."""
     return UNSEEN.sub(character_shown, text)
 
 

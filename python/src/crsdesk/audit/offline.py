@@ -51,7 +51,7 @@ def leave_network() -> bool:
 
 @functools.lru_cache(maxsize=None)
 def gdal_of() -> Any:
-    """The module osgeo.gdal, quiet and without a network; None where it isn't installed."""
+    """The module osgeo.gdal, quiet and without a network; None if it isn't installed."""
     os.environ["PROJ_NETWORK"] = "OFF"
     for name in PASSES:
         os.environ.pop(name, None)

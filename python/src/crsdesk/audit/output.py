@@ -77,7 +77,7 @@ class Outputs:
 
 
 def is_special(name: str) -> bool:
-    """Whether a name is that of something other than a file, such as a device; a folder is, and can't be opened."""
+    """Whether a name belongs to something other than a file, such as a device; a folder is, and can't be opened."""
     if name == STANDARD:
         return True
     try:
@@ -87,7 +87,7 @@ def is_special(name: str) -> bool:
 
 
 def mode_of(path: str) -> int:
-    """The permissions of a file: those that it has, or those of a new one."""
+    """The permissions that a file has, or that a new one would have."""
     with contextlib.suppress(OSError):
         return stat.S_IMODE(os.stat(path).st_mode)
     mask = os.umask(0)

@@ -1,6 +1,7 @@
-"""PROJ's library, as ``_foreign`` finds it, and what the audit asks it beside the reading of texts: CRSs of its database.
+"""PROJ's library, which ``_foreign`` finds, and what the audit asks it beside the reading of texts: CRSs of its
+database.
 
-Each question is asked in a context of its own, without a network, so that an answer depends on the question alone.
+Each question is asked in a context of its own, without a network, so that an answer depends only on the question.
 """
 
 from __future__ import annotations
@@ -50,7 +51,7 @@ class Library(NamedTuple):
 
 @functools.lru_cache(maxsize=None)
 def library() -> Optional[Library]:
-    """The library that a package has brought; None where there is none."""
+    """The library that a package has brought; None if there is none."""
     for package in _foreign.PACKAGES:
         try:
             paths = _foreign.paths_of(importlib.import_module(package))
@@ -63,7 +64,7 @@ def library() -> Optional[Library]:
 
 
 def calls_of(found: ctypes.CDLL) -> Dict[str, Any]:
-    """The calls of a library, with their types. AttributeError where one isn't there."""
+    """The calls of a library, with their types. AttributeError if one isn't there."""
     calls = {}
     for name, (answer, arguments) in CALLS.items():
         calls[name] = getattr(found, name)
@@ -104,24 +105,24 @@ class Context:
         return made
 
     def from_definition(self, text: str) -> Any:
-        """The object that a text spells; None where there is none."""
+        """The object that a text spells; None if there is none."""
         return self.kept(self.calls["proj_create"](self.handle, text.encode()))
 
     def authorities(self) -> List[str]:
-        """The authorities of the database: EPSG, ESRI, IGNF .."""
+        """The authorities of the database: EPSG, ESRI, IGNF and others."""
         found = self.calls["proj_get_authorities_from_database"](self.handle)
         names = list(_foreign.listed(found)) if found else []
         self.calls["proj_string_list_destroy"](found)
         return names
 
     def from_code(self, identifier: str) -> Any:
-        """The CRS of the database that has an identifier, such as ``EPSG:4326``; None where there is none."""
+        """The CRS of the database that has an identifier, such as ``EPSG:4326``; None if there is none."""
         authority, _, code = identifier.partition(":")
         words = authority.encode(), code.encode()
         return self.kept(self.calls["proj_create_from_database"](self.handle, *words, CATEGORY_CRS, 0, None))
 
     def wkt_of(self, made: Any) -> str:
-        """The text in WKT2:2019; nothing where PROJ has none."""
+        """The text in WKT2:2019; nothing if PROJ has none."""
         words = _foreign.texts_of(["MULTILINE=NO"])
         text = self.calls["proj_as_wkt"](self.handle, made, _foreign.WKT2_2019, words)
         return str(text.decode("utf-8", "replace")) if text else ""
@@ -131,7 +132,7 @@ class Context:
         return f"{authority.decode()}:{code.decode()}" if authority and code else ""
 
     def candidates_of(self, made: Any) -> List[Candidate]:
-        """The CRSs of the database that PROJ takes for this one, those of the most confidence first."""
+        """The CRSs of the database that PROJ takes for this one, most confident first."""
         confidences = ctypes.POINTER(ctypes.c_int)()
         found = self.calls["proj_identify"](self.handle, made, None, None, ctypes.byref(confidences))
         its = [(it, confidences[index]) for index, it in enumerate(self.listed(found, MOST_CANDIDATES))]
@@ -158,7 +159,7 @@ class Context:
 
 @contextlib.contextmanager
 def context() -> Iterator[Context]:
-    """A new context. RuntimeError where there is no PROJ."""
+    """A new context. RuntimeError if there is no PROJ."""
     found = library()
     if found is None:
         raise RuntimeError("PROJ isn't installed")

@@ -112,7 +112,7 @@ def suffix_of(path: str) -> str:
 
 
 def way_of(path: str, is_named: bool, by_line: bool, with_txt: bool) -> Optional[Way]:
-    """How a file is read: by its suffix; None where it isn't. One of another suffix that is named itself is as .txt."""
+    """How a file is read: by its suffix; None if it isn't. One of another suffix that is named itself is as .txt."""
     suffix = suffix_of(path)
     if suffix in DATABASES:
         return Way.DATABASE
@@ -140,7 +140,7 @@ def read(file: File) -> Iterator[Found]:
 
 
 def opened(path: str) -> BinaryIO:
-    """A file to read. OSError where it is none: what waits for others, such as a named pipe, isn't read."""
+    """A file to read. OSError if it is none: what waits for others, such as a named pipe, isn't read."""
     descriptor = os.open(path, os.O_RDONLY | os.O_NONBLOCK | os.O_CLOEXEC)
     mode = os.fstat(descriptor).st_mode
     if stat.S_ISREG(mode):
@@ -152,7 +152,7 @@ def opened(path: str) -> BinaryIO:
 
 
 def text_found(text: bytes, layer: str = "", line: int = 0) -> Union[Text, Without, Unread]:
-    """A text as it is found: one of white space alone states nothing, and a long one isn't read."""
+    """A text as it is found: one of only white space states nothing, and a long one isn't read."""
     if len(text) > MOST_BYTES:
         return Unread(TOO_LONG, layer, line)
     if is_blank(text):
@@ -194,7 +194,7 @@ def read_lines(path: str) -> Iterator[Found]:
 
 GEOPACKAGE = ("gpkg_contents", "gpkg_spatial_ref_sys")
 SPATIALITE = ("geometry_columns", "spatial_ref_sys")
-# The numbers of layers that need no entry, as ``decoded`` has them.
+# The numbers of layers that need no entry, in the form of ``decoded``.
 NO_ENTRIES = ("None", "-1", "0")
 
 
@@ -344,8 +344,8 @@ def found_by_gdal(gdal: Any, path: str, member: str, names: Tuple[str, ...]) -> 
 
 
 def with_flattening(gdal: Any, path: str, found: Found) -> Found:
-    """What a GeoTIFF states, with the flattening of its code in place of the one that GDAL reckons by the minor axis, and
-    whose last digits aren't the file's. Where the two differ in more than these digits it is as it was."""
+    """What a GeoTIFF states, with the flattening of its code in place of the one that GDAL reckons by the minor axis,
+    and whose last digits aren't the file's. If the two differ in more than these digits, it is unchanged."""
     number = FLATTENING.search(found.text) if isinstance(found, Text) else None
     if not isinstance(found, Text) or number is None or len(number[2]) < RECKONED:
         return found
@@ -404,7 +404,7 @@ def joined(member: str, layer: str) -> str:
 
 
 def raster_reference(data_set: Any) -> Any:
-    """A raster's reference, or else that of its control points."""
+    """A raster's reference, or else its control points'."""
     return data_set.GetSpatialRef() or data_set.GetGCPSpatialRef()
 
 

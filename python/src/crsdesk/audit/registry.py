@@ -1,7 +1,7 @@
 """What the installed database of PROJ, a registry of CRSs, has of a CRS. It is no part of sameness.
 
 A CRS with an identifier of its own is compared with the registry's of that identifier, another one with those that PROJ
-takes for it; the library says in which parts they differ, under rules where there are any.
+takes for it; the library says in which parts they differ, under rules if there are any.
 """
 
 from __future__ import annotations
@@ -66,11 +66,11 @@ class Guess(NamedTuple):
 class Registered:
     """What the registry has of a CRS.
 
-    ``identifier``  that of the registry's CRS with which it is compared, its ``name``, and how confident PROJ is that it
-                    is this one, in per cent; 100 where the text has the identifier
-    ``parts``       in which the two differ by definition, under rules where there are any; ``first`` is the registry's
-                    value
-    ``guesses``     all that PROJ takes for it, where the text has no identifier
+    ``identifier``  the identifier of the registry's CRS with which it is compared, its ``name``, and how confident PROJ
+                    is that it is this one, in per cent; 100 if the text has the identifier
+    ``parts``       in which the two differ at level ``definition``, under rules if there are any; ``first`` is the
+                    registry's value
+    ``guesses``     all that PROJ takes for it, if the text has no identifier
     ``other``       the identifier of another code whose name it bears
     """
 
@@ -113,7 +113,7 @@ def identified(proj: Context, asked: Asked, rules: Optional[Rules]) -> Registere
 
 
 def without_identifiers(text: str) -> str:
-    """A text without the CRS's own identifiers, which PROJ would look for alone."""
+    """A text without the CRS's own identifiers, because PROJ would look only for these."""
     whole = tree_of(text)
     return text_of_node(Node(whole.keyword, [it for it in whole.items if isinstance(it, str) or it.keyword != "ID"]))
 
@@ -155,7 +155,7 @@ def verdict_of(parts: Sequence[Difference], filled: FrozenSet[Kind]) -> Verdict:
 
 
 def other_of_name(proj: Context, name: str, identifier: str, registered_name: str) -> str:
-    """The identifier of another CRS of the registry that has a name; nothing where this one has it, by any alias."""
+    """The identifier of another CRS of the registry that has a name; nothing if this one has it, by any alias."""
     if is_placeholder(name) or folded(name) == folded(registered_name):
         return ""
     identifiers = proj.identifiers_of_name(name)

@@ -56,10 +56,10 @@ class Place(NamedTuple):
 
 @dataclass
 class Variant:
-    """A CRS with everything, and where it is; ``number`` counts those of its definition.
+    """A CRS with everything, and where it is; ``number`` counts the CRSs of its definition.
 
-    ``parts`` are those in which it differs from the first CRS of its definition: identifiers, usages, remarks.
-    ``registered`` is what the registry has of it, where that was asked.
+    ``parts`` are the parts in which it differs from the first CRS of its definition: identifiers, usages, remarks.
+    ``registered`` is what the registry has of it, if that was asked.
     """
 
     number: int
@@ -76,9 +76,9 @@ class Variant:
 
 @dataclass
 class Definition:
-    """The CRSs that are the same by definition, or under rules, those of the most texts first; ``text`` is the canonical
-    text, or the form under rules. Bound CRSs of one source CRS are the same where their transformations are, or are with it
-    where the report takes source CRSs."""
+    """The CRSs that are the same at level ``definition``, or under rules, largest first; ``text`` is the canonical
+    text, or the form under rules. Bound CRSs of one source CRS are the same if their transformations are; if the report
+    takes source CRSs, they are the same as these."""
 
     number: int
     text: str
@@ -95,12 +95,12 @@ class Definition:
 
     @property
     def names(self) -> List[str]:
-        """Those of all its CRSs, each once: there are several where rules say that names don't count."""
+        """The names of all its CRSs, each once: there are several if rules say that names don't count."""
         return list(dict.fromkeys(variant.crs.name for variant in self.variants))
 
     @property
     def identifiers(self) -> List[str]:
-        """Those of all its CRSs, each once."""
+        """The identifiers of all its CRSs, each once."""
         return list(dict.fromkeys(it for variant in self.variants for it in variant.crs.identifiers))
 
     @property
@@ -128,7 +128,7 @@ class Pair:
 
     @functools.cached_property
     def kind(self) -> Kind:
-        """That of the parts, once they are there."""
+        """The parts' kind, once they are there."""
         return kind_of(self.parts, self.filled)
 
 
@@ -161,9 +161,9 @@ class NearMiss:
 
 @dataclass
 class DataSet:
-    """Files that belong to one data set, and the pairs of their CRSs that aren't the same by definition: each beside what
-    the data set itself says, or else its first text, and texts beside that have axes of their own beside each other.
-    ``path`` has no suffix."""
+    """Files that belong to one data set, and the pairs of their CRSs that aren't the same at level ``definition``: each
+    beside what the data set itself says, or else its first text, and texts beside that have axes of their own beside
+    each other. ``path`` has no suffix."""
 
     path: str
     rows: List[Row]
@@ -171,7 +171,7 @@ class DataSet:
 
     @property
     def kind(self) -> Optional[Kind]:
-        """That of its texts, where they disagree."""
+        """Its texts' kind, if they disagree."""
         return min((pair.kind for pair in self.pairs), default=None)
 
     @property
@@ -232,19 +232,19 @@ class Cause(NamedTuple):
 class Summary:
     """What is counted.
 
-    ``files``        those that were read or tried
-    ``others``       those of other suffixes, which aren't read, by suffix
+    ``files``        files that were read or tried
+    ``others``       files of other suffixes, which aren't read, by suffix
     ``texts``        texts with a CRS or a refusal, so ``accepted`` and ``refused``
-    ``crss``         CRSs with everything; ``definitions`` by definition, and under rules where there are any;
-                     ``without_rules`` by definition where there were none
+    ``crss``         CRSs with everything; ``definitions`` at level ``definition``, and under rules if there are any;
+                     ``without_rules`` at level ``definition`` without them
     ``copies``       texts of equal bytes with one before
     ``respellings``  other texts that spell a CRS that one before spells too: ``accepted`` is ``crss``, ``copies`` and
                      ``respellings`` together
-    ``alone``        CRSs that differ from another in identifiers, usages or remarks alone, or in what rules take away;
+    ``alone``        CRSs that differ from another only in identifiers, usages or remarks, or in what rules take away;
                      ``alone_definitions`` theirs
-    ``converted``    of the accepted texts those that PROJ has read, and ``read_by`` its version; ``bound`` those of bound CRSs
-    ``data_sets``    those of several texts, and of them how many disagree in more than names and digits
-    ``registry``     accepted texts by what the registry has of their CRSs, where that was asked
+    ``converted``    accepted texts that PROJ has read, and ``read_by`` its version; ``bound`` texts of bound CRSs
+    ``data_sets``    data sets of several texts, and how many of them disagree in more than names and digits
+    ``registry``     accepted texts by what the registry has of their CRSs, if that was asked
     """
 
     files: int = 0
@@ -270,7 +270,7 @@ class Summary:
 
 
 class RulesFile(NamedTuple):
-    """A rules file under which CRSs are compared: its name as it was asked for, and its bytes."""
+    """A rules file under which CRSs are compared: the user's name for it, and its bytes."""
 
     name: str
     text: bytes
@@ -298,7 +298,7 @@ class Report:
 
     @property
     def status(self) -> int:
-        """That of the command: 0, 1 where a text is refused, 2 where something can't be read."""
+        """The command's status: 0, 1 if a text is refused, 2 if something can't be read."""
         return 2 if self.unread else 1 if self.refused else 0
 
 
@@ -309,7 +309,7 @@ class Asks(Protocol):
         """The parts of each pair of CRSs, in their order."""
 
     def register(self, asked: Sequence[Asked]) -> List[Registered]:
-        """What the registry has of each CRS; nothing at all where that isn't wanted."""
+        """What the registry has of each CRS; nothing at all if that isn't wanted."""
 
 
 def report_of(
@@ -320,7 +320,7 @@ def report_of(
     rules: Sequence[RulesFile] = (),
     takes_source: bool = False,
 ) -> Report:
-    """The report of what each of the listed files states, which was told under the same rules."""
+    """The report of what each of the listed files states, under the same rules."""
     summary = Summary(files=len(listing.files))
     report = Report(list(paths), list(rules), summary, [], [], [], [], [], [], [], [], [], [], takes_source)
     report.summary.others = dict(sorted(listing.others.items()))
@@ -395,8 +395,8 @@ def definitions_of(rows: Iterable[Tuple[Row, Optional[Spelled]]], report: Report
 
 
 def near_misses_of(definitions: Sequence[Definition]) -> List[NearMiss]:
-    """Definitions of one name, whose case and punctuation don't count; and those of one identifier, where they don't
-    share a name. What tools write where they know no name is none. Two are a pair once, by the first name that both
+    """Definitions of one name, whose case and punctuation don't count; and definitions of one identifier, if they don't
+    share a name. What tools write if they know no name is none. Two are a pair once, by the first name that both
     have."""
     by_name: Dict[str, List[Definition]] = {}
     by_identifier: Dict[str, List[Definition]] = {}
@@ -433,7 +433,7 @@ def near_miss(by: str, value: str, first: Definition, others: Sequence[Definitio
 
 
 def bearing(definition: Definition, miss: NearMiss) -> List[Place]:
-    """The texts of a definition to whose name or identifier a near miss is due; none where it is that of all."""
+    """The texts of a definition to whose name or identifier a near miss is due; none if it is due to all."""
 
     def bears(crs: Spelled) -> bool:
         if miss.by == "identifier":
@@ -445,7 +445,7 @@ def bearing(definition: Definition, miss: NearMiss) -> List[Place]:
 
 
 def stating(definition: Definition, kind: Kind) -> List[Place]:
-    """The texts of a definition that state parts of a kind, which a reader filled in for the others; none where all do."""
+    """The texts of a definition that state parts of a kind, which a reader filled in for the others; none if all do."""
     places = [place for variant in definition.variants for place in variant.places]
     its = [place for place in places if kind not in place.filled]
     return [] if len(its) == len(places) else its
@@ -553,7 +553,7 @@ def verdict_told(found: Registered) -> str:
 
 
 def areas_of(definitions: Sequence[Definition]) -> List[Area]:
-    """The boxes, those of the most texts first."""
+    """The boxes, most frequent first."""
     areas: Dict[Box, Area] = {}
     for definition in definitions:
         for variant in definition.variants:

@@ -1,4 +1,4 @@
-"""The report as a table, for CSV: a row a text, in the order of the files."""
+"""The report as a table, for CSV: one row per text, in the order of the files."""
 
 from __future__ import annotations
 
@@ -27,8 +27,8 @@ FORMULA = tuple("=+-@\t\r\n＝＋－＠'")
 
 
 def write_csv(report: Report, file: TextIO) -> None:
-    """Writes a head, and a row a text. ``crs`` is the definition's number and, after a point, the CRS's in it; texts of one
-    data set have its path in ``data_set``; ``rules`` are the files under which definitions are grouped."""
+    """Writes a head, and one row per text. ``crs`` is the definition's number and, after a point, the CRS's in it;
+    texts of one data set have its path in ``data_set``; ``rules`` are the files under which definitions are grouped."""
     table = csv.writer(file, lineterminator="\r\n")
     table.writerow(HEAD)
     paths = {it.place: data_set.path for data_set in report.data_sets for it in data_set.rows}

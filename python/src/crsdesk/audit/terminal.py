@@ -159,11 +159,11 @@ def cut_both(part: Difference) -> Difference:
     """A part with long values cut so that it is seen where they begin to differ."""
     common = len(os.path.commonprefix([part.first or "", part.second or ""]))
     begin = max(0, common - MOST_CHARACTERS // 2)
+    if max(len(part.first or ""), len(part.second or "")) <= MOST_CHARACTERS:
+        return part
 
     def piece(value: Optional[str]) -> Optional[str]:
-        if value is None or len(value) <= MOST_CHARACTERS:
-            return value
-        return ("..." if begin else "") + cut(value[begin:])
+        return value and ("..." if begin else "") + cut(value[begin:])
 
     return Difference(part.path, piece(part.first), piece(part.second))
 
