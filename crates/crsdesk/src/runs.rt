@@ -7,7 +7,7 @@ use crs_desk::{
     CanonText, CheckText, Comparison, DigestText, ExplainText, ExplainedForms, FileTask, Filling,
     ForText, InALine, Inputs, Job, Layout, Level, LinePair, LineWord, LineWords, Listing, Manner,
     OfLine, PairAnswer, Rules, RulesFault, RulesReader, RunFault, SameForms, Sink, Source, Spelled,
-    Stream, Summary, Task, Told, Under, WordKind, Work, blank_told, kind_of_text, read_text,
+    Stream, Summary, Task, Told, Under, Used, WordKind, Work, blank_told, kind_of_text, read_text,
     run_canon, run_check, run_files, run_group_files, run_lines, run_same, run_text, write_answer,
 };
 use crs_group::pieces::{ByCanon, ByForm};
@@ -75,7 +75,7 @@ pub fn answer(rt: &HostRuntime, job: &Job) -> Result<u8, Fault> {
         } => {
             let rules = rules_of(rt, rules)?;
             let (names, rules) = (names.as_slice(), rules.as_ref());
-            hold_standard(names)?;
+            hold_standard(names, &[])?;
             if let Task::Group(listing) = *task
                 && listing.files
             {
@@ -86,13 +86,21 @@ pub fn answer(rt: &HostRuntime, job: &Job) -> Result<u8, Fault> {
             let answer = to_standard!(rt, run_files(each, *named, names, &files));
             hinted(rt, *task, names, answer)
         }
+        Work::Rules { names, used, named } => {
+            hold_standard(names.as_slice(), used.as_slice())?;
+            let used = used_in(rt, used)?;
+            let each = FileTask::Rules(used.as_ref());
+            let files = Opener { rt: *rt };
+            to_standard!(rt, run_files(each, *named, names.as_slice(), &files))
+        }
     }
 }
 
 // Standard input is read once.
-fn hold_standard(names: &[LineWord]) -> Result<(), Fault> {
+fn hold_standard(names: &[LineWord], others: &[LineWord]) -> Result<(), Fault> {
     let is_standard = |name: &&LineWord| name.as_str() == STANDARD;
-    if names.iter().filter(is_standard).count() > 1 {
+    let all = names.iter().chain(others.iter());
+    if all.filter(is_standard).count() > 1 {
         return Err(Fault::Twice);
     }
     Ok(())
@@ -332,6 +340,32 @@ fn text_of<'w>(rt: &HostRuntime, word: &'w LineWord) -> Result<&'w [u8], Fault> 
         tell_of(rt, name, "this is a file; with --files its text is read");
     }
     Ok(name.as_bytes())
+}
+
+// The texts of these files; none where there are no files.
+fn used_in(rt: &HostRuntime, names: &LineWords) -> Result<Option<Used>, Fault> {
+    if names.is_empty() {
+        return Ok(None);
+    }
+    let mut used = Used::new(rt.alloc());
+    for name in names.as_slice() {
+        let text = file_text(rt, name.as_str())?;
+        tell_refused(rt, name.as_str(), used.add(&text)?);
+    }
+    Ok(Some(used))
+}
+
+// How many texts of a file are refused, and so used nowhere.
+fn tell_refused(rt: &HostRuntime, name: &str, refused: usize) {
+    match refused {
+        0 => {}
+        1 => tell_of(rt, name, "1 text is refused, and left out"),
+        _ => {
+            if let Ok(told) = format!(in rt.alloc(); "{refused} texts are refused, and left out") {
+                tell_of(rt, name, told);
+            }
+        }
+    }
 }
 
 // The rules of these files together, of which one that is named twice counts once; none where there are no files. The fault of the first that has one is told.
