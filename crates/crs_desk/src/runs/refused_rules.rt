@@ -203,7 +203,7 @@ fn of_unexpected(alloc: Global, line: &[u8], place: usize) -> &'static str {
     if before.is_empty() && matches!(there, b',' | b']' | b')') {
         return "A statement stands in one line, and this goes on the line before: join the lines.";
     }
-    if before.is_empty() {
+    if !has_bracket(before) {
         return "A line is SAME[..], UNCOUNTED[..] or KIND[..], or begins with #.";
     }
     if read_items(alloc, before).is_ok() {
@@ -291,21 +291,21 @@ fn append_no_node(line: &[u8], items: &Items<'_>, id: ItemId, out: &mut Vec<u8>)
     }
     if is_crs(keyword) {
         return out.extend_from_slice(
-            b"Names of CRSs don't count under UNCOUNTED[crsName], those of base CRSs under UNCOUNTED[baseName].",
+            b"No SAME has names of CRSs: UNCOUNTED[crsName] leaves them out, and UNCOUNTED[baseName] those of base CRSs.",
         );
     }
     match keyword {
         Some(Keyword::Ensemble) => out.extend_from_slice(
-            b"Ensembles are in no SAME: under UNCOUNTED[ensemble] they count as the datum of their name; their members are MEMBER[\"name\"].",
+            b"No SAME has ensembles: under UNCOUNTED[ensemble] one counts as the datum of its name, and a member is MEMBER[\"name\"].",
         ),
         Some(Keyword::Conversion) => out.extend_from_slice(
-            b"Names of conversions don't count under UNCOUNTED[conversionName].",
+            b"No SAME has names of conversions: UNCOUNTED[conversionName] leaves them out.",
         ),
         Some(Keyword::Anchor | Keyword::AnchorEpoch) => out.extend_from_slice(
-            b"Anchors don't count under UNCOUNTED[anchor].",
+            b"No SAME has anchors: UNCOUNTED[anchor] leaves them out.",
         ),
         Some(Keyword::Dynamic | Keyword::FrameEpoch) => out.extend_from_slice(
-            b"Dynamic parts don't count under UNCOUNTED[dynamic].",
+            b"No SAME has dynamic parts: UNCOUNTED[dynamic] leaves them out.",
         ),
         Some(Keyword::Id | Keyword::Usage | Keyword::Remark | Keyword::Scope | Keyword::Area) =>
             append_of_level(out),
@@ -380,7 +380,7 @@ fn append_no_sort(items: &Items<'_>, id: ItemId, out: &mut Vec<u8>) -> Made<()>
     if items.arg(items.root(), 0) == Some(id) {
         append_meant(items.raw(id), &KINDS, out)?;
         return out.extend_from_slice(
-            b"First a KIND has ANGLEUNIT, LENGTHUNIT or SCALEUNIT, without brackets.",
+            b"A KIND begins with ANGLEUNIT, LENGTHUNIT or SCALEUNIT, without brackets.",
         );
     }
     out.extend_from_slice(
