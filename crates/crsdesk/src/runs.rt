@@ -1,7 +1,7 @@
 //! The runs of the commands: over standard input, texts and files, with rules, which are read first, or without.
 use crate::fault::Fault;
 use crate::input::{Input, Opener, STANDARD};
-use crate::messages::{is_marked, tell, tell_of};
+use crate::messages::{is_marked, is_verbose_line, tell, tell_of};
 use crate::output::Output;
 use crs_desk::{
     CanonText, CheckText, Comparison, DigestText, ExplainText, ExplainedForms, FileTask, Filling,
@@ -14,6 +14,7 @@ use crs_group::pieces::{ByCanon, ByForm};
 use crs_group::run_group_listing;
 use std::io::IsTerminal;
 use std::path::Path;
+use std::{env, str};
 
 // The number of the refusal of a text that ends before it is complete.
 const UNEXPECTED_END: u8 = 7;
@@ -256,19 +257,28 @@ impl Comparing<'_, '_, '_> {
     fn words(self, pair: &LinePair) -> Result<u8, Fault> {
         let (rt, first, second) = (self.rt, &pair.first, &pair.second);
         match pair.kind {
-            WordKind::Text => self.texts(text_of(rt, first)?, text_of(rt, second)?),
+            WordKind::Text => { self.texts(&pair.rules, text_of(rt, first)?, text_of(rt, second)?) }
             WordKind::FileName => {
                 if first.as_str() == STANDARD && second.as_str() == STANDARD {
                     return Err(Fault::Twice);
                 }
                 let first = file_text(rt, first.as_str());
                 let second = file_text(rt, second.as_str());
-                self.texts(&first?, &second?)
+                self.texts(&pair.rules, &first?, &second?)
             }
         }
     }
 
-    fn texts(self, a: &[u8], b: &[u8]) -> Result<u8, Fault> {
+    // The answer for two texts, and with `--verbose` what the rules of these files don't match in them.
+    fn texts(self, rules: &LineWords, a: &[u8], b: &[u8]) -> Result<u8, Fault> {
+        let answer = self.compared(a, b);
+        if matches!(self.comparison, Comparison::Explain(_)) && is_verbose_line(self.rt) {
+            tell_unmatched(self.rt, rules.as_slice(), a, b);
+        }
+        answer
+    }
+
+    fn compared(self, a: &[u8], b: &[u8]) -> Result<u8, Fault> {
         let (rt, level, words) = (self.rt, self.job.level, self.job.order.as_slice());
         match (self.comparison, self.rules) {
             (Comparison::Same(Manner::Lines), None) => to_standard!(rt, run_same(level, a, b)),
@@ -385,7 +395,7 @@ fn rules_of(rt: &HostRuntime, names: &LineWords) -> Result<Option<Rules>, Fault>
 }
 
 fn read_rules(rt: &HostRuntime, name: &str, reader: &mut RulesReader) -> Result<(), Fault> {
-    let text = file_text(rt, name)?;
+    let text = rules_text(rt, name)?;
     match reader.read(rt.alloc(), &text) {
         Ok(()) => Ok(()),
         Err(RulesFault::Memory(_)) => Err(Fault::Run(RunFault::Memory)),
@@ -393,5 +403,63 @@ fn read_rules(rt: &HostRuntime, name: &str, reader: &mut RulesReader) -> Result<
             tell(rt, name, ", ", refused);
             Err(Fault::Told)
         }
+    }
+}
+
+// Where rules are from the program's folder: in a prefix, and among the sources.
+const RULES_FOLDERS: [&str; 2] = ["../share/crsdesk/rules", "../../../rules"];
+
+// The text of a rules file: of the file that is so called, or else of one that is installed or shipped.
+fn rules_text(rt: &HostRuntime, name: &str) -> Result<Vec<u8>, Fault> {
+    match shipped(rt, name) {
+        Some(path) => file_text(rt, path.as_str()),
+        None => file_text(rt, name),
+    }
+}
+
+// The path of rules that are installed or shipped, by their name, with its end or without; `None` where a file is so called.
+fn shipped(rt: &HostRuntime, name: &str) -> Option<String> {
+    if name == STANDARD || is_marked(name) || name.contains('/') || Path::new(name).exists(rt) {
+        return None;
+    }
+    let program = env::current_exe(rt).ok()?;
+    let folder = program.as_path().parent()?.as_str();
+    for below in RULES_FOLDERS {
+        for end in ["", ".rules"] {
+            let path = format!(in rt.alloc(); "{folder}/{below}/{name}{end}").ok()?;
+            if Path::new(path.as_str()).is_file(rt) {
+                return Some(path);
+            }
+        }
+    }
+    None
+}
+
+// Tells what the statements of rules files don't match in two texts; of standard input, which is read once, nothing.
+fn tell_unmatched(rt: &HostRuntime, names: &[LineWord], a: &[u8], b: &[u8]) {
+    let mut used = Used::new(rt.alloc());
+    if used.add(a).is_err() || used.add(b).is_err() {
+        return;
+    }
+    for place in 0..names.len() {
+        let name = names[place].as_str();
+        if name != STANDARD && !names[..place].iter().any(|other| other.as_str() == name) {
+            tell_unmatched_in(rt, name, &used);
+        }
+    }
+}
+
+fn tell_unmatched_in(rt: &HostRuntime, name: &str, used: &Used) {
+    let Ok(text) = rules_text(rt, name) else {
+        return;
+    };
+    let Ok(lines) = used.unmatched(rt.alloc(), &text) else {
+        return;
+    };
+    let Ok(lines) = str::from_utf8(&lines) else {
+        return;
+    };
+    for line in lines.lines() {
+        tell(rt, name, ", ", line);
     }
 }

@@ -420,20 +420,27 @@ fn append_repeated(
     };
     let statement = [front, node_text(line, items, id), b"]".as_slice()].concat(alloc)?;
     let mut reader = RulesReader::new(alloc);
-    match first_with(alloc, bytes, &statement, &mut reader)? {
-        Some(earlier) if earlier.line == refusal.line => {
-            out.extend_from_slice(b"It stands before in this line, at ")?;
-            append_number(earlier.place, out)?;
-        }
-        Some(earlier) => {
-            out.extend_from_slice(b"It stands before in line ")?;
-            append_number(earlier.line, out)?;
-        }
-        None => out.extend_from_slice(b"It stands before")?,
+    let earlier = first_with(alloc, bytes, &statement, &mut reader)?;
+    append_earlier(earlier, refusal.line, out)?;
+    out.extend_from_slice(if is_unit(items.keyword(id)) {
+        b": a node stands once in all statements, and a factor is told by its value."
+    } else {
+        b": a node stands once in all statements."
+    })
+}
+
+// Where the node stood before that is refused in a line.
+fn append_earlier(earlier: Option<RulesRefusal>, line: usize, out: &mut Vec<u8>) -> Made<()> {
+    let Some(earlier) = earlier else {
+        return out.extend_from_slice(b"It stands in a line before");
+    };
+    if earlier.line == line {
+        out.extend_from_slice(b"It stands in this line before, at ")?;
+        return append_number(earlier.place, out);
     }
-    out.extend_from_slice(
-        b": a node stands once, and units are one node where their name and factor are.",
-    )
+    out.extend_from_slice(b"It stands in line ")?;
+    append_number(earlier.line, out)?;
+    out.extend_from_slice(b" too")
 }
 
 // The first line of a file with the node of a statement: it is refused where the statement was read before.

@@ -1,5 +1,4 @@
 //! Which statements of a rules file match nothing in some texts. Only tests say which.
-ghost use Rattle.std.specs.Prelude.{IfSome};
 ghost use Rattle.crs_text.specs.Items.{HasId};
 
 use crate::runs::refused_rules::{is_named, is_subject, node_text};
@@ -7,7 +6,7 @@ use crate::runs::rules::{first_line, is_idle};
 use crate::{Level, Rules, RulesFault, RulesReader, read_rules};
 use crs_canon::canon;
 use crs_rules::canon_under;
-use crs_streams::{append_escaped, append_number, split_line, text_of};
+use crs_streams::{append_escaped, append_number};
 use crs_text::{Fault, ItemId, ItemKind, Items, Keyword, read_items};
 use std::alloc::{AllocError, Global};
 use std::result;
@@ -64,26 +63,34 @@ impl Used {
     /// A line for each statement of a rules file, or part of one, that matches nothing in the texts; none where the file is
     /// refused. Time is linear in the file and in the texts.
     pub fn unmatched(&self, alloc: Global, bytes: &[u8]) -> Made<Vec<u8>> {
-        let rules = match read_rules(alloc, bytes) {
-            Ok(rules) => rules,
-            Err(RulesFault::Refused(_)) => return Ok(Vec::new(alloc)),
-            Err(RulesFault::Memory(error)) => return Err(error),
-        };
-        let mut rules = rules;
-        let kinds = rules.kinds();
-        rules.truncate(0, 0, kinds);
-        self.unmatched_under(alloc, bytes, &rules)
+        match (read_rules(alloc, bytes), read_rules(alloc, bytes)) {
+            (Ok(mut plain), Ok(mut bare)) => {
+                plain.truncate(0, 0, plain.kinds());
+                bare.truncate(bare.names(), bare.units(), 0);
+                self.unmatched_under(alloc, bytes, &plain, &bare)
+            }
+            (Err(RulesFault::Refused(_)), _) | (_, Err(RulesFault::Refused(_))) => {
+                Ok(Vec::new(alloc))
+            }
+            (Err(RulesFault::Memory(error)), _) | (_, Err(RulesFault::Memory(error))) => Err(error),
+        }
     }
 
-    // The same, of the texts' forms under what doesn't count.
-    fn unmatched_under(&self, alloc: Global, bytes: &[u8], rules: &Rules) -> Made<Vec<u8>> {
+    // The same, of the texts' forms under rules without sets, whose nodes the sets are of, and under those without kinds.
+    fn unmatched_under(
+        &self,
+        alloc: Global,
+        bytes: &[u8],
+        plain: &Rules,
+        bare: &Rules,
+    ) -> Made<Vec<u8>> {
         let mut standing = Standing {
             reader: RulesReader::new(alloc),
             has_bare_meridian: false,
         };
         for text in &self.texts {
-            standing.add_bare(alloc, text)?;
-            standing.add_form(alloc, text, rules)?;
+            standing.add_form(alloc, text, plain, false)?;
+            standing.add_form(alloc, text, bare, true)?;
         }
         self.tell(alloc, bytes, &mut standing)
     }
@@ -174,18 +181,13 @@ struct Standing {
 }
 
 impl Standing {
-    // Adds the nodes of a text's form.
-    fn add_form(&mut self, alloc: Global, text: &[u8], rules: &Rules) -> Made<()> {
+    // Adds the nodes of a text's form, or its parameters and prime meridians that have no unit.
+    fn add_form(&mut self, alloc: Global, text: &[u8], rules: &Rules, bare: bool) -> Made<()> {
         match canon_under(alloc, text, Level::Full, rules) {
-            Ok(form) => self.add_text(alloc, form.bytes(), false),
+            Ok(form) => self.add_text(alloc, form.bytes(), bare),
             Err(Fault::Refused(_)) => Ok(()),
             Err(Fault::Memory(error)) => Err(error),
         }
-    }
-
-    // Adds the parameters and prime meridians of a text that have no unit.
-    fn add_bare(&mut self, alloc: Global, text: &[u8]) -> Made<()> {
-        self.add_text(alloc, text, true)
     }
 
     fn add_text(&mut self, alloc: Global, text: &[u8], bare: bool) -> Made<()> {
