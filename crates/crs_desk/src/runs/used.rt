@@ -249,7 +249,9 @@ impl Standing {
             return Ok(());
         }
         match items.keyword(id) {
-            Some(Keyword::PrimeM | Keyword::PrimeMeridian) => self.has_bare_meridian = true,
+            Some(Keyword::PrimeM | Keyword::PrimeMeridian) if !is_at_zero(items, id) => {
+                self.has_bare_meridian = true;
+            }
             Some(Keyword::Parameter) => {
                 let node = front_of_node(alloc, text, items, id, 1)?;
                 self.stands(alloc, b"KIND[ANGLEUNIT,", &node)?;
@@ -290,6 +292,16 @@ fn front_of_node(
         .saturating_sub(1);
     let front = whole.get(..length).unwrap_or(b"");
     [front, b"]".as_slice()].concat(alloc)
+}
+
+// Whether a prime meridian of a canonical text is at 0.
+fn is_at_zero(items: &Items<'_>, id: ItemId) -> bool
+    requires { HasId items.now id }
+{
+    match items.arg(id, 1) {
+        Some(longitude) => items.raw(longitude) == b"0".as_slice(),
+        None => false,
+    }
 }
 
 // Whether a node has a unit among its arguments.
