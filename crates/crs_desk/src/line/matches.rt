@@ -56,9 +56,11 @@ fn rules_work(alloc: Global, options: &ArgMatches) -> Result<Work, AllocError>
 {
     let names = words_named(alloc, options, "file")?;
     let used = words_named(alloc, options, "used")?;
-    let names = or_standard(alloc, names)?;
-    let named = flag_asked(options, "with-name");
-    Ok(Work::Rules { names, used, named })
+    Ok(Work::Rules {
+        names: or_standard(alloc, names)?,
+        used,
+        named: flag_asked(options, "with-name"),
+    })
 }
 
 fn or_standard(alloc: Global, names: LineWords) -> Result<LineWords, AllocError>
