@@ -21,8 +21,8 @@ MEANINGS = {
 
 
 def shipped(name: str) -> str:
-    """The path of a rules file by its name: the file that is so called, or else one among the sources, below Python's prefix or
-    beside the program ``crsdesk``, with the end ``.rules`` or without it."""
+    """The path of a rules file by its name: the file that is so called, or else one among the sources, below Python's
+    prefix or beside the program ``crsdesk``, with the end ``.rules`` or without it."""
     if os.path.exists(name) or os.path.basename(name) != name:
         return name
     program = os.path.realpath(shutil.which("crsdesk") or "")
