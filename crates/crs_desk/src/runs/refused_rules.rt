@@ -159,9 +159,9 @@ fn of_line(alloc: Global, line: &[u8], refusal: RulesRefusal) -> &'static str {
         }
         UNEXPECTED => of_unexpected(alloc, line, refusal.place),
         UNEXPECTED_END if has_bracket(line) => {
-            "A statement stands in one line, and this one is still open at its end: close it, or join the lines."
+            "A statement is one line, and this one is still open at its end: close it, or join the lines."
         }
-        UNEXPECTED_END => "A line is SAME[..], UNCOUNTED[..] or KIND[..], or begins with #.",
+        UNEXPECTED_END => "A line is SAME[...], UNCOUNTED[...] or KIND[...], or begins with #.",
         _ => "A node has a name, and no nodes inside.",
     }
 }
@@ -201,10 +201,10 @@ fn of_unexpected(alloc: Global, line: &[u8], place: usize) -> &'static str {
     let there = first_byte(rest_of(line, place));
     let last = before.last().copied().unwrap_or(0);
     if before.is_empty() && matches!(there, b',' | b']' | b')') {
-        return "A statement stands in one line, and this goes on the line before: join the lines.";
+        return "A statement is one line, and this continues the line before: join the lines.";
     }
     if !has_bracket(before) {
-        return "A line is SAME[..], UNCOUNTED[..] or KIND[..], or begins with #.";
+        return "A line is SAME[...], UNCOUNTED[...] or KIND[...], or begins with #.";
     }
     if read_items(alloc, before).is_ok() {
         return "A line has one statement, and nothing behind it.";
@@ -213,7 +213,7 @@ fn of_unexpected(alloc: Global, line: &[u8], place: usize) -> &'static str {
         return "A node or a word is missing before this.";
     }
     if matches!(there, b']' | b')') {
-        return "The bracket that is open here is closed by its own kind: [..] or (..).";
+        return "The bracket that is open here is closed by its own kind: [...] or (...).";
     }
     "A comma is missing before this."
 }
@@ -229,16 +229,16 @@ fn append_statement(items: &Items<'_>, out: &mut Vec<u8>) -> Made<()> {
     let keyword = items.keyword(root);
     if is_crs(keyword) {
         return out.extend_from_slice(
-            b"This is the text of a CRS; a rules file has statements: SAME[..], UNCOUNTED[..] and KIND[..].",
+            b"This is the text of a CRS; a rules file has statements: SAME[...], UNCOUNTED[...] and KIND[...].",
         );
     }
     if is_subject(keyword) {
-        out.extend_from_slice(b"A node stands in a statement: SAME[")?;
+        out.extend_from_slice(b"Write a node in a statement: SAME[")?;
         append_capitals(items.raw(root), out)?;
-        return out.extend_from_slice(b"[..],..].");
+        return out.extend_from_slice(b"[...],...].");
     }
     append_meant(items.raw(root), &STATEMENTS, out)?;
-    out.extend_from_slice(b"A statement is SAME[..], UNCOUNTED[..] or KIND[..].")
+    out.extend_from_slice(b"A statement is SAME[...], UNCOUNTED[...] or KIND[...].")
 }
 
 // ---- an item that may not stand there
@@ -269,7 +269,7 @@ fn append_not_here(line: &[u8], items: &Items<'_>, place: usize, out: &mut Vec<u
         ItemKind::Word => {
             append_meant(items.raw(id), &NODES, out)?;
             append_nodes(
-                b"A name stands in quotes in its node, such as DATUM[\"name\"]; the nodes are ",
+                b"Write a name in quotes in its node, such as DATUM[\"name\"]; the nodes are ",
                 out,
             )
         }
@@ -321,7 +321,7 @@ fn append_name_alone(line: &[u8], items: &Items<'_>, id: ItemId, out: &mut Vec<u
     requires { HasId items.now id }
 {
     let Some(name) = name_of(line, items, id) else {
-        out.extend_from_slice(b"The name stands in quotes: ")?;
+        out.extend_from_slice(b"Write the name in quotes: ")?;
         append_capitals(items.raw(id), out)?;
         return out.extend_from_slice(b"[\"name\"].");
     };
@@ -361,7 +361,7 @@ fn append_no_word(items: &Items<'_>, id: ItemId, out: &mut Vec<u8>) -> Made<()>
     }
     if items.kind(id) == ItemKind::Node && is_subject(items.keyword(id)) {
         return out.extend_from_slice(
-            b"UNCOUNTED has words; nodes that count as one stand in SAME[..].",
+            b"UNCOUNTED takes words; write nodes that count as one in SAME[...].",
         );
     }
     append_meant(raw, &WORDS, out)?;
@@ -384,7 +384,7 @@ fn append_no_sort(items: &Items<'_>, id: ItemId, out: &mut Vec<u8>) -> Made<()>
         );
     }
     out.extend_from_slice(
-        b"Behind the kind stand PARAMETER[\"name\"], with the name alone, and behind ANGLEUNIT the word PRIMEM too.",
+        b"After the kind write PARAMETER[\"name\"], with only the name; after ANGLEUNIT also PRIMEM.",
     )
 }
 
@@ -423,22 +423,22 @@ fn append_repeated(
     let earlier = first_with(alloc, bytes, &statement, &mut reader)?;
     append_earlier(earlier, refusal.line, out)?;
     out.extend_from_slice(if is_unit(items.keyword(id)) {
-        b": a node stands once in all statements, and a factor is told by its value."
+        b": write each node once in all statements; a factor counts by its value."
     } else {
-        b": a node stands once in all statements."
+        b": write each node once in all statements."
     })
 }
 
 // Where the node stood before that is refused in a line.
 fn append_earlier(earlier: Option<RulesRefusal>, line: usize, out: &mut Vec<u8>) -> Made<()> {
     let Some(earlier) = earlier else {
-        return out.extend_from_slice(b"It stands in a line before");
+        return out.extend_from_slice(b"It is in a line before");
     };
     if earlier.line == line {
-        out.extend_from_slice(b"It stands in this line before, at ")?;
+        out.extend_from_slice(b"It is in this line before, at ")?;
         return append_number(earlier.place, out);
     }
-    out.extend_from_slice(b"It stands in line ")?;
+    out.extend_from_slice(b"It is in line ")?;
     append_number(earlier.line, out)?;
     out.extend_from_slice(b" too")
 }
