@@ -1,6 +1,6 @@
 # Completion of crsdesk's command line for bash. Where neither a command nor an option, a level or a word of --first may
-# stand the shell offers files: those of check, canon, digest and group, after --files of same and explain, and after
-# --rules.
+# stand the shell offers files: those of check, canon, digest and group, after --files of same and explain, after
+# --rules and --used, and those of rules.
 
 _crsdesk() {
     local word=${COMP_WORDS[COMP_CWORD]} before=${COMP_WORDS[COMP_CWORD - 1]} words= front= at=1
@@ -14,7 +14,7 @@ _crsdesk() {
     # The command stands behind -v where that is first.
     [[ ${COMP_WORDS[1]} == @(-v|--verbose) ]] && ((COMP_CWORD > 1)) && at=2
     if ((COMP_CWORD == at)); then
-        words='canon digest check group same explain help -h --help -v --verbose -V --version'
+        words='canon digest check group same explain rules help -h --help -v --verbose -V --version'
     elif [[ " ${COMP_WORDS[*]:at + 1:COMP_CWORD-at-1} " == *' -- '* ]]; then
         : # After -- no word is an option.
     elif [[ $before == --level ]]; then
@@ -26,7 +26,7 @@ _crsdesk() {
         # Of several words, with commas between them, the last one is completed.
         [[ $word == *,* ]] && front=${word%,*},
     elif [[ ${COMP_WORDS[at]} == help ]]; then
-        ((COMP_CWORD == at + 1)) && words='canon digest check group same explain help'
+        ((COMP_CWORD == at + 1)) && words='canon digest check group same explain rules help'
     elif [[ $word == -* ]]; then
         case ${COMP_WORDS[at]} in
         canon | digest) words='--level --lines --rules -H --with-name -h --help' ;;
@@ -34,6 +34,7 @@ _crsdesk() {
         same) words='--files --json --level --rules -h --help' ;;
         explain) words='--files --first --json --level --rules -h --help' ;;
         check) words='--json --lines -H --with-name -h --help' ;;
+        rules) words='--used -H --with-name -h --help' ;;
         esac
         words+=' -v --verbose'
     fi

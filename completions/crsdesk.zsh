@@ -2,7 +2,7 @@
 # Completion of crsdesk's command line for zsh.
 
 _crsdesk() {
-    local -a commands level rules lines repeated names files whole name json first verbose help
+    local -a commands level rules lines repeated names files whole name json first used verbose help
     local file=_files
     commands=(
         'canon:write the canonical text'
@@ -11,6 +11,7 @@ _crsdesk() {
         'group:group lines or files by the CRSs that they spell'
         'same:compare two texts'
         'explain:explain a refusal, or all parts in which two texts differ'
+        'rules:tell what rules files say, or where they are refused'
         'help:print help'
     )
     level=('--level=[what counts]:level:(full definition)')
@@ -23,6 +24,7 @@ _crsdesk() {
     name=('(-H --with-name)'{-H,--with-name}'[begin each line with the name of the file]')
     json=('--json[write objects of JSON, one a line]')
     first=('*--first=[tell the parts first whose paths have these words]:words:_sequence compadd - accuracy anchor anchorepoch axis base conversion datum dimension direction dynamic ellipsoid epoch flattening geoid horizontal id kind longitude members meridian method model name parameters remark semimajor system type unit usage vertical')
+    used=('*--used=[tell what matches nothing in the texts of a file]:file:_files')
     verbose=('(-v --verbose)'{-v,--verbose}'[tell the reason of a fault too]')
     help=('(- *)'{-h,--help}'[print help]')
 
@@ -47,6 +49,7 @@ _crsdesk() {
         group) _arguments -S $level $rules $json $repeated $names $whole $name $verbose $help '*:file:'$file ;;
         same) _arguments -S $files $json $level $rules $verbose $help '1:first:'$file '2:second:'$file ;;
         explain) _arguments -S $files $first $json $level $rules $verbose $help '1:first:'$file '2:second:'$file ;;
+        rules) _arguments -S $used $name $verbose $help '*:file:'$file ;;
         help) (( CURRENT == 2 )) && _describe command commands ;;
     esac
 }

@@ -96,6 +96,8 @@ def test_rules(files: Files) -> None:
     for rules, answer in (((), (1, "different name\n", "")), (("--rules", "r.rules"), (0, "same\n", ""))):
         assert files.run("same", *rules, *names) == answer
     assert files.run("same", "--all", "--rules=r.rules", *names) == (0, "same\n", "")
+    for shipped in ("any-order", "any-order.rules"):
+        assert files.run("same", "--rules", "r.rules", "--rules", shipped, *names) == (0, "same\n", "")
     assert files.run("same", "--rules=r.rules", "height.wkt", "other name.wkt")[:2] == (
         1,
         "different system/axis1/direction\n",

@@ -73,7 +73,7 @@ STARTS = {
     "fish by source": f"source {ROOT}/completions/crsdesk.fish",
 }
 SHELLS = ["bash", "zsh", "fish"]
-COMMANDS = ["canon", "check", "digest", "explain", "group", "same"]
+COMMANDS = ["canon", "check", "digest", "explain", "group", "rules", "same"]
 # How the README's commands that begin with ./crsdesk are typed.
 README = {
     "./crs\tsa\t--f\t--le\td\tex\tpoland.\tex\tpoland_g\t": (
@@ -107,6 +107,7 @@ TYPED = {
     "canon --level f\t": "canon --level full ",
     "canon --rules=ru\tpr\t": "canon --rules rules/producers.rules ",
     "explain --fir\tdat\t": "explain --first datum ",
+    "ru\t--us\tmy\t": "rules --used my\\ height.wkt ",
     "explain --first axes,da\t": "explain --first axes,datum ",
     "explain --first=axis,datum,el\t": "explain --first axis,datum,ellipsoid ",
     # Names of files.

@@ -38,7 +38,7 @@ FILES = {
     "share/man/man1/crsdesk.1",
 }
 FOLDER_OF_DOCUMENTS = "share/doc/crsdesk"
-COMMANDS = ("canon", "check", "digest", "explain", "group", "same")
+COMMANDS = ("canon", "check", "digest", "explain", "group", "rules", "same")
 # What has its files below the list's own folder and the prefix, which a user has.
 OWN = "share/crsdesk/own.txt"
 # Prints what the words before the last are completed to.

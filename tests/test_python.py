@@ -29,7 +29,7 @@ import pytest
 import rows
 import sql_rows
 from rows import Case
-from support import CANONICAL_HEIGHT, EXAMPLES, HEIGHT, HERE, NOTED, ROOT, run
+from support import CANONICAL_HEIGHT, EXAMPLES, HEIGHT, HERE, NOTED, ROOT, run, succeed
 
 import crsdesk
 from crsdesk import (
@@ -1313,6 +1313,8 @@ def test_rules_that_ship() -> None:
             assert canon(form, "definition", rules) == form
 
 
+# A parameter's name, and what is before those that the registry hasn't in rules/omitted-units.rules.
+PARAMETER, OTHERS = re.compile(r'PARAMETER\["([^"]*)"'), "# Parameters of methods"
 # Two texts of examples/exports, or a text and the one in which a piece was replaced by another, and whether they are the
 # same by definition under rules/omitted-units.rules.
 OMITTED: List[Tuple[str, Tuple[str, ...], bool]] = [
@@ -1354,8 +1356,8 @@ def test_omitted_units_are_those_of_the_registry() -> None:
     assert made == text
     told = {
         name: kind
-        for kind, names in re.findall(r"^KIND\[(\w+)UNIT,(PARAMETER.*)\]$", text, re.M)
-        for name in re.findall(r'PARAMETER\["([^"]*)"\]', names)
+        for kind, names in re.findall(r"^KIND\[(\w+)UNIT,(PARAMETER.*)\]$", text.partition(OTHERS)[0], re.M)
+        for name in PARAMETER.findall(names)
     }
     with contextlib.closing(sqlite3.connect("file:/usr/share/proj/proj.db?mode=ro", uri=True)) as database:
         names = database.execute("SELECT name FROM conversion_param WHERE auth_name = 'EPSG'").fetchall()
@@ -1363,6 +1365,21 @@ def test_omitted_units_are_those_of_the_registry() -> None:
     for name, kind in told.items():
         length = re.search(r"asting|orthing|eight|Geocentric", name)
         assert kind == ("LENGTH" if length else "SCALE" if "cal" in name and "Spherical" not in name else "ANGLE"), name
+
+
+@pytest.mark.needs("projinfo")
+def test_omitted_units_of_other_parameters() -> None:
+    """Those that the registry hasn't."""
+    path, names = ROOT / "rules" / "omitted-units.rules", set()
+    rules = Rules.from_file(path)
+    for code in (53025, 54098, 102299, 102497):
+        first, second = (
+            succeed(["projinfo", "-q", "--single-line", "-o", f"WKT2:2019{it}", f"ESRI:{code}"]).strip()
+            for it in ("", "_SIMPLIFIED")
+        )
+        assert not same(first, second, "definition") and same(first, second, "definition", rules=rules), code
+        names |= {*PARAMETER.findall(first)}
+    assert {*PARAMETER.findall(path.read_text(encoding="utf-8").partition(OTHERS)[2])} < names
 
 
 # A small database of PROJ's form: two datums with an alias in common, one that is another's name, and an ensemble.

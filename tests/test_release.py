@@ -45,6 +45,12 @@ class Clone(NamedTuple):
         return done.returncode, done.stdout
 
 
+def readme_kit() -> str:
+    """The toolchain that README names."""
+    found = re.search(r"rattle-kit-\S+ logic [0-9a-f]+", (ROOT / "README.md").read_text(encoding="utf-8"))
+    return found[0] if found else ""
+
+
 def clone(folder: pathlib.Path, program: pathlib.Path, prefix: pathlib.Path) -> Clone:
     root, kit = folder / "clone", folder / "kit"
     shutil.copytree(ROOT, root, ignore=BESIDE)
@@ -61,8 +67,7 @@ def clone(folder: pathlib.Path, program: pathlib.Path, prefix: pathlib.Path) -> 
         file.touch()
     (kit / "bin").mkdir(parents=True)
     (kit / "WHAT").write_text("a kit")
-    name = re.search(r"rattle-kit-\S+ logic [0-9a-f]+", (ROOT / "README.md").read_text(encoding="utf-8"))
-    (kit / "bin/rt").write_text(RT.format(kit=kit, name=name and name[0]))
+    (kit / "bin/rt").write_text(RT.format(kit=kit, name=readme_kit()))
     (kit / "bin/rt").chmod(0o755)
     return Clone(root, outside(PATH=f"{kit}/bin:{os.environ['PATH']}"))
 
@@ -169,8 +174,10 @@ def test_package_for_debian(first: Clone, tmp_path: pathlib.Path, program: pathl
     succeed(["dpkg-deb", "-x", package, tmp_path / "system"])
     assert (tmp_path / "system/usr/bin/crsdesk").read_bytes() == program.read_bytes()
     found = {str(it.relative_to(tmp_path / "system")) for it in (tmp_path / "system").rglob("*") if it.is_file()}
-    names = ("bin/crsdesk", "share/man/man1/crsdesk.1", "share/zsh/vendor-completions/_crsdesk")
-    assert {f"usr/{it}" for it in names} < found and len(found) == 8
+    names = {"bin/crsdesk", "share/doc/crsdesk/copyright", "share/man/man1/crsdesk.1"}
+    names |= {f"share/crsdesk/rules/{it.name}" for it in (ROOT / "rules").glob("*.rules")}
+    names |= {f"share/{it}" for it in ("bash-completion/completions/crsdesk", "zsh/vendor-completions/_crsdesk")}
+    assert found == {f"usr/{it}" for it in {*names, "share/fish/vendor_completions.d/crsdesk.fish"}}
     done = run(["dpkg-deb", "--contents", package])
     assert {line.split()[1] for line in done.stdout.splitlines()} == {"root/root"} or "0/0" in done.stdout
 
@@ -226,7 +233,7 @@ def test_another_clone_runs_it(first: Clone, tmp_path: pathlib.Path, program: pa
 
 
 def test_the_folder_as_it_is() -> None:
-    """Its files have their sums, and it has at most 4 MB."""
+    """Its files have their sums, it has at most 4 MB, and README names the toolchain that it was made with."""
     if not chosen.RELEASE.exists():
         pytest.skip("there is no release")
     files = [it for it in chosen.RELEASE.rglob("*") if it.is_file()]
@@ -235,6 +242,7 @@ def test_the_folder_as_it_is() -> None:
     lines = [line.split("  ") for line in chosen.SUMS.read_text(encoding="utf-8").splitlines()]
     assert {sums.get(sum, sum) for sum, _ in lines} == {name for _, name in lines}
     assert {it.name for it in files} == {"SHA256SUMS", "SOURCES", *(pathlib.Path(name).name for _, name in lines)}
+    assert chosen.told_of_sources()["kit"].startswith(f"{readme_kit()} ")
 
 
 @NEEDS

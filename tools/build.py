@@ -165,7 +165,8 @@ class Crate:
         total = hashlib.sha256(repr((self.name, self.libraries, [it.sum for it in self.below])).encode())
         for path in self.own():
             if os.path.isfile(path):
-                total.update(repr((os.path.relpath(path, self.folder), pathlib.Path(path).read_bytes())).encode())
+                own = path[len(f"{self.folder}/") :]
+                total.update(repr((own, pathlib.Path(path).read_bytes())).encode())
         return total.hexdigest()
 
     def stamp(self) -> str:
@@ -457,7 +458,9 @@ def sources_of_library(target: str = TARGET) -> Iterator[str]:
 
 def sums() -> dict[str, str]:
     """Sums of all that the program and the library are made of but the toolchain, on x86-64 and on aarch64."""
-    program, library = (needed([it])[-1].sum for it in (PROGRAM, LIBRARY))
+    # Each crate's files are read once for both.
+    found = {it.name: it.sum for it in needed([PROGRAM, LIBRARY])}
+    program, library = found[PROGRAM], found[LIBRARY]
     calls_of = [HEADER, LAYOUT, SYMBOLS]
     made_of: dict[str, tuple[str, list[pathlib.Path]]] = {
         "program": (program, []),

@@ -50,6 +50,12 @@ OMITTED = """\
 KIND[ANGLEUNIT,PRIMEM]
 # Then a base's unit says nothing more.
 UNCOUNTED[baseUnit]"""
+# And after them: parameters of Esri's and PROJ's methods, which the registry hasn't.
+OTHERS = """\
+# Parameters of methods of Esri and PROJ, in the texts that PROJ writes of Esri's registry.
+KIND[ANGLEUNIT,PARAMETER["Azimuth"],PARAMETER["Central_Meridian"],PARAMETER["Latitude of 1st point"],PARAMETER["Latitude of 2nd point"],PARAMETER["Latitude_Of_Center"],PARAMETER["Latitude_Of_Origin"],PARAMETER["Longitude of 1st point"],PARAMETER["Longitude of 2nd point"],PARAMETER["Longitude_Of_Center"],PARAMETER["XY_Plane_Rotation"]]
+KIND[LENGTHUNIT,PARAMETER["False_Easting"],PARAMETER["False_Northing"],PARAMETER["Satellite Height"]]
+KIND[SCALEUNIT,PARAMETER["Scale_Factor"]]"""
 NODE = re.compile(r'\b([A-Z]+)\["((?:[^"]|"")*)"')
 
 
@@ -146,6 +152,7 @@ def write_omitted_units(database: sqlite3.Connection) -> None:
     print(f"# EPSG {version}\n{OMITTED}")
     for kind, names in sorted(kinds_of(database).items()):
         print(statement("PARAMETER", names, f"KIND[{kind.upper()}UNIT,"))
+    print(OTHERS)
 
 
 def main(words: List[str]) -> int:

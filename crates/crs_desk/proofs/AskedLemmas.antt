@@ -14,7 +14,7 @@ use Rattle.clap.specs.declared.parser.matches.ValueSource.TheVariants.{CommandLi
 use Rattle.clap.proofs.OnLiterals.{clap_on_literals}
 use Rattle.clap.proofs.WalkLemmas.{both}
 use Rattle.crs_desk.specs.Requests.{request_of}
-use Rattle.crs_desk.specs.CommandLine.{asked, desk, file_operands, first_option, flag, is_plain_word, level_option, name_flag, rules_option, spare_operand, verbose_flag}
+use Rattle.crs_desk.specs.CommandLine.{asked, desk, file_operands, first_option, flag, is_plain_word, level_option, name_flag, rules_option, spare_operand, used_option, verbose_flag}
 use Rattle.crs_desk.specs.declared.line.requests.Request.{Request}
 use Rattle.crs_desk.specs.declared.line.requests.Request.TheVariants.{Other}
 use Rattle.crs_desk.specs.declared.line.requests.Task.{Task}
@@ -147,6 +147,7 @@ pub data CommandName : Type 0 where
   group : CommandName
   same : CommandName
   explain : CommandName
+  rules : CommandName
 
 abbrev pub name_of : CommandName → Text
 name_of canon = codes "canon"
@@ -155,6 +156,7 @@ name_of check = codes "check"
 name_of group = codes "group"
 name_of same = codes "same"
 name_of explain = codes "explain"
+name_of rules = codes "rules"
 
 abbrev built_with : Text → List Rule → Shape
 built_with name own = record (new_shape name) {
@@ -172,6 +174,7 @@ built_at group = built_with (codes "group") (level_option ∷ rules_option ∷ f
 built_at same = built_same
 built_at explain = built_with (codes "explain")
     (spare_operand (codes "first") ∷ spare_operand (codes "second") ∷ flag (codes "json") ∷ first_option ∷ level_option ∷ rules_option ∷ flag (codes "files") ∷ verbose_flag ∷ help_rule ∷ [])
+built_at rules = built_with (codes "rules") (used_option ∷ name_flag ∷ file_operands ∷ verbose_flag ∷ help_rule ∷ [])
 
 abbrev top : Shape
 top = (built desk).top
@@ -227,6 +230,7 @@ command_line check program words = words_behind nothing_held (codes "check") wor
 command_line group program words = words_behind nothing_held (codes "group") words
 command_line same program words = words_behind nothing_held (codes "same") words
 command_line explain program words = words_behind nothing_held (codes "explain") words
+command_line rules program words = words_behind nothing_held (codes "rules") words
 
 -- what is held behind `--verbose` of the desk's own
 abbrev verbose_held : Held
@@ -240,6 +244,7 @@ verbose_line check program words = words_behind verbose_held (codes "check") wor
 verbose_line group program words = words_behind verbose_held (codes "group") words
 verbose_line same program words = words_behind verbose_held (codes "same") words
 verbose_line explain program words = words_behind verbose_held (codes "explain") words
+verbose_line rules program words = words_behind verbose_held (codes "rules") words
 
 -- it changes no request
 pub verbose_asked : (n : CommandName) (program : Text) (words : List Text)

@@ -56,7 +56,10 @@ stop_asks (Some stop) free passes some =
             (λ answers taken. refl),
             (
               (λ answers taken. same_asks stop.1 taken),
-              ((λ answers taken. refl), ((λ answers taken. absurd (answers_help stop.0 free (sym (or-false _) ∙ answers))), tt)),
+              (
+                (λ answers taken. refl),
+                ((λ answers taken. refl), ((λ answers taken. absurd (answers_help stop.0 free (sym (or-false _) ∙ answers))), tt)),
+              ),
             ),
           ),
         ),

@@ -20,4 +20,5 @@ mod PieceLemmas
 mod PrefixedLemmas
 mod PrefixedLines
 mod ReadingLemmas
+mod RulesLemmas
 mod SameLemmas

@@ -26,6 +26,10 @@ level_option = record (new_rule (codes "level")) { long = Some (codes "level"); 
 abbrev pub rules_option : Rule
 rules_option = record (new_rule (codes "rules")) { long = Some (codes "rules"); value_names = 1; action = Some Append }
 
+-- the option `--used`, which takes one word each time that it stands
+abbrev pub used_option : Rule
+used_option = record (new_rule (codes "used")) { long = Some (codes "used"); value_names = 1; action = Some Append }
+
 -- the option `--first`, which takes one word each time that it stands
 abbrev pub first_option : Rule
 first_option = record (new_rule (codes "order")) { long = Some (codes "first"); value_names = 1; action = Some Append }
@@ -66,6 +70,10 @@ group_shape = record (new_shape (codes "group")) {
       ∷ flag (codes "files") ∷ name_flag ∷ file_operands ∷ verbose_flag ∷ [];
 }
 
+-- `rules`, which takes the option `--used`, the flag `--with-name` and files
+abbrev pub rules_shape : Shape
+rules_shape = record (new_shape (codes "rules")) { rules = used_option ∷ name_flag ∷ file_operands ∷ verbose_flag ∷ [] }
+
 -- `same`, which needs a first operand and a second, and takes a level, rules and the flags `--files` and `--json`
 abbrev pub same_shape : Shape
 same_shape = record (new_shape (codes "same")) {
@@ -90,9 +98,9 @@ lone_desk =
 -- `crsdesk` with all its commands, before which `--verbose` may stand too
 abbrev pub desk : App
 desk =
-    with_subcommand (with_subcommand (with_subcommand (with_subcommand (with_subcommand (with_subcommand
+    with_subcommand (with_subcommand (with_subcommand (with_subcommand (with_subcommand (with_subcommand (with_subcommand
     (with_rule lone_desk verbose_flag) (spelling_shape (codes "canon"))) (spelling_shape (codes "digest"))) check_shape)
-    group_shape) same_shape) explain_shape
+    group_shape) same_shape) explain_shape) rules_shape
 
 -- what the words ask for, where the command takes them; the first of them is the program's name
 abbrev pub asked : List Text → Option Request

@@ -16,6 +16,7 @@ use Rattle.crs_desk.specs.DigestOutput.{IsDigestOutput}
 use Rattle.crs_desk.specs.ExplainOutput.{IsExplainOutput}
 use Rattle.crs_desk.specs.LinesRun.{IsFrontOutput, IsLineOutput, IsLinesOutput, Outputs, IsPrefixed, PrefixParts, prefixed}
 use Rattle.crs_desk.specs.Output.{IsCanonOutput, IsCheckOutput}
+use Rattle.crs_desk.specs.RulesCheck.{IsRulesOutput}
 use Rattle.crs_desk.specs.RulesOutput.{IsFormOutput}
 
 -- what `group` writes for some bytes, by what its run writes; the status is 1 where a line was refused
@@ -40,6 +41,7 @@ IsTaskOutput (task.Canon level) = IsCanonOutput level
 IsTaskOutput (task.Check how) = IsCheckOutput how
 IsTaskOutput (task.Digest by) = IsDigestOutput by
 IsTaskOutput (task.Explain how) = IsExplainOutput how
+IsTaskOutput (task.Rules used) = IsRulesOutput used
 IsTaskOutput (task.Group level listing) = IsGroupedOutput (IsGroupOutput listing level)
 IsTaskOutput (task.CanonLines level) = IsLinesOutput (IsLineOutput [] (IsCanonOutput level))
 IsTaskOutput (task.CheckLines how) = IsLinesOutput (IsLineOutput (blank_told how) (IsCheckOutput how))

@@ -8,6 +8,7 @@ pub mod LinesRun
 pub mod Output
 pub mod PassedOn
 pub mod Requests
+pub mod RulesCheck
 pub mod RulesOutput
 pub mod SameOutput
 pub mod Whole

@@ -133,6 +133,15 @@ explain_operands rows (Some first) (Some second) =
 abbrev pub explain_work : List Row → Work
 explain_work rows = explain_operands rows (first_of (codes "first") rows) (first_of (codes "second") rows)
 
+-- these files, or standard input where there are none
+abbrev pub or_standard : List Text → List Text
+or_standard [] = standard
+or_standard (name ∷ names) = name ∷ names
+
+-- the rules files among a command's matches are judged, and used in the files of texts that it names
+abbrev pub rules_work : List Row → Work
+rules_work rows = work.Rules (or_standard (words_of (codes "file") rows)) (words_of (codes "used") rows) (is_named rows)
+
 -- the request of a command's name and of its matches
 abbrev pub request_of : Text × List Row → Option Request
 request_of (name, rows) =
@@ -141,7 +150,8 @@ request_of (name, rows) =
     else (if bytes_eq name (codes "check") then Some (over_files (task.Check (layout_of rows) (manner_of rows)) rows)
     else (if bytes_eq name (codes "same") then same_of rows
     else (if bytes_eq name (codes "group") then Some (over_files (task.Group (listing_of rows)) rows)
-    else (if bytes_eq name (codes "explain") then Some (asked_for (explain_work rows) rows) else None)))))
+    else (if bytes_eq name (codes "rules") then Some (asked_for (rules_work rows) rows)
+    else (if bytes_eq name (codes "explain") then Some (asked_for (explain_work rows) rows) else None))))))
 
 -- the level that a word names
 abbrev pub level_named : Text → Option Level

@@ -5,3 +5,4 @@ pub mod HandedOn
 pub mod LineCutting
 pub mod PartFault
 pub mod Pieces
+pub mod RulesCounts

@@ -26,9 +26,11 @@ pub use runs::lines::run_lines;
 pub use runs::manner::Manner;
 pub use runs::pair::{PairAnswer, Telling, pair_output, refused_output};
 pub use runs::reading::read_text;
+pub use runs::rules::RulesText;
 pub use runs::same::{InALine, run_same};
 pub use runs::text::{
     CanonText, CheckText, accepted_line, kind_of_text, kind_word, line_of, refusal_in,
     refusal_line, refused_line, run_canon, run_check, run_text,
 };
 pub use runs::under::{ExplainedForms, SameForms};
+pub use runs::used::Used;

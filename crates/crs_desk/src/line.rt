@@ -6,7 +6,7 @@ ghost use Rattle.clap.specs.declared.builder.command.Command.TheViews.{out-Comma
 ghost use Rattle.crs_desk.specs.CommandLine.{IsRefusal, asked, desk, lone_desk, operand, spelling_shape};
 ghost use Rattle.crs_desk.specs.inner.HandedOn.{HandsOn};
 ghost use Rattle.crs_desk.specs.CommandLine.{check_shape, explain_shape, file_operands, first_option, flag, is_verbose, name_flag};
-ghost use Rattle.crs_desk.specs.CommandLine.{group_shape, level_option, rules_option, same_shape, spare_operand, verbose_flag};
+ghost use Rattle.crs_desk.specs.CommandLine.{group_shape, level_option, rules_option, rules_shape, same_shape, spare_operand, used_option, verbose_flag};
 ghost use Rattle.crs_desk.specs.Requests.{request_of};
 
 pub(crate) mod job;
@@ -21,7 +21,7 @@ use clap::{Arg, ArgAction, ArgMatches, Command};
 use std::alloc::{AllocError, Global};
 
 // The version that `--version` prints.
-const VERSION: &str = "0.3.0-dev";
+const VERSION: &str = "0.3.0";
 
 // What help says of the commands that read files or standard input.
 const CANON_ABOUT: &str = "Writes the canonical text of each file's text";
@@ -39,6 +39,9 @@ const EXPLAIN_ABOUT: &str =
 
 const SAME_ABOUT: &str = "Compares two texts, and names the first part in which their CRSs differ";
 
+const RULES_ABOUT: &str =
+    "Tells how many statements and names a rules file has, or where it is refused and why";
+
 // What help says of the operands of `same` and `explain`.
 const FIRST_HELP: &str = "The first text itself; with --files the name of its file";
 
@@ -49,6 +52,9 @@ const SECOND_HELP: &str = "The second text, or its file";
 
 // What help says of the files of the other commands.
 const FILE_HELP: &str = "A file to read; `-` is standard input [default: standard input]";
+
+const RULES_FILE_HELP: &str =
+    "A rules file, judged by itself; `-` is standard input [default: standard input]";
 
 // What help says of flags.
 const JSON_HELP: &str = "Writes objects of JSON, one a line";
@@ -77,6 +83,9 @@ const ORDER_HELP: &str =
 
 const RULES_HELP: &str = "Counts as the same what the rules in a file say; repeat for more files";
 
+const USED_HELP: &str =
+    "Tells too which statements match nothing in the texts of a file: one, or a text a line; repeat for more files";
+
 // What the help of a command says last: its statuses.
 const CANON_STATUS: &str = "Status: 0 and the canonical text, 1 and the refusal, 2 for a fault.";
 
@@ -90,6 +99,8 @@ const EXPLAIN_STATUS: &str = "Status: 0, 1 for a refusal or a difference, 2 for 
 
 const SAME_STATUS: &str =
     "Status: 0 and `same`, 1 and the first part that differs, or a refusal, 2 for a fault.";
+
+const RULES_STATUS: &str = "Status: 0 and the counts, 1 and the first fault, 2 for a fault.";
 
 /// What the words of a command line ask for. The first word is the program's name.
 /// `Line` where `clap` refuses the words, or help or the version is asked for, `Memory` where memory ran out.
@@ -149,7 +160,8 @@ fn desk_command<'a>(alloc: Global) -> Result<Command<'a>, AllocError>
     let command = with_command(command, check_command(alloc));
     let command = with_command(command, group_command(alloc));
     let command = with_command(command, same_command(alloc));
-    with_command(command, explain_command(alloc))
+    let command = with_command(command, explain_command(alloc));
+    with_command(command, rules_command(alloc))
 }
 
 // A command with one more below it, where there is memory for both.
@@ -217,6 +229,17 @@ fn group_command<'a>(alloc: Global) -> Result<Command<'a>, AllocError>
     let command = with_argument(command, flag_argument(alloc, "files", WHOLE_HELP));
     let command = with_argument(command, name_argument(alloc));
     let command = with_argument(command, file_argument(alloc));
+    with_argument(command, verbose_argument(alloc))
+}
+
+fn rules_command<'a>(alloc: Global) -> Result<Command<'a>, AllocError>
+    ensures shape { IfOk result (λ command. shape_of command ≡ rules_shape) }
+    ensures globals { IfOk result (λ command. (fields_of command).has_globals ≡ false) }
+{
+    let alone = lone_command(alloc, "rules", RULES_ABOUT, RULES_STATUS);
+    let command = alone.arg(used_argument(alloc));
+    let command = with_argument(command, name_argument(alloc));
+    let command = with_argument(command, rules_file_argument(alloc));
     with_argument(command, verbose_argument(alloc))
 }
 
@@ -337,6 +360,22 @@ fn rules_argument<'a>(alloc: Global) -> Arg<'a>
     spare_word(alloc, "rules", "FILE", RULES_HELP)
         .action(ArgAction::Append)
         .long("rules")
+}
+
+fn used_argument<'a>(alloc: Global) -> Arg<'a>
+    ensures rule { rule_of result ≡ used_option }
+    ensures local { result.global ≡ false }
+{
+    spare_word(alloc, "used", "TEXT", USED_HELP)
+        .action(ArgAction::Append)
+        .long("used")
+}
+
+fn rules_file_argument<'a>(alloc: Global) -> Arg<'a>
+    ensures rule { rule_of result ≡ file_operands }
+    ensures local { result.global ≡ false }
+{
+    spare_word(alloc, "file", "FILE", RULES_FILE_HELP).action(ArgAction::Append)
 }
 
 fn refusal(error: clap::Error) -> RequestFault

@@ -1,6 +1,6 @@
 //! Lines on standard error. A failure of standard error itself can't be reported.
 use crate::fault::Fault;
-use crs_desk::append_escaped;
+use crs_desk::{append_escaped, is_verbose};
 use std::alloc::{AllocError, Global};
 use std::env::Env;
 use std::fmt::Display;
@@ -58,6 +58,14 @@ pub fn words_of(rt: &HostRuntime) -> Result<Vec<Vec<u8>>, AllocError> {
         words.push(Vec::from_slice(rt.alloc(), &room[..length])?)?;
     }
     Ok(words)
+}
+
+/// Whether the words behind the program's name ask for reasons.
+pub fn is_verbose_line(rt: &HostRuntime) -> bool {
+    match words_of(rt) {
+        Ok(words) => is_verbose(&words),
+        Err(_) => false,
+    }
 }
 
 // What stands before a word that isn't UTF-8: no word of a command line has a NUL byte.

@@ -1,19 +1,20 @@
 //! The runs of the commands: over standard input, texts and files, with rules, which are read first, or without.
 use crate::fault::Fault;
 use crate::input::{Input, Opener, STANDARD};
-use crate::messages::{is_marked, tell, tell_of};
+use crate::messages::{is_marked, is_verbose_line, tell, tell_of};
 use crate::output::Output;
 use crs_desk::{
     CanonText, CheckText, Comparison, DigestText, ExplainText, ExplainedForms, FileTask, Filling,
     ForText, InALine, Inputs, Job, Layout, Level, LinePair, LineWord, LineWords, Listing, Manner,
     OfLine, PairAnswer, Rules, RulesFault, RulesReader, RunFault, SameForms, Sink, Source, Spelled,
-    Stream, Summary, Task, Told, Under, WordKind, Work, blank_told, kind_of_text, read_text,
+    Stream, Summary, Task, Told, Under, Used, WordKind, Work, blank_told, kind_of_text, read_text,
     run_canon, run_check, run_files, run_group_files, run_lines, run_same, run_text, write_answer,
 };
 use crs_group::pieces::{ByCanon, ByForm};
 use crs_group::run_group_listing;
 use std::io::IsTerminal;
 use std::path::Path;
+use std::{env, str};
 
 // The number of the refusal of a text that ends before it is complete.
 const UNEXPECTED_END: u8 = 7;
@@ -75,7 +76,7 @@ pub fn answer(rt: &HostRuntime, job: &Job) -> Result<u8, Fault> {
         } => {
             let rules = rules_of(rt, rules)?;
             let (names, rules) = (names.as_slice(), rules.as_ref());
-            hold_standard(names)?;
+            hold_standard(names, &[])?;
             if let Task::Group(listing) = *task
                 && listing.files
             {
@@ -86,13 +87,21 @@ pub fn answer(rt: &HostRuntime, job: &Job) -> Result<u8, Fault> {
             let answer = to_standard!(rt, run_files(each, *named, names, &files));
             hinted(rt, *task, names, answer)
         }
+        Work::Rules { names, used, named } => {
+            hold_standard(names.as_slice(), used.as_slice())?;
+            let used = used_in(rt, used)?;
+            let each = FileTask::Rules(used.as_ref());
+            let files = Opener { rt: *rt };
+            to_standard!(rt, run_files(each, *named, names.as_slice(), &files))
+        }
     }
 }
 
 // Standard input is read once.
-fn hold_standard(names: &[LineWord]) -> Result<(), Fault> {
+fn hold_standard(names: &[LineWord], others: &[LineWord]) -> Result<(), Fault> {
     let is_standard = |name: &&LineWord| name.as_str() == STANDARD;
-    if names.iter().filter(is_standard).count() > 1 {
+    let all = names.iter().chain(others.iter());
+    if all.filter(is_standard).count() > 1 {
         return Err(Fault::Twice);
     }
     Ok(())
@@ -248,19 +257,28 @@ impl Comparing<'_, '_, '_> {
     fn words(self, pair: &LinePair) -> Result<u8, Fault> {
         let (rt, first, second) = (self.rt, &pair.first, &pair.second);
         match pair.kind {
-            WordKind::Text => self.texts(text_of(rt, first)?, text_of(rt, second)?),
+            WordKind::Text => { self.texts(&pair.rules, text_of(rt, first)?, text_of(rt, second)?) }
             WordKind::FileName => {
                 if first.as_str() == STANDARD && second.as_str() == STANDARD {
                     return Err(Fault::Twice);
                 }
                 let first = file_text(rt, first.as_str());
                 let second = file_text(rt, second.as_str());
-                self.texts(&first?, &second?)
+                self.texts(&pair.rules, &first?, &second?)
             }
         }
     }
 
-    fn texts(self, a: &[u8], b: &[u8]) -> Result<u8, Fault> {
+    // The answer for two texts, and with `--verbose` what the rules of these files don't match in them.
+    fn texts(self, rules: &LineWords, a: &[u8], b: &[u8]) -> Result<u8, Fault> {
+        let answer = self.compared(a, b);
+        if matches!(self.comparison, Comparison::Explain(_)) && is_verbose_line(self.rt) {
+            tell_unmatched(self.rt, rules.as_slice(), a, b);
+        }
+        answer
+    }
+
+    fn compared(self, a: &[u8], b: &[u8]) -> Result<u8, Fault> {
         let (rt, level, words) = (self.rt, self.job.level, self.job.order.as_slice());
         match (self.comparison, self.rules) {
             (Comparison::Same(Manner::Lines), None) => to_standard!(rt, run_same(level, a, b)),
@@ -334,6 +352,32 @@ fn text_of<'w>(rt: &HostRuntime, word: &'w LineWord) -> Result<&'w [u8], Fault> 
     Ok(name.as_bytes())
 }
 
+// The texts of these files; none where there are no files.
+fn used_in(rt: &HostRuntime, names: &LineWords) -> Result<Option<Used>, Fault> {
+    if names.is_empty() {
+        return Ok(None);
+    }
+    let mut used = Used::new(rt.alloc());
+    for name in names.as_slice() {
+        let text = file_text(rt, name.as_str())?;
+        tell_refused(rt, name.as_str(), used.add(&text)?);
+    }
+    Ok(Some(used))
+}
+
+// How many texts of a file are refused, and so used nowhere.
+fn tell_refused(rt: &HostRuntime, name: &str, refused: usize) {
+    match refused {
+        0 => {}
+        1 => tell_of(rt, name, "1 text is refused, and left out"),
+        _ => {
+            if let Ok(told) = format!(in rt.alloc(); "{refused} texts are refused, and left out") {
+                tell_of(rt, name, told);
+            }
+        }
+    }
+}
+
 // The rules of these files together, of which one that is named twice counts once; none where there are no files. The fault of the first that has one is told.
 fn rules_of(rt: &HostRuntime, names: &LineWords) -> Result<Option<Rules>, Fault> {
     if names.is_empty() {
@@ -351,7 +395,7 @@ fn rules_of(rt: &HostRuntime, names: &LineWords) -> Result<Option<Rules>, Fault>
 }
 
 fn read_rules(rt: &HostRuntime, name: &str, reader: &mut RulesReader) -> Result<(), Fault> {
-    let text = file_text(rt, name)?;
+    let text = rules_text(rt, name)?;
     match reader.read(rt.alloc(), &text) {
         Ok(()) => Ok(()),
         Err(RulesFault::Memory(_)) => Err(Fault::Run(RunFault::Memory)),
@@ -359,5 +403,63 @@ fn read_rules(rt: &HostRuntime, name: &str, reader: &mut RulesReader) -> Result<
             tell(rt, name, ", ", refused);
             Err(Fault::Told)
         }
+    }
+}
+
+// Where rules are from the program's folder: in a prefix, and among the sources.
+const RULES_FOLDERS: [&str; 2] = ["../share/crsdesk/rules", "../../../rules"];
+
+// The text of a rules file: of the file that is so called, or else of one that is installed or shipped.
+fn rules_text(rt: &HostRuntime, name: &str) -> Result<Vec<u8>, Fault> {
+    match shipped(rt, name) {
+        Some(path) => file_text(rt, path.as_str()),
+        None => file_text(rt, name),
+    }
+}
+
+// The path of rules that are installed or shipped, by their name, with its end or without; `None` where a file is so called.
+fn shipped(rt: &HostRuntime, name: &str) -> Option<String> {
+    if name == STANDARD || is_marked(name) || name.contains('/') || Path::new(name).exists(rt) {
+        return None;
+    }
+    let program = env::current_exe(rt).ok()?;
+    let folder = program.as_path().parent()?.as_str();
+    for below in RULES_FOLDERS {
+        for end in ["", ".rules"] {
+            let path = format!(in rt.alloc(); "{folder}/{below}/{name}{end}").ok()?;
+            if Path::new(path.as_str()).is_file(rt) {
+                return Some(path);
+            }
+        }
+    }
+    None
+}
+
+// Tells what the statements of rules files don't match in two texts; of standard input, which is read once, nothing.
+fn tell_unmatched(rt: &HostRuntime, names: &[LineWord], a: &[u8], b: &[u8]) {
+    let mut used = Used::new(rt.alloc());
+    if used.add(a).is_err() || used.add(b).is_err() {
+        return;
+    }
+    for place in 0..names.len() {
+        let name = names[place].as_str();
+        if name != STANDARD && !names[..place].iter().any(|other| other.as_str() == name) {
+            tell_unmatched_in(rt, name, &used);
+        }
+    }
+}
+
+fn tell_unmatched_in(rt: &HostRuntime, name: &str, used: &Used) {
+    let Ok(text) = rules_text(rt, name) else {
+        return;
+    };
+    let Ok(lines) = used.unmatched(rt.alloc(), &text) else {
+        return;
+    };
+    let Ok(lines) = str::from_utf8(&lines) else {
+        return;
+    };
+    for line in lines.lines() {
+        tell(rt, name, ", ", line);
     }
 }

@@ -19,6 +19,7 @@ from typing import IO, Any, BinaryIO, Callable, Dict, Iterable, Iterator, List, 
 
 from . import Catalogue, Crs, Refused, Rules, RulesRefused, Text, __version__, canon, check, difference, differences
 from ._crs import LEVELS, is_blank
+from ._rules import shipped
 from ._shown import named, quoted
 
 DIFFERS = 1
@@ -33,7 +34,7 @@ SOURCE_HELP = "with --convert: a bound CRS is in the group of its source CRS, li
 LINES_HELP_OF_AUDIT = "a .txt file has one text per line, and so has a file of another suffix that is named itself"
 REGISTRY_HELP = "compares the CRSs with the registered ones of PROJ's database"
 RULES_HELP = (
-    "a rules file, which says what counts as the same; of several the statements count together (docs/RULES.md)"
+    "a rules file, or the name of one that is installed; of several the statements count together (docs/RULES.md)"
 )
 
 
@@ -305,7 +306,7 @@ def has_proj() -> bool:
 
 def rules_of(names: List[str]) -> Optional[Rules]:
     """The rules of files; None where none is named."""
-    return Rules.from_file(*names) if names else None
+    return Rules.from_file(*map(shipped, names)) if names else None
 
 
 def jobs(word: str) -> int:

@@ -192,9 +192,8 @@ def spelled_alone(text: Any, level: Level, missing: Any, rules: Optional[Rules])
 
 
 def digests_of(texts: Iterable[bytes]) -> Array:
-    """The digest of each text, a row of two numbers, the same in every process."""
-    digest = hashlib.blake2b
-    rows = b"".join([digest(text, digest_size=DIGEST_BYTES).digest() for text in texts])
+    """The first half of the digest of each canonical text, a row of two numbers."""
+    rows = b"".join([hashlib.sha256(text).digest()[:DIGEST_BYTES] for text in texts])
     return numpy.frombuffer(rows, dtype="<u8").reshape(-1, 2)
 
 

@@ -3,6 +3,9 @@
 from __future__ import annotations
 
 import os
+import pathlib
+import shutil
+import sys
 from typing import List, Optional, Tuple, Union
 
 from . import _library
@@ -15,6 +18,21 @@ MEANINGS = {
     43: "a node of another kind than the first of its set",
     44: "a node that stood in such a statement before",
 }
+
+
+def shipped(name: str) -> str:
+    """The path of a rules file by its name: the file that is so called, or else one among the sources, below Python's
+    prefix or beside the program ``crsdesk``, with the end ``.rules`` or without it."""
+    if os.path.exists(name) or os.path.basename(name) != name:
+        return name
+    program = os.path.realpath(shutil.which("crsdesk") or "")
+    prefixes = (sys.prefix, os.path.dirname(os.path.dirname(program)))
+    sources = pathlib.Path(__file__).resolve().parents[3] / "rules"
+    for folder in (sources, *(pathlib.Path(it, "share", "crsdesk", "rules") for it in prefixes)):
+        for path in (folder / name, folder / f"{name}.rules"):
+            if path.is_file():
+                return str(path)
+    return name
 
 
 class RulesRefused(ValueError):

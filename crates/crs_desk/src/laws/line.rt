@@ -292,3 +292,25 @@ pub fn digests_names_and_objects()
         ≡ Some (Other (codes "full") [] (work.Pair (comparison.Same manner.Objects)
         (record { kind = OfText; first = first; second = second; rules = [] }))) }
 {}
+
+/// A line asks for `rules` of files or of standard input, with names of files after `-H`. The word after each `--used` is
+/// a file of texts, where it is no flag. `rules` takes neither a level nor rules.
+pub fn rules_are_judged()
+    ensures alone { (program : Text) → asked (program ∷ codes "rules" ∷ [])
+        ≡ Some (Other (codes "full") [] (work.Rules standard [] false)) }
+    ensures one { (program name : Text) → is_plain_word name ≡ true → asked (program ∷ codes "rules" ∷ name ∷ [])
+        ≡ Some (Other (codes "full") [] (work.Rules (name ∷ []) [] false)) }
+    ensures two { (program name other : Text) → is_plain_word name ≡ true → is_plain_word other ≡ true →
+        asked (program ∷ codes "rules" ∷ name ∷ other ∷ [])
+        ≡ Some (Other (codes "full") [] (work.Rules (name ∷ other ∷ []) [] false)) }
+    ensures named { (program name : Text) → is_plain_word name ≡ true → asked (program ∷ codes "rules" ∷ codes "-H" ∷ name ∷ [])
+        ≡ Some (Other (codes "full") [] (work.Rules (name ∷ []) [] true)) }
+    ensures used { (program texts name : Text) → is_plain_word texts ≡ true → is_plain_word name ≡ true →
+        asked (program ∷ codes "rules" ∷ codes "--used" ∷ texts ∷ name ∷ [])
+        ≡ Some (Other (codes "full") [] (work.Rules (name ∷ []) (texts ∷ []) false)) }
+    ensures twice { (program one other : Text) →
+        asked (program ∷ codes "rules" ∷ (codes "--used=" ++ one) ∷ (codes "--used=" ++ other) ∷ [])
+        ≡ Some (Other (codes "full") [] (work.Rules standard (one ∷ other ∷ []) false)) }
+    ensures level { (program level : Text) → takes desk (program ∷ codes "rules" ∷ codes "--level" ∷ level ∷ []) ≡ false }
+    ensures rules { (program file : Text) → takes desk (program ∷ codes "rules" ∷ codes "--rules" ∷ file ∷ []) ≡ false }
+{}

@@ -2,7 +2,7 @@
 ghost use Rattle.std.specs.Prelude.{◌≡◌, IfOk, IsSome, None, Some, option_and_then};
 ghost use Rattle.clap.specs.Words.{found_of, rows_of, subcommand_rows_of};
 ghost use Rattle.crs_desk.specs.Requests.{asked_for, explain_operands, explain_work, file_work, over_files};
-ghost use Rattle.crs_desk.specs.Requests.{pair_of, request_for, request_of, same_of};
+ghost use Rattle.crs_desk.specs.Requests.{or_standard, pair_of, request_for, request_of, rules_work, same_of};
 ghost use Rattle.crs_desk.specs.declared.line.requests.Comparison.TheVariants as comparisons;
 ghost use Rattle.crs_desk.specs.declared.line.requests.Task.TheVariants as tasks;
 ghost use Rattle.crs_desk.specs.declared.line.requests.Work.TheVariants as works;
@@ -44,9 +44,32 @@ fn request_named(alloc: Global, name: &str, options: &ArgMatches) -> Result<Requ
         }
         "same" => same_request(alloc, options),
         "group" => over_files(alloc, options, Task::Group(listing(options))),
+        "rules" => asked_for(alloc, options, rules_work(alloc, options)?),
         "explain" => asked_for(alloc, options, explain_work(alloc, options)?),
         _ => unreachable!(),
     }
+}
+
+// The rules files that a command names, or standard input where it names none, are judged.
+fn rules_work(alloc: Global, options: &ArgMatches) -> Result<Work, AllocError>
+    ensures { IfOk result (λ work. work ≡ rules_work (rows_of (found_of options.now))) }
+{
+    let names = words_named(alloc, options, "file")?;
+    let used = words_named(alloc, options, "used")?;
+    Ok(Work::Rules {
+        names: or_standard(alloc, names)?,
+        used,
+        named: flag_asked(options, "with-name"),
+    })
+}
+
+fn or_standard(alloc: Global, names: LineWords) -> Result<LineWords, AllocError>
+    ensures { IfOk result (λ all. all ≡ or_standard names) }
+{
+    if names.is_empty() {
+        return LineWords::of(alloc, &[STANDARD]);
+    }
+    Ok(names)
 }
 
 // A task over the files that a command names, or over standard input where it names none.

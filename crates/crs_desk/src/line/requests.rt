@@ -43,6 +43,13 @@ pub enum Work {
         /// Whether each line begins with the file's name also where there is one file.
         named: bool,
     },
+    /// Rules files are judged, of which there is at least one, with names of files or without.
+    Rules {
+        names: LineWords,
+        /// The names of the files of texts in which the rules are to be used.
+        used: LineWords,
+        named: bool,
+    },
 }
 
 /// Two texts of a command line, or two files, and the rules files under which they are compared, where there are some.

@@ -12,8 +12,8 @@ use crate::runs::explain::ExplainText;
 use crate::runs::line_output::{OfLine, Prefix, Prefixed, prefix_lines};
 use crate::runs::lines::run_lines;
 use crate::{
-    CanonText, CheckText, DigestText, Filling, Level, LineWord, Listing, Manner, RunFault, Sink,
-    Source, Spelled, Stream, TextCommand, Under, read_text,
+    CanonText, CheckText, DigestText, Filling, Level, LineWord, Listing, Manner, RulesText,
+    RunFault, Sink, Source, Spelled, Stream, TextCommand, Under, Used, read_text,
 };
 use crs_group::pieces::{Adding, ByCanon, ByForm, run_adding};
 use crs_rules::Rules;
@@ -158,6 +158,7 @@ fn answer_input<R: Read + Drop, W: Write>(
         FileTask::Digest(by) => answer_text(&DigestText { by }, prefix, reader, sink),
         FileTask::Check(how) => answer_text(&CheckText { how }, prefix, reader, sink),
         FileTask::Explain(how) => answer_text(&ExplainText { how }, prefix, reader, sink),
+        FileTask::Rules(used) => answer_text(&RulesText { used }, prefix, reader, sink),
         FileTask::Group(level, listing) => {
             answer_group(ByCanon(level), listing, prefix, reader, sink)
         }
@@ -275,6 +276,8 @@ pub enum FileTask<'r> {
     Digest(Spelled<'r>),
     /// What `ExplainText` writes.
     Explain(Manner),
+    /// What `RulesText` writes.
+    Rules(Option<&'r Used>),
     /// What `run_group_listing` writes, at a level, with status 1 where a line was refused.
     Group(Level, Listing),
     /// What `OfLine` of `CanonText` writes for each line, at a level.

@@ -11,6 +11,7 @@ import signal
 from typing import TYPE_CHECKING, Dict, Iterable, List, Optional, Sequence, Tuple, TypeVar, Union
 
 from .. import Difference, Rules, RulesRefused
+from .._rules import shipped
 from .collecting import Listing, Workers, listing_of
 from .judging import Told, Two, parts_of, told_of
 from .names import place_shown, readable, visible
@@ -74,7 +75,7 @@ def stop(number: int, _: object) -> None:
 
 def rules_files_of(names: Sequence[str]) -> List[RulesFile]:
     """Rules files, read. OSError where one can't be, RulesRefused where one is refused."""
-    rules = Rules.from_file(*names)
+    rules = Rules.from_file(*map(shipped, names))
     return [RulesFile(name, text) for name, text in zip(names, rules.texts)]
 
 

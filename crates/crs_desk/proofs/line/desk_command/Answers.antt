@@ -12,5 +12,6 @@ returns c =
     let three = adds_command c.check_command.result _ two c.check_command.ensures.shape c.check_command.ensures.globals c.with_command-command-3.ensures in
     let four = adds_command c.group_command.result _ three c.group_command.ensures.shape c.group_command.ensures.globals c.with_command-command-4.ensures in
     let five = adds_command c.same_command.result _ four c.same_command.ensures.shape c.same_command.ensures.globals c.with_command-command-5.ensures in
-    let six = adds_command c.explain_command.result _ five c.explain_command.ensures.shape c.explain_command.ensures.globals c.with_command.ensures in
-    record { shape = six.shape; globals = six.globals }
+    let six = adds_command c.explain_command.result _ five c.explain_command.ensures.shape c.explain_command.ensures.globals c.with_command-command-6.ensures in
+    let seven = adds_command c.rules_command.result _ six c.rules_command.ensures.shape c.rules_command.ensures.globals c.with_command.ensures in
+    record { shape = seven.shape; globals = seven.globals }
