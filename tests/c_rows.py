@@ -220,7 +220,9 @@ class Asker:
         assert not path[1] or lines[1].startswith((path[1] + b": ", path[1] + b'["'))
         shown = [it or b"none" for it in pieces]
         parts = zip(pieces[::3], shown[1::3], shown[2::3])
-        whole = b"".join(b"%s: %s | %s%s\n" % (*it, rows.code_points(it[1].decode(), it[2].decode()).encode()) for it in parts)
+        whole = b"".join(
+            b"%s: %s | %s%s\n" % (*it, rows.code_points(it[1].decode(), it[2].decode()).encode()) for it in parts
+        )
         assert len(pieces) % 3 == 0 and (b"\\" in lines[1] or whole == lines[1])
         return path, lines[1]
 

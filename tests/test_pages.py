@@ -80,7 +80,9 @@ def test_habit(name: str, habit: str) -> None:
 def test_comments(name: str) -> None:
     texts = {path: pages.comments_of(path) for path in SOURCES[name]}
     assert "".join(texts.values())
-    places = [(path.name, habit, it) for path in texts for habit in pages.HABITS for it in pages.found_in(texts[path], habit)]
+    places = [
+        (path.name, habit, it) for path in texts for habit in pages.HABITS for it in pages.found_in(texts[path], habit)
+    ]
     assert not [it for it in places if it[:2] not in LEFT], "pages.py has what is better"
 
 
