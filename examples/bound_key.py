@@ -1,15 +1,15 @@
 #!/usr/bin/env python3
 """A key for a cache of transformers, for each text that PROJ reads.
 
-    bound_key.py FILE ..
+    bound_key.py FILE...
 
-A BOUNDCRS is a CRS with a transformation to another, as PROJ makes it of TOWGS84, +towgs84 and +nadgrids. crsdesk
-doesn't read it. Its key is the canonical text of its source CRS and its transformation; for any other CRS it is the
-canonical text alone. A text that crsdesk doesn't read is kept as pyproj writes it. So texts with equal keys have the same
+A BOUNDCRS is a CRS with a transformation to another, which PROJ makes of TOWGS84, +towgs84 and +nadgrids. crsdesk
+doesn't read it. Its key is the canonical text of its source CRS and its transformation; for any other CRS it is only
+the canonical text. A text that crsdesk doesn't read is kept as pyproj writes it. So texts with equal keys have the same
 CRS and the same transformation; one transformation in two spellings may have two keys. Two lines are printed for each
-file, the parts of its key; the second is empty where there is no transformation.
+file, the parts of its key; the second is empty if there is no transformation.
 
-It takes the packages crsdesk and pyproj, and PROJ's program projinfo. PROJ repairs a damaged text: a text of which
+It needs the packages crsdesk and pyproj, and PROJ's program projinfo. PROJ repairs a damaged text: a text about which
 projinfo warns is an error here, since pyproj wouldn't say.
 """
 import subprocess
@@ -22,7 +22,7 @@ from pyproj.exceptions import CRSError
 
 
 def canonical(text: str) -> str:
-    """The canonical text; the text itself where crsdesk doesn't read it."""
+    """The canonical text; the text itself if crsdesk doesn't read it."""
     try:
         return crsdesk.canon(text)
     except crsdesk.Refused:
@@ -30,7 +30,7 @@ def canonical(text: str) -> str:
 
 
 def rewritten(text: str) -> str:
-    """What PROJ writes of a text in WKT2. ValueError where it warns, or reads nothing."""
+    """What PROJ writes of a text in WKT2. ValueError if it warns, or reads nothing."""
     words = ["projinfo", "--single-line", "-o", "WKT2:2019", text]
     done = subprocess.run(words, capture_output=True, text=True, check=False)
     heading, _, found = done.stdout.partition("\n")

@@ -1,10 +1,10 @@
 #!/usr/bin/env python3
 """A cache by CRS that survives a restart, in a file of SQLite.
 
-    cached.py CACHE FILE ..
+    cached.py CACHE FILE...
 
 For each file it prints the answer of the CRS that its text spells, and whether that was made now or kept from before.
-It takes the package crsdesk.
+It needs the package crsdesk.
 """
 import sqlite3
 import sys
@@ -25,7 +25,7 @@ class Cache:
         self.connection.execute(TABLE)
 
     def answer(self, text: bytes, make: Callable[[bytes], str]) -> Tuple[str, bool]:
-        """The answer of the CRS that a text spells, and whether it was made now. Refused where it spells none."""
+        """The answer of the CRS that a text spells, and whether it was made now. Refused if it spells none."""
         key = crsdesk.__version__, self.level, crsdesk.canon(text, self.level)
         select = "SELECT answer FROM answers WHERE version = ? AND level = ? AND crs = ?"
         row = self.connection.execute(select, key).fetchone()
@@ -38,7 +38,7 @@ class Cache:
 
 
 def costly(text: bytes) -> str:
-    """What takes long, and depends on the CRS alone."""
+    """What takes long, and depends only on the CRS."""
     time.sleep(0.5)
     return f"a grid for a {crsdesk.check(text)} CRS"
 

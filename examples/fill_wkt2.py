@@ -3,14 +3,14 @@
 
     fill_wkt2.py FILE.gpkg
 
-The column is that of the GeoPackage extension for WKT2 (gpkg_crs_wkt), and is made where the file lacks it. An entry
-that has WKT2 keeps it. For any other PROJ rewrites the WKT1 of the column definition; where that is undefined, PROJ is
-asked for the entry's organization and code. PROJ repairs a damaged text and warns of it: such an entry stays undefined,
-and so does one that PROJ can't read. A line is printed for each entry: its srs_id, and definition, the code, or
-undefined; what PROJ says of one that stays undefined goes to standard error.
+The column belongs to the GeoPackage extension for WKT2 (gpkg_crs_wkt), and is made if the file lacks it. An entry that
+has WKT2 keeps it. For any other PROJ rewrites the WKT1 of the column definition; if that is undefined, PROJ looks up
+the entry's organization and code. PROJ repairs a damaged text and warns about it: such an entry stays undefined, and so
+does one that PROJ can't read. A line is printed for each entry: its srs_id, and definition, the code, or undefined;
+PROJ's message on one that stays undefined goes to standard error.
 
-The status is 0 where no entry stays undefined but those that have neither definition nor code, else 1; 2 for a fault,
-with a line on standard error and the file as it was.
+The status is 0 if only entries with neither definition nor code stay undefined, else 1; 2 for a fault, with a line on
+standard error and the file unchanged.
 """
 import os
 import sqlite3
@@ -34,7 +34,7 @@ TABLE_OF_EXTENSIONS = """
 
 
 def asked(text: str) -> Tuple[Optional[str], str]:
-    """PROJ's WKT2 of a text or code, and its warnings; None where it can't read it, or repaired it."""
+    """PROJ's WKT2 of a text or code, and its warnings; None if it can't read it, or repaired it."""
     words = ["projinfo", "--single-line", "-o", "WKT2:2015", text]
     done = subprocess.run(words, stdout=subprocess.PIPE, stderr=subprocess.PIPE, check=False)
     lines, warnings = done.stdout.decode().split("\n"), done.stderr.decode().strip()

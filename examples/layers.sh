@@ -1,7 +1,7 @@
 #!/bin/sh
 # Makes a GeoPackage of layers of one point each, by GDAL: layers.sh FILE [wkt1]. SURVEY:31 is a project's own code for
 # EPSG:32631. WKT1 can't say the CRS of the layer heights, so for it GDAL gives the file the column definition_12_063;
-# with the word wkt1 that layer is left out, and the file has WKT1 alone.
+# with the word wkt1 that layer is left out, and the file has only WKT1.
 set -e
 file=$1
 rm -f "$file"

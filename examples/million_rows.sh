@@ -1,6 +1,6 @@
 #!/bin/sh
 # Makes a large catalogue, and the same texts as a table for SQLite: million_rows.sh FOLDER [CRSS [SPELLINGS]].
-# FOLDER/lines.txt has the lines of tests/big_catalogue.py, of 100,000 CRSs in 10 spellings where no numbers are given;
+# FOLDER/lines.txt has the lines of tests/big_catalogue.py, of 100,000 CRSs in 10 spellings if no numbers are given;
 # FOLDER/table.db has the table texts, whose row N has line N in the column wkt.
 set -e
 maker=$(dirname -- "$0")/../tests/big_catalogue.py

@@ -38,12 +38,14 @@ MOST = {
     "TUTORIAL": 650,
 }
 PATHS = {path.stem: path for path in pages.PAGES}
-# These, and the manual pages.
-PROSE = {name: PATHS[name] for name in MOST} | {it: pages.ROOT / "man" / it for it in ("crsdesk.1", "crsdesk.3")}
-# Sources whose comments are read as English: by crate, the Python package, and the header.
+# These, the page of the wheel, and the manual pages.
+OTHERS = ("python/README.md", "man/crsdesk.1", "man/crsdesk.3")
+PROSE = {name: PATHS[name] for name in MOST} | {it: pages.ROOT / it for it in OTHERS}
+# Sources whose comments are read as English: by crate, the Python package, the examples, and the header.
 CRATES = sorted(it for it in (pages.ROOT / "crates").iterdir() if it.name not in {"crs_desk"})
 SOURCES = {it.name: sorted(it.glob("src/**/*.rt")) for it in CRATES} | {
     "python": sorted((pages.ROOT / "python" / "src").rglob("*.py")),
+    "examples": sorted((pages.ROOT / "examples").glob("*.py")),
     "crsdesk.h": [pages.ROOT / "crates" / "crs_c" / "crsdesk.h"],
 }
 # Places that their crate's next change mends.
