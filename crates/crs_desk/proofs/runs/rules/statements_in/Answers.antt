@@ -1,4 +1,5 @@
-use Rattle.std.proofs.Common.{rules}
+use Rattle.std.proofs.Common.{◌≡◌, [], arith}
+use Rattle.std.proofs.lemmas.Grind.{common_steps}
 use Rattle.crs_desk.proofs.RulesLemmas.{counts-all, counts-none, counts-on}
 use Rattle.crs_desk.proofs.runs.rules.statements_in.Goals as goal
 
@@ -11,4 +12,6 @@ loop-left-preserved c =
     c.loop-left.invariant c.first_line.ensures.lines c.in_ok-count.ensures
 
 pub returns : goal.returns
-returns c = counts-all c.args.bytes.now _ c.loop-left.count c.loop-left.invariant (search rules)
+returns c =
+    let none : c.loop-left.left.now ≡ [] = grind (arith, common_steps, c.is_empty.ensures, c.loop-left-test.false) in
+    counts-all c.args.bytes.now c.loop-left.left.now c.loop-left.count c.loop-left.invariant none
