@@ -28,7 +28,7 @@ abbrev pub IsFirst : List ℕ → List ℕ → List ℕ → Type 0
 IsFirst left line rest = (lines : List (List ℕ)) → AreLines rest lines → AreLines left (line ∷ lines)
 
 pub counts-none : (bytes : List ℕ) → Counts bytes bytes 0
-counts-none bytes = λ m h. h
+counts-none bytes = λ m h. let same : m ≡ 0 + m = omega arith in subst (HasStatements bytes) same h
 
 pub counts-on : (bytes left line rest : List ℕ) (count next : ℕ) → Counts bytes left count → IsFirst left line rest
     → next ≡ count + (if is_idle line then 0 else 1) → Counts bytes rest next
