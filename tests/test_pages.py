@@ -42,7 +42,7 @@ PATHS = {path.stem: path for path in pages.PAGES}
 OTHERS = ("python/README.md", "man/crsdesk.1", "man/crsdesk.3")
 PROSE = {name: PATHS[name] for name in MOST} | {it: pages.ROOT / it for it in OTHERS}
 # Sources whose comments are read as English: by crate, the Python package, the examples, and the header.
-CRATES = sorted(it for it in (pages.ROOT / "crates").iterdir() if it.name not in {"crs_desk"})
+CRATES = sorted((pages.ROOT / "crates").iterdir())
 SOURCES = {it.name: sorted(it.glob("src/**/*.rt")) for it in CRATES} | {
     "python": sorted((pages.ROOT / "python" / "src").rglob("*.py")),
     "examples": sorted((pages.ROOT / "examples").glob("*.py")),

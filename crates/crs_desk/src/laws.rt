@@ -40,8 +40,9 @@ pub fn lines_joined()
     crs_streams::laws::lines_are_cut();
 }
 
-/// What `explain` tells of two CRSs under rules begins with what it tells without rules of the two as the rules rewrite
-/// them: each part that differs under the rules is told without the mark. Under no rules nothing is told with the mark.
+/// What `explain` writes of two CRSs under rules begins with what it writes without rules of the two as the rules
+/// rewrite them: each part that differs under the rules is written without the mark. Under no rules nothing is written
+/// with the mark.
 pub fn explained_under_rules()
     ensures unmarked { (how : Manner) (words : List (List ℕ)) (r : RulesParts) (level : Level) (a b : Crs)
         (written : List ℕ) (status : ℕ) → TellsUnder how words r level a b written status →
@@ -55,7 +56,7 @@ pub fn explained_under_rules()
     crs_explain::laws::the_same_parts_are_told();
 }
 
-/// Of two CRSs in the other order the same parts are told under rules, each with its values exchanged.
+/// For two CRSs in the other order the same parts are written under rules, each with its values exchanged.
 pub fn exchanged_under_rules()
     ensures { (how : Manner) (words : List (List ℕ)) (r : RulesParts) (level : Level) (a b : Crs) → AreRules r →
         IsCrs a → IsCrs b → (written : List ℕ) (status : ℕ) → TellsUnder how words r level a b written status →
@@ -68,7 +69,7 @@ pub fn exchanged_under_rules()
     crs_explain::laws::exchanged_crss_are_told_alike();
 }
 
-/// The CRSs that two forms spell are the same at the level exactly where the texts are the same under the rules.
+/// The CRSs that two forms spell are the same at the level exactly if the texts are the same under the rules.
 pub fn forms_spell_the_same()
     ensures { (r : RulesParts) (level : Level) (first second a b : List ℕ) (x y : Crs) → AreRules r →
         IsForm r level first a → IsForm r level second b → Spells a x → Spells b y →

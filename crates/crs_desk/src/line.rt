@@ -102,8 +102,8 @@ const SAME_STATUS: &str =
 
 const RULES_STATUS: &str = "Status: 0 and the counts, 1 and the first fault, 2 for a fault.";
 
-/// What the words of a command line ask for. The first word is the program's name.
-/// `Line` where `clap` refuses the words, or help or the version is asked for, `Memory` where memory ran out.
+/// What the words of a command line ask for. The first word is the program's name. `Line`: `clap` refuses the words, or
+/// help or the version is asked for. `Memory`: memory ran out.
 pub fn request<'a>(alloc: Global, words: &'a [&'a str]) -> Result<Request, RequestFault>
     ensures ok { IfOk result (λ found. asked (map (λ word. word.now) words.entry.now) ≡ Some found) }
     ensures faultless { IfOk result (λ found. fault_of desk (map (λ word. word.now) words.entry.now) ≡ []) }

@@ -21,9 +21,10 @@ pub fn taken_line_asks()
     ensures { (words : List Text) → takes desk words ≡ true → IsSome (asked words) }
 {}
 
-/// The two words after `same` are the texts where neither is a flag. The level is `full` there. The word after `--level` is the level of `same`, before the two texts and after them, where no word is a
-/// flag. `same` is taken neither alone nor with one word. A first word that begins as a flag, a hyphen (45) and an
-/// ASCII character, but for `--`, is no text of `same`.
+/// The two words after `same` are the texts if neither is a flag. The level is `full` then. The word after `--level` is
+/// the level of `same`, before the two texts and after them, if no word is a flag. `same` isn't accepted without words,
+/// nor with one word. A first word that begins as a flag, a hyphen (45) and an ASCII character, but for `--`, is no
+/// text of `same`.
 pub fn same_takes_two_texts()
     ensures plain { (program first second : Text) → is_plain_word first ≡ true → is_plain_word second ≡ true →
         asked (program ∷ codes "same" ∷ first ∷ second ∷ []) ≡ Some (Same first second (codes "full")) }
@@ -41,8 +42,8 @@ pub fn same_takes_two_texts()
         takes desk (program ∷ codes "same" ∷ (45 ∷ byte ∷ rest) ∷ second ∷ []) ≡ false }
 {}
 
-/// The word after `--level` is the level of `canon` and of `group`, where it is no flag. `canon` and `group` alone are
-/// at the level `full`. `check` has no level. `--level` is neither given twice nor without a level.
+/// The word after `--level` is the level of `canon` and of `group`, if it is no flag. Without words `canon` and `group`
+/// are at the level `full`. `check` has no level. `--level` is neither given twice nor without a level.
 pub fn the_level_is_a_word()
     ensures canon { (program level : Text) → is_plain_word level ≡ true →
         asked (program ∷ codes "canon" ∷ codes "--level" ∷ level ∷ []) ≡ Some (Canon level) }
@@ -106,7 +107,7 @@ pub fn axes_have_one_word()
 {}
 
 /// With `--lines`, before the level or after it, `canon` takes each line as a text. `check` takes each line as a text
-/// where `--lines` is there, and one text else. It is never given twice, or with a value; `group` has no such flag.
+/// if `--lines` is there, and one text else. It is never given twice, or with a value; `group` has no such flag.
 pub fn canon_and_check_have_lines()
     ensures canon { (program : Text) →
         asked (program ∷ codes "canon" ∷ codes "--lines" ∷ []) ≡ Some (Other (codes "full") [] (work.Standard (task.Canon Lines))) }
@@ -128,8 +129,9 @@ pub fn canon_and_check_have_lines()
     ensures group { (program : Text) → takes desk (program ∷ codes "group" ∷ codes "--lines" ∷ []) ≡ false }
 {}
 
-/// A line asks for `explain` of standard input, of one text or of two, where no word is a flag. The level is `full` there. The word after `--level` is the level of `explain`, alone, before two texts and
-/// after them, where no word is a flag. `--json` asks for JSON. The words after each `--first=` say what is told first.
+/// A line asks for `explain` of standard input, of one text or of two, if no word is a flag. The level is `full` then.
+/// The word after `--level` is the level of `explain`, without texts, before two texts and after them, if no word is a
+/// flag. `--json` asks for JSON. The words after each `--first=` say what is written first.
 pub fn explain_takes_texts_and_options()
     ensures alone { (program : Text) →
         asked (program ∷ codes "explain" ∷ []) ≡ Some (Other (codes "full") [] (work.Standard (task.Explain manner.Lines))) }
@@ -158,8 +160,8 @@ pub fn explain_takes_texts_and_options()
         ≡ Some (Other (codes "full") (one ∷ other ∷ []) (work.Standard (task.Explain manner.Lines))) }
 {}
 
-/// The words after `canon`, `check` and `group` are files, however many, where no word is a flag; the level is `full`
-/// there. So are the two words after `same --files`, and one or two after `explain --files`, where none is a flag.
+/// The words after `canon`, `check` and `group` are files, however many, if no word is a flag; the level is `full`
+/// then. So are the two words after `same --files`, and one or two after `explain --files`, if none is a flag.
 pub fn words_are_files()
     ensures canon { (program name : Text) (names : List Text) → list_all is_plain_word (name ∷ names) ≡ true →
         asked (program ∷ codes "canon" ∷ name ∷ names) ≡ Some (Other (codes "full") [] (work.Files (task.Canon OneText) (name ∷ names) [] false)) }
@@ -181,7 +183,7 @@ pub fn words_are_files()
 {}
 
 /// After `--` each word is a file of `canon`, `check` and `group`, a text of `same` and `explain`, and a file of these
-/// with `--files`, also where it begins with a hyphen. The level is `full` there.
+/// with `--files`, even if it begins with a hyphen. The level is `full` then.
 pub fn hyphens_end_options()
     ensures canon { (program name : Text) (names : List Text) →
         asked (program ∷ codes "canon" ∷ codes "--" ∷ name ∷ names)
@@ -213,8 +215,8 @@ pub fn hyphens_end_options()
         (record { kind = FileName; first = first; second = second; rules = [] }))) }
 {}
 
-/// The words after each `--rules` are rules files, where no word is a flag: a task over standard input, where the line
-/// names no file, over files, over a text or over two is under their rules. `check` has none.
+/// The words after each `--rules` are rules files, if no word is a flag: a task over standard input, if the line names
+/// no file, over files, over a text or over two is under their rules. `check` has none.
 pub fn rules_are_named()
     ensures canon { (program file : Text) → is_plain_word file ≡ true →
         asked (program ∷ codes "canon" ∷ codes "--rules" ∷ file ∷ [])

@@ -1,4 +1,4 @@
-//! What is to be done for a request, of whose words those that must name something do.
+//! What is to be done for a request whose words name what they must.
 ghost use Rattle.std.specs.Prelude.{◌≡◌, ◌↔◌, ◌++◌, ◌∷◌, [], IfErr, IfOk, OnOk, None, Some, true};
 ghost use Rattle.std.specs.List.{list_any};
 ghost use Rattle.std.specs.Str.{bytes_eq};
@@ -54,7 +54,7 @@ pub const PATH_WORDS: [&str; 31] = [
 pub struct Job {
     /// The level.
     pub level: Level,
-    /// The words of paths whose parts are told first.
+    /// The words of paths whose parts are written first.
     pub order: Vec<StepWord>,
     /// The work.
     pub work: Work,
@@ -86,8 +86,8 @@ impl From<AllocError> for JobFault {
 }
 
 impl Request {
-    /// What is to be done. The level is judged before the words of paths: `Level` where its word names none, else `Part`
-    /// where not each word after `--first` is in paths, of words with commas between them each.
+    /// What is to be done. The level is judged before the words of paths: `Level` if its word names none, else `Part`
+    /// if a word after `--first`, between commas, is in no path.
     pub fn into_job(self, alloc: Global) -> Result<Job, JobFault>
         ensures job { IfOk result (IsJobOf self) }
         ensures fault { IfErr result (IsJobFault self) }

@@ -2,7 +2,7 @@ use crate::{LineWord, LineWords, Listing, Manner, WordKind};
 use std::alloc::AllocError;
 use thiserror::Error;
 
-/// What a command line asks for. A level is the word after `--level`, whatever it is, and `full` where none is named.
+/// What a command line asks for. A level is the word after `--level`, whatever it is, and `full` if none is named.
 #[derive(Debug, Drop)]
 pub enum Request {
     /// The canonical text of the text on standard input, at a level.
@@ -11,7 +11,7 @@ pub enum Request {
     Check,
     /// Whether two texts spell the same CRS: the first, the second, and a level.
     Same(LineWord, LineWord, LineWord),
-    /// Which lines of standard input, a text each, spell the same CRS, at a level.
+    /// Which lines of standard input, one text per line, spell the same CRS, at a level.
     Group(LineWord),
     /// Any other work, at a level.
     Other {
@@ -22,12 +22,12 @@ pub enum Request {
     },
 }
 
-/// What is done with texts and files. A file is named as it was written; `-` is standard input.
+/// What is done with texts and files. A file has its name in the command line; `-` is standard input.
 #[derive(Debug, Drop)]
 pub enum Work {
     /// A task over standard input, without rules.
     Standard(Task),
-    /// What a text spells, or why it is refused, is explained; the rules of the files of these names have no bearing on it.
+    /// What a text spells, or why it is refused, is explained; the rules files of these names don't change that.
     Text {
         how: Manner,
         text: LineWord,
@@ -35,15 +35,15 @@ pub enum Work {
     },
     /// Two texts are compared.
     Pair(Comparison, LinePair),
-    /// A task over files, of which there is at least one, under the rules of files, where there are some.
+    /// A task over at least one file, under the rules of rules files, if there are some.
     Files {
         task: Task,
         names: LineWords,
         rules: LineWords,
-        /// Whether each line begins with the file's name also where there is one file.
+        /// Whether each line begins with the file's name even if there is one file.
         named: bool,
     },
-    /// Rules files are judged, of which there is at least one, with names of files or without.
+    /// At least one rules file is judged, with names of files or without.
     Rules {
         names: LineWords,
         /// The names of the files of texts in which the rules are to be used.
@@ -52,7 +52,7 @@ pub enum Work {
     },
 }
 
-/// Two texts of a command line, or two files, and the rules files under which they are compared, where there are some.
+/// Two texts of a command line, or two files, and the rules files under which they are compared, if there are some.
 #[derive(Debug, Drop)]
 pub struct LinePair {
     /// What the words are.
@@ -74,12 +74,12 @@ pub enum Comparison {
     Explain(Manner),
 }
 
-/// How texts stand in an input.
+/// How texts are arranged in an input.
 #[derive(Clone, Copy, Debug)]
 pub enum Layout {
     /// All of it is one text.
     OneText,
-    /// Each line is a text, as `--lines` says.
+    /// Each line is a text, which `--lines` asks for.
     Lines,
 }
 
@@ -92,7 +92,7 @@ pub enum Task {
     Digest(Layout),
     /// Whether each text is accepted, and what it spells.
     Check(Layout, Manner),
-    /// Which lines, or which files, a text each, spell the same CRS.
+    /// Which lines, or which files, with one text each, spell the same CRS.
     Group(Listing),
     /// What the text spells, or why it is refused, explained.
     Explain(Manner),

@@ -1,10 +1,10 @@
-//! Words of the command line, of which a request keeps copies.
+//! Words of the command line, copied by a request.
 ghost use Rattle.std.specs.Prelude.{◌≡◌, ◌==◌, IfOk, length, map};
 
 use std::alloc::{AllocError, Global};
 use std::marker::Model;
 
-/// A word of the command line, as it was written.
+/// A word of the command line, unchanged.
 #[derive(Debug)]
 pub struct LineWord {
     text: String,

@@ -11,7 +11,7 @@ use crs_text::Refusal;
 use crs_value::{Crs, laws};
 use std::alloc::{AllocError, Global};
 
-/// `explain` of one text: `accepted KIND` where it spells a CRS, with status 0, else the refusal, explained over some
+/// `explain` of one text: `accepted KIND` if it spells a CRS, with status 0, else the refusal, explained over some
 /// lines, with status 1; as objects of JSON `{"accepted":"KIND"}`, or the refusal in one.
 #[derive(Clone, Copy)]
 pub struct ExplainText {
@@ -36,10 +36,11 @@ impl TextCommand for ExplainText {
     }
 }
 
-/// How `explain` tells of two texts whether they spell the same CRS: by `same`, with status 0; or, with status 1, a line
-/// for each part in which they differ, with both values, or `first` or `second` and the refusal of the first text that
-/// spells no CRS, explained; as objects of JSON `{"same":true}`, or an object for each part, or the refusal in one. First
-/// come the parts whose path has the first of some words, then those with the next, and so on, then the others.
+/// What `explain` writes of two texts: `same`, with status 0, if they spell the same CRS; or, with status 1, a line for
+/// each part in which they differ, with both values, or `first` or `second` and the refusal of the first text that
+/// spells no CRS, explained; as objects of JSON `{"same":true}`, or an object for each part, or the refusal in one.
+/// First come the parts whose path has the first of some words, then the parts with the next, and so on, then the
+/// others.
 #[derive(Clone, Copy)]
 pub struct Told<'t> {
     /// Lines or objects.

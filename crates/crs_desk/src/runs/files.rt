@@ -30,23 +30,23 @@ pub trait Inputs {
     /// What an opened file is read from.
     type Input: Read + Drop;
 
-    /// The bytes of the file of a name, where they are known.
+    /// The bytes of the file of a name, if they are known.
     ghost known: { Self → List ℕ → Option (List ℕ) };
 
-    /// Opens the file of a name. `None` where that fails, which is told to the user.
+    /// Opens the file of a name. `None`: that fails, which it reports to the user.
     fn open(&self, name: &str) -> Option<Self::Input>
         ensures { IfSome result (λ input. Self.Input.remaining input ≡ known self.now name.now) };
 
-    /// Tells the user with which fault the file of a name failed; what it was read from may know more.
+    /// Reports to the user with which fault the file of a name failed; what it was read from may know more.
     fn tell(&self, name: &str, input: &Self::Input, fault: &RunFault);
 }
 
-/// Writes for each file in its turn what is asked of it. Where there are several, or names are asked for, each line begins with the file's name
-/// and a colon; in the name control characters, ends of lines, marks of direction and backslashes are escaped. An object
-/// of JSON has the name as its first member, `"file"`. A file that can't be opened, or not be read to its end within the
-/// bounds of its task, is told to the user and has status 2, and the others go on; of its answer nothing was written, or,
-/// where each line is a text, the answers for its first whole lines. The status is the greatest of all. `WriteFailed`
-/// where the sink has failed, `Memory` where memory ran out.
+/// Writes for each file in its turn what is asked of it. If there are several, or names are asked for, each line begins
+/// with the file's name and a colon; in the name control characters, ends of lines, marks of direction and backslashes
+/// are escaped. An object of JSON has the name as its first member, `"file"`. A file that can't be opened, or not be
+/// read to its end within the bounds of its task, is reported to the user and has status 2, and the others go on; of
+/// its answer nothing was written, or, if each line is a text, the answers for its first whole lines. The status is the
+/// greatest of all. `WriteFailed`: the sink has failed. `Memory`: memory ran out.
 pub fn run_files<I: Inputs, W: Write>(
     alloc: Global,
     task: FileTask<'_>,
@@ -278,7 +278,7 @@ pub enum FileTask<'r> {
     Explain(Manner),
     /// What `RulesText` writes.
     Rules(Option<&'r Used>),
-    /// What `run_group_listing` writes, at a level, with status 1 where a line was refused.
+    /// What `run_group_listing` writes, at a level, with status 1 if a line was refused.
     Group(Level, Listing),
     /// What `OfLine` of `CanonText` writes for each line, at a level.
     CanonLines(Level),
@@ -288,7 +288,7 @@ pub enum FileTask<'r> {
     DigestLines(Spelled<'r>),
     /// What `Under` writes, at a level.
     Form(Level, &'r Rules),
-    /// What `run_group_under` writes, at a level, with status 1 where a line was refused.
+    /// What `run_group_under` writes, at a level, with status 1 if a line was refused.
     FormGroup(Level, Listing, &'r Rules),
     /// What `OfLine` of `Under` writes for each line, at a level.
     FormLines(Level, &'r Rules),

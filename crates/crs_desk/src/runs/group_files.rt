@@ -1,4 +1,4 @@
-//! Groups whole files, a text each, by their names.
+//! Groups whole files, one text per file, by their names.
 ghost use Rattle.std.specs.Prelude.{◌≡◌, ◌≤◌, ◌+◌, ◌^◌, ◌<◌, ◌++◌, ◌∷◌, [], List, IfErr, IfOk, OnOk, false, length};
 ghost use Rattle.crs_streams.specs.Streams.{fresh_sink};
 ghost use Rattle.crs_group.specs.Names.{NamedText};
@@ -13,10 +13,10 @@ use crs_group::pieces::{Adding, Ledger, listed_text};
 use std::alloc::Global;
 use std::io::Write;
 
-/// Groups files, a text each, in this way, and writes the groups that are listed, then the blank and the refused ones,
-/// all by their names. A file that can't be opened, or not be read to its end as one text, is told to the user and has
-/// status 2, and the others are grouped; where a text is refused the status is 1. `WriteFailed` where the sink has
-/// failed, `Memory` where memory ran out.
+/// Groups files, one text per file, in this way, and writes the groups that are listed, then the blank and the refused
+/// ones, all by their names. A file that can't be opened, or not be read to its end as one text, is reported to the
+/// user and has status 2, and the others are grouped; if a text is refused, the status is 1. `WriteFailed`: the sink
+/// has failed. `Memory`: memory ran out.
 pub fn run_group_files<A: Adding, I: Inputs, W: Write>(
     alloc: Global,
     adding: &A,

@@ -8,7 +8,7 @@ use crs_group::is_blank;
 use std::alloc::{AllocError, Global};
 use std::marker::Model;
 
-/// A command over the text of a line, of which a blank one is answered by itself.
+/// A command over the text of a line; a blank line has an answer of its own.
 #[derive(Drop)]
 pub struct OfLine<C: TextCommand> {
     /// What answers a line that isn't blank.

@@ -16,13 +16,14 @@ use std::io::{Read, Write};
 use std::marker::Model;
 
 /// Reads lines of texts to the end, and writes for each in its turn what a command writes for its text: `OfLine` of
-/// `CanonText` or of `CheckText` what `run_canon` or `run_check` writes for it alone; without `OfLine` a blank line is
-/// refused as a text. The status is the greatest of all. What is written for the lines that a read has ended is handed
-/// to the sink before the next read (no clause says so; rows with `input-in-turn` try it), and earlier where it fills
-/// 65,536 bytes, so that memory is bounded by the longest line. `ReadFailed` and `WriteFailed` where the stream or the sink has failed, `TooLong(n)` where line `n` has more
-/// than 1,048,576 bytes before its line feed, `TooManyReads` where 2^47 reads have not shown the end, `Memory` where
-/// memory ran out. At a fault all whole lines that were read are answered, at `TooLong` all before the long one; out of
-/// memory any number of them, the first; at `WriteFailed` the sink got a front of such answers.
+/// `CanonText` or of `CheckText` what `run_canon` or `run_check` writes for it by itself; without `OfLine` a blank line
+/// is refused as a text. The status is the greatest of all. What is written for the lines that a read has ended is
+/// passed to the sink before the next read (no clause says so; rows with `input-in-turn` try it), and earlier if it
+/// fills 65,536 bytes, so that memory is bounded by the longest line. `ReadFailed`, `WriteFailed`: the stream or the
+/// sink has failed. `TooLong(n)`: line `n` has more than 1,048,576 bytes before its line feed. `TooManyReads`: 2^47
+/// reads have not shown the end. `Memory`: memory ran out. At a fault all whole lines that were read have their
+/// answers, at `TooLong` all before the long one; out of memory any number of them, the first; at `WriteFailed` the
+/// sink got a front of such answers.
 pub fn run_lines<C: TextCommand, R: Read, W: Write>(
     alloc: Global,
     command: &C,

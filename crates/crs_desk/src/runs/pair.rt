@@ -42,10 +42,10 @@ pub trait Telling: Copy {
         ensures { IfOk result (λ output. Compared self level a.now b.now output.0.items output.1) };
 }
 
-/// What is written for two texts, told so, at this level.
+/// What is written for two texts, in this form, at this level.
 #[derive(Drop)]
 pub struct PairAnswer<'t, T: Telling> {
-    /// How it is told.
+    /// The form.
     pub told: T,
     /// The level.
     pub level: Level,

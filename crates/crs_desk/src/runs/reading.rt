@@ -12,8 +12,8 @@ use std::io::Read;
 
 const MAX_BYTES: usize = 1_048_576;
 
-/// The whole text of a source, at most 1,048,576 bytes. `ReadFailed` where the source has failed, `TooLong(0)` for more
-/// bytes, `TooManyReads` where 1,048,576 reads have not shown the end, `Memory` where memory ran out.
+/// The whole text of a source, at most 1,048,576 bytes. `ReadFailed`: the source has failed. `TooLong(0)`: it has more
+/// bytes. `TooManyReads`: 1,048,576 reads have not shown the end. `Memory`: memory ran out.
 pub fn read_text<R: Read>(alloc: Global, source: &mut Source<R>) -> Result<Vec<u8>, RunFault>
     requires { source.old ≡ fresh_source source.old.remaining }
     ensures ok { IfOk result (λ text. IsWhole source.old source.new text.items) }

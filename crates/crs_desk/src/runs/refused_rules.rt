@@ -517,7 +517,7 @@ pub(crate) fn is_subject(keyword: Option<Keyword>) -> bool {
     is_unit(keyword) || is_named(keyword)
 }
 
-/// Whether they do so by their names alone.
+/// Whether they do so only by their names.
 pub(crate) fn is_named(keyword: Option<Keyword>) -> bool {
     matches!(
         keyword,

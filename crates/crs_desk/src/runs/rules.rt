@@ -15,7 +15,7 @@ use std::alloc::{AllocError, Global};
 /// `rules`: how many statements a rules file has, and how many names, or its first fault, with the line and a sentence.
 #[derive(Clone, Copy)]
 pub struct RulesText<'u> {
-    /// The texts in which the rules are to be used, where there are some: what they don't match is told.
+    /// The texts in which the rules are to be used, if there are some: what they don't match is written.
     pub used: Option<&'u Used>,
 }
 

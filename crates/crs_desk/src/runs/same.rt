@@ -17,7 +17,7 @@ use std::io::Write;
 
 /// Writes whether two texts spell the same CRS at a level: `same`, with status 0; or, with status 1, `different` and
 /// the path of the first part that differs, or `first` or `second` and the refusal of the first text that spells no
-/// CRS. `WriteFailed` where the sink has failed, `Memory` where memory ran out, and then nothing was written.
+/// CRS. `WriteFailed`: the sink has failed. `Memory`: memory ran out, and nothing was written.
 pub fn run_same<W: Write>(
     alloc: Global,
     level: Level,

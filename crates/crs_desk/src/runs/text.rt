@@ -23,7 +23,7 @@ use std::alloc::{AllocError, Global};
 use std::io::{Read, Write};
 
 /// Reads a text to its end, and writes a line: the canonical text at a level of a text that spells a CRS, with status
-/// 0, else the refusal, with status 1. Faults are those of `run_text`.
+/// 0, else the refusal, with status 1. The faults are the same as for `run_text`.
 pub fn run_canon<R: Read, W: Write>(
     alloc: Global,
     level: Level,
@@ -37,9 +37,9 @@ pub fn run_canon<R: Read, W: Write>(
     run_text(alloc, CanonText { level }, r, w)
 }
 
-/// Reads a text to its end, and writes what a command answers for it. `ReadFailed` and `WriteFailed` where the source or
-/// the sink has failed, `TooLong(0)` for more than 1,048,576 bytes, `TooManyReads` where 1,048,576 reads have not shown
-/// the end, `Memory` where memory ran out. Every fault but `WriteFailed` leaves the sink untouched.
+/// Reads a text to its end, and writes what a command returns for it. `ReadFailed`, `WriteFailed`: the source or the
+/// sink has failed. `TooLong(0)`: it has more than 1,048,576 bytes. `TooManyReads`: 1,048,576 reads have not shown the
+/// end. `Memory`: memory ran out. Every fault except `WriteFailed` leaves the sink untouched.
 pub fn run_text<C: TextCommand + Drop, R: Read, W: Write>(
     alloc: Global,
     command: C,
@@ -85,7 +85,7 @@ fn canonical(alloc: Global, text: &[u8], level: Level) -> Result<Canon, Fault>
 }
 
 /// Reads a text to its end, and writes a line: `accepted KIND` for a text that spells a CRS, with status 0, else the
-/// refusal, with status 1. Faults are those of `run_text`.
+/// refusal, with status 1. The faults are the same as for `run_text`.
 pub fn run_check<R: Read, W: Write>(
     alloc: Global,
     r: &mut Source<R>,
@@ -231,7 +231,7 @@ pub fn refused_line(alloc: Global, front: &[u8], refusal: Refusal) -> Result<Vec
     Ok(line)
 }
 
-/// These bytes and a line end, in their own memory where that has room. `AllocError`: memory ran out.
+/// These bytes and a line end, in their own memory if that has room. `AllocError`: memory ran out.
 pub fn line_of(mut bytes: Vec<u8>) -> Result<Vec<u8>, AllocError>
     ensures { IfOk result (λ line. line.items ≡ bytes.items ++ 10 ∷ []) }
 {
@@ -262,7 +262,7 @@ pub fn kind_of_text(alloc: Global, text: &[u8]) -> Result<Result<Kind, Refusal>,
     }
 }
 
-/// The refusal in a fault: that of the text whose fault it is. `AllocError`: the fault is out of memory.
+/// The refusal in a fault, which is the text's. `AllocError`: the fault is out of memory.
 #[tactic(auto, using(crate::proofs::JudgedLemmas::refuses_text))]
 pub fn refusal_in(fault: Fault) -> Result<Refusal, AllocError>
     ensures answer { IfOk result (λ refusal. Some refusal ≡ refusal_of fault) }

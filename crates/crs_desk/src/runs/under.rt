@@ -133,13 +133,13 @@ impl Answer for SameForms<'_> {
     }
 }
 
-/// Whether two texts are the same under rules, at a level: what `Told` writes for their CRSs rewritten by the rules, and
-/// then, each after `the same by the rules: `, the parts in which the CRSs differ before they are rewritten and not
-/// after; where the order of axes doesn't count, their axes are in the order of the forms. Or the refusal of the first
+/// Whether two texts are the same under rules, at a level: what `Told` writes for their CRSs rewritten by the rules,
+/// and then, each after `the same by the rules: `, the parts in which the CRSs differ before they are rewritten and not
+/// after; if the order of axes doesn't count, their axes are in the order of the forms. Or the refusal of the first
 /// text that spells no CRS, explained. In an object of JSON the mark is a first member, `"same_by_rules":true`.
 #[derive(Clone, Copy)]
 pub struct ExplainedForms<'t> {
-    /// How it is told.
+    /// The form in which it is written.
     pub told: Told<'t>,
     /// The rules and the level.
     pub under: Under<'t>,
