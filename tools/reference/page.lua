@@ -13,7 +13,7 @@ end
 
 local function of_list(it) return it.content:map(of_object) end
 local function of_session(it)
-  return fenced(it.text:match("import dask") and "pycon needs=python3:dask" or "pycon", it.text)
+  return fenced(it.text:match("import dask") and "pycon needs=python3:dask,python3:pandas" or "pycon", it.text)
 end
 
 return {{CodeBlock = of_session, DefinitionList = of_list, Link = content, Span = content}, {Div = content}}
