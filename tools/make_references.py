@@ -1,151 +1,21 @@
 #!/usr/bin/env python3
-"""Writes the references of the calls: docs/PYTHON_REFERENCE.md of the Python package's docstrings and signatures, and
-the manual pages man/*.3 of crates/crs_c/crsdesk.h, a page crsdesk(3) to which the names of all calls lead.
+"""Writes the reference of the library's calls: the manual pages man/*.3 of crates/crs_c/crsdesk.h, a page crsdesk(3) to
+which the names of all calls lead. That of the Python package is written by tools/reference/write.
 
     make_references.py [FOLDER]
 
-They are written below the folder, the repository where none is given. Nothing is imported or compiled: the sources are
-read as text. tests/test_references.py holds what the repository has against what this writes.
+They are written below the folder, the repository where none is given. Nothing is compiled: the header is read as text.
+tests/test_references.py holds what the repository has against what this writes.
 """
-import ast
 import pathlib
 import re
 import sys
-from typing import Dict, Iterator, List, NamedTuple, Optional, Tuple, Union
+from typing import Dict, Iterator, List, NamedTuple, Optional, Tuple
 
 import build
 
 ROOT = pathlib.Path(__file__).resolve().parent.parent
-PACKAGE = ROOT / "python" / "src" / "crsdesk"
 HEADER = ROOT / "crates" / "crs_c" / "crsdesk.h"
-HEAD = """# Reference of the Python package
-
-For users of the package: each call with its signature and what it says of itself. This page is written by `tools/make_references.py` from the docstrings; [PYTHON](PYTHON.md) shows how the calls are used.
-
-```pycon
->>> import crsdesk
->>> crsdesk.check(open("examples/wgs84.wkt", "rb").read())
-'geographic'
-
-```
-"""
-Definition = Union[ast.ClassDef, ast.FunctionDef, ast.AsyncFunctionDef, ast.Assign, ast.AnnAssign]
-
-
-# The Python package.
-
-
-def names_of(tree: ast.Module) -> List[str]:
-    """What a module offers: its __all__."""
-    for node in tree.body:
-        if isinstance(node, ast.Assign) and ast.unparse(node.targets[0]) == "__all__":
-            return [str(name) for name in ast.literal_eval(node.value)]
-    return []
-
-
-def is_named(node: ast.stmt, name: str) -> bool:
-    if isinstance(node, (ast.ClassDef, ast.FunctionDef, ast.AsyncFunctionDef)):
-        return node.name == name
-    if isinstance(node, ast.Assign):
-        return ast.unparse(node.targets[0]) == name
-    return isinstance(node, ast.AnnAssign) and ast.unparse(node.target) == name
-
-
-def defined(path: pathlib.Path, name: str) -> Definition:
-    """The definition of a name in a module, or in the module of the package from which it has it."""
-    tree = ast.parse(path.read_text(encoding="utf-8"))
-    for node in tree.body:
-        if is_named(node, name):
-            assert isinstance(node, (ast.ClassDef, ast.FunctionDef, ast.AsyncFunctionDef, ast.Assign, ast.AnnAssign))
-            return node
-    for node in tree.body:
-        if isinstance(node, ast.ImportFrom) and node.level == 1 and node.module:
-            for alias in node.names:
-                if (alias.asname or alias.name) == name:
-                    return defined(PACKAGE / f"{node.module}.py", alias.name)
-    raise SystemExit(f"make_references.py: {path.name} has no {name}")
-
-
-def signature(node: Union[ast.FunctionDef, ast.AsyncFunctionDef], name: str, is_method: bool) -> str:
-    """A call as it is written, with types and defaults, and without self."""
-    asked = node.args
-    if is_method and asked.args and asked.args[0].arg in ("self", "cls"):
-        asked = ast.arguments(**{**dict(ast.iter_fields(asked)), "args": asked.args[1:]})
-    answer = f" -> {ast.unparse(node.returns)}" if node.returns else ""
-    return f"{name}({ast.unparse(asked)}){answer}"
-
-
-def told(node: ast.AST) -> str:
-    """A docstring in Markdown: its names in single backquotes, its lists of names as a block."""
-    text = ast.get_docstring(node) or ""  # type: ignore[arg-type]
-    text = re.sub(r"``([^`]+)``", r"`\1`", text)
-    lines, block = [], False
-    for line in text.split("\n"):
-        if re.match(r"`\w+` {2,}", line):
-            field, rest = re.split(r" {2,}", line, maxsplit=1)
-            line = f"- {field}: {rest}"
-            block = True
-        elif block and line.startswith(" "):
-            line = "  " + line.strip()
-        elif line == "":
-            block = False
-        lines.append(line)
-    return re.sub(r"docs/(\w+)\.md", r"[\1](\1.md)", "\n".join(lines)).strip()
-
-
-def of_class(node: ast.ClassDef) -> Iterator[str]:
-    """A class: how it is made, what it is, its public calls and fields."""
-    made = next((it for it in node.body if isinstance(it, ast.FunctionDef) and it.name == "__init__"), None)
-    bases = ", ".join(ast.unparse(it) for it in node.bases)
-    yield f"## {node.name}\n"
-    if made:
-        call = signature(made, node.name, True).replace(" -> None", "")
-        yield f"```text\n{call}\n```\n"
-    yield told(node) + (f"\n\nIt is a `{bases}`." if bases and bases != "object" else "") + "\n"
-    fields = [it for it in node.body if isinstance(it, ast.AnnAssign)]
-    if fields and not made:
-        yield "```text\n" + "\n".join(ast.unparse(it) for it in fields) + "\n```\n"
-    for it in node.body:
-        if isinstance(it, (ast.FunctionDef, ast.AsyncFunctionDef)) and not it.name.startswith("_"):
-            kinds = [ast.unparse(kind) for kind in it.decorator_list]
-            if any(kind.endswith((".setter", ".deleter")) for kind in kinds):
-                continue
-            if "property" in kinds or "functools.cached_property" in kinds:
-                answer = f": {ast.unparse(it.returns)}" if it.returns else ""
-                call = f"{node.name}.{it.name}{answer}"
-            else:
-                call = signature(it, f"{node.name}.{it.name}", "staticmethod" not in kinds)
-            yield f"### {node.name}.{it.name}\n"
-            yield f"```text\n{call}\n```\n"
-            if told(it):
-                yield told(it) + "\n"
-
-
-def of_module(path: pathlib.Path) -> Iterator[str]:
-    for name in names_of(ast.parse(path.read_text(encoding="utf-8"))):
-        node = defined(path, name)
-        if isinstance(node, ast.ClassDef):
-            yield from of_class(node)
-        elif isinstance(node, (ast.FunctionDef, ast.AsyncFunctionDef)):
-            yield f"## {name}\n"
-            yield f"```text\n{signature(node, name, False)}\n```\n"
-            yield told(node) + "\n"
-        else:
-            yield f"## {name}\n"
-            yield f"```text\n{ast.unparse(node)}\n```\n"
-
-
-def python_reference() -> str:
-    parts = [HEAD]
-    parts += of_module(PACKAGE / "__init__.py")
-    cluster = PACKAGE / "dask.py"
-    if cluster.exists():
-        parts.append("## The module crsdesk.dask\n\nIt needs Dask ([CLUSTER](CLUSTER.md)).\n")
-        parts += (f"#{part}" if part.startswith("## ") else part for part in of_module(cluster))
-    return "\n".join(parts).rstrip("\n") + "\n"
-
-
-# The library for C.
 
 
 class Call(NamedTuple):
@@ -303,9 +173,9 @@ def manual_page(header: str) -> str:
 
 
 def pages() -> Dict[str, str]:
-    """The files of both references, by their paths in the repository."""
+    """The manual pages, by their paths in the repository."""
     header = HEADER.read_text(encoding="utf-8")
-    found = {"docs/PYTHON_REFERENCE.md": python_reference(), "man/crsdesk.3": manual_page(header)}
+    found = {"man/crsdesk.3": manual_page(header)}
     for call in calls_of(header):
         found[f"man/{call.name}.3"] = ".so man3/crsdesk.3\n"
     return found

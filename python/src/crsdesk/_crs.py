@@ -503,9 +503,9 @@ def is_blank(text: Text) -> bool:
 class Group(NamedTuple):
     """The texts of a catalogue that spell one CRS.
 
-    ``number``  the group's, counted from 1 by the first text of each
-    ``text``    the canonical text that each text of the group has
-    ``names``   the names under which they were added, in that order
+    - ``number``: the group's, counted from 1 by the first text of each
+    - ``text``: the canonical text that each text of the group has
+    - ``names``: the names under which they were added, in that order
     """
 
     number: int

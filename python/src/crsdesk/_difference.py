@@ -14,12 +14,12 @@ NOTHING = "none"
 class Difference:
     """A part in which two CRSs differ.
 
-    ``path``    its steps, such as ``datum/ellipsoid/flattening``; docs/SAMENESS.md lists the words. The number of a
-                parameter is at ``conversion/parameters["False easting"]``, its unit and identifiers are at ``/unit``
-                and ``/id`` behind that; the name is as the text has it, a quote in it doubled
-    ``first``   its value in the first CRS as the canonical text writes it; for a set the members that the second CRS's
-                lacks, joined by commas; None if the first has nothing there
-    ``second``  the same of the second CRS
+    - ``path``: its steps, such as ``datum/ellipsoid/flattening``; docs/SAMENESS.md lists the words. The number of a
+      parameter is at ``conversion/parameters["False easting"]``, its unit and identifiers are at ``/unit``
+      and ``/id`` behind that; the name is as the text has it, a quote in it doubled
+    - ``first``: its value in the first CRS as the canonical text writes it; for a set the members that the second CRS's
+      lacks, joined by commas; None if the first has nothing there
+    - ``second``: the same of the second CRS
 
     ``str`` of it is a line such as ``datum/kind: ENSEMBLE | DATUM``; a missing value is ``none``, control characters
     and backslashes are escaped, such as ``\\n`` and ``\\x1B``, and code points follow values that may print alike.

@@ -37,8 +37,8 @@ Spelled = Tuple[bytes, Optional[str]]
 class Standing(NamedTuple):
     """The place of a text.
 
-    ``group``    the number of its group; None if it is in none
-    ``refusal``  why it spells no CRS, such as ``refused 7 UnexpectedEnd at 11``; None if it is in a group or is blank
+    - ``group``: the number of its group; None if it is in none
+    - ``refusal``: why it spells no CRS, such as ``refused 7 UnexpectedEnd at 11``; None if it is in a group or is blank
     """
 
     group: Optional[int]

@@ -27,16 +27,16 @@ NOTHING = Told(0, 0, "", "", (), "", "", "", "")
 class Refused(ValueError):
     """A text spells no CRS.
 
-    ``number``    1 to 8 of the text, 11 to 13 of its shape, 21 to 29 of its values (docs/REFUSALS.md)
-    ``name``      the number's name, such as ``UnexpectedEnd``
-    ``place``     the byte from which the text can't be one that spells a CRS, counted from 0; at most the length of the
-                  text in UTF-8
-    ``line``      the line of that byte, counted from 1; lines end at line feeds
-    ``column``    the character of that line, counted from 1
-    ``expected``  what could stand at the place, such as ``("PRIMEM", "CS")``; empty if that isn't known
-    ``text``      the text, as bytes; None if it isn't kept, such as by a ``Catalogue``
-    ``which``     ``"first"`` or ``"second"`` if two texts are compared, else None
-    ``proj``      why PROJ's reading isn't taken, in a line, if PROJ was asked (``Crs.from_user``), else None
+    - ``number``: 1 to 8 of the text, 11 to 13 of its shape, 21 to 29 of its values (docs/REFUSALS.md)
+    - ``name``: the number's name, such as ``UnexpectedEnd``
+    - ``place``: the byte from which the text can't be one that spells a CRS, counted from 0; at most the length of the
+      text in UTF-8
+    - ``line``: the line of that byte, counted from 1; lines end at line feeds
+    - ``column``: the character of that line, counted from 1
+    - ``expected``: what could stand at the place, such as ``("PRIMEM", "CS")``; empty if that isn't known
+    - ``text``: the text, as bytes; None if it isn't kept, such as by a ``Catalogue``
+    - ``which``: ``"first"`` or ``"second"`` if two texts are compared, else None
+    - ``proj``: why PROJ's reading isn't taken, in a line, if PROJ was asked (``Crs.from_user``), else None
 
     The mistake is often before the place. ``str`` of a refusal has the piece of the text with a caret under the place,
     what is expected there, what the number means, and hints if the text shows what it is.

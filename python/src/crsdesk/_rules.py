@@ -38,11 +38,11 @@ def shipped(name: str) -> str:
 class RulesRefused(ValueError):
     """A rules file is refused.
 
-    ``line``    its first refused line, counted from 1
-    ``number``  1 to 8 as of a text, 41 to 44 of a statement (docs/RULES.md, "What is refused")
-    ``place``   where in that line, in bytes from 0
-    ``piece``   the line
-    ``path``    the file, as the caller named it; None for a text
+    - ``line``: its first refused line, counted from 1
+    - ``number``: 1 to 8 as of a text, 41 to 44 of a statement (docs/RULES.md, "What is refused")
+    - ``place``: where in that line, in bytes from 0
+    - ``piece``: the line
+    - ``path``: the file, as the caller named it; None for a text
     """
 
     def __init__(self, line: int, number: int, place: int, piece: bytes = b"", path: Optional[Path] = None) -> None:

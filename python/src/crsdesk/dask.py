@@ -3,12 +3,15 @@
     >>> import dask.bag
     >>> from crsdesk.dask import groups
     >>> height = 'VERTCRS["H",VDATUM["D"],CS[vertical,1],AXIS["h",up,LENGTHUNIT["metre",1]]]'
-    >>> groups(dask.bag.from_sequence([height, "", "EPSG:4326", height + " "])).compute()
-    [Standing(group=1, refusal=None), Standing(group=None, refusal=None),
-     Standing(group=None, refusal='refused 1 BadCharacter at 4'), Standing(group=1, refusal=None)]
+    >>> found = groups(dask.bag.from_sequence([height, "", "EPSG:4326", height + " "])).compute(scheduler="threads")
+    >>> [it.group for it in found]
+    [1, None, None, 1]
+    >>> found[2].refusal
+    'refused 1 BadCharacter at 4'
 
-The package has it with the extra ``crsdesk[dask]``. What is called here is tested, not proved: that two texts have equal
-canonical texts exactly if their CRSs are the same is what the library's proof says, and all that it is built on.
+The package has it with the extra ``crsdesk[dask]`` (docs/CLUSTER.md). What is called here is tested, not proved: that two
+texts have equal canonical texts exactly if their CRSs are the same is what the library's proof says, and all that it is
+built on.
 """
 
 from __future__ import annotations
