@@ -11,9 +11,10 @@ local function of_object(it)
   return pandoc.Div{pandoc.Header(3, name), fenced("text", signature), body}
 end
 
+local function tight(it) return pandoc.walk_block(it, {Para = function(para) return pandoc.Plain(para.content) end}) end
 local function of_list(it) return it.content:map(of_object) end
 local function of_session(it)
   return fenced(it.text:match("import dask") and "pycon needs=python3:dask,python3:pandas" or "pycon", it.text)
 end
 
-return {{CodeBlock = of_session, DefinitionList = of_list, Link = content, Span = content}, {Div = content}}
+return {{BulletList = tight, CodeBlock = of_session, DefinitionList = of_list, Link = content, Span = content}, {Div = content}}
