@@ -159,4 +159,4 @@ line_taken words none =
     let stop = (walk a.top.rules (names_of a) nothing_held given).stopped in
     let level = level_taken a.top (names_of a) nothing_held given (is_some (entered a stop)) (entered_fault a stop) (refl, refl) none in
     and_from (is_simple desk) _ refl (and_from _ _
-    (entered_taken a stop ((refl, refl), ((refl, refl), ((refl, refl), ((refl, refl), ((refl, refl), ((refl, refl), ((refl, refl), tt))))))) level.0) level.1)
+    (entered_taken a stop ((refl, refl), ((refl, refl), ((refl, refl), ((refl, refl), ((refl, refl), ((refl, refl), ((refl, refl), ((refl, refl), tt)))))))) level.0) level.1)
