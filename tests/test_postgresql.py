@@ -40,7 +40,7 @@ VERSION = CONTROL.partition("default_version = '")[2].partition("'")[0]
 # The versions that scripts make, or update to another; of them the first that can be made.
 SCRIPTS = sorted(path.stem for path in build_postgresql.SOURCES.glob("crsdesk--*.sql"))
 VERSIONS = {version for name in SCRIPTS for version in name.split("--")[1:]}
-OLDEST = "0.2.0"
+OLDEST = "0.3.0"
 
 
 def dialect_of(encoding: str) -> sql_rows.Dialect:

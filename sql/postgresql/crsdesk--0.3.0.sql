@@ -170,7 +170,7 @@ CREATE FUNCTION crs_differences(a bytea, b bytea, level text, rules text) RETURN
     AS 'MODULE_PATHNAME', 'crsdesk_pg_differences_under_bytea_bytea'
     LANGUAGE C IMMUTABLE STRICT PARALLEL SAFE COST 1000;
 
--- the version of crsdesk, as: 0.2.0
+-- the version of crsdesk, as: 0.3.0
 CREATE FUNCTION crs_version() RETURNS text
     AS 'MODULE_PATHNAME', 'crsdesk_pg_version'
     LANGUAGE C IMMUTABLE STRICT PARALLEL SAFE COST 1;
