@@ -52,49 +52,110 @@ macro_rules! reader {
 pub fn answer(rt: &HostRuntime, job: &Job) -> Result<u8, Fault> {
     match &job.work {
         Work::Standard(task) => hinted(rt, *task, &[], over_input(rt, job.level, *task)),
-        Work::Text { how, text, rules } => {
-            rules_of(rt, rules)?;
-            let command = ExplainText { how: *how };
-            let text = text_of(rt, text)?;
-            to_standard!(rt, write_answer(&ForText { command, text }))
-        }
-        Work::Pair(comparison, pair) => {
-            let rules = rules_of(rt, &pair.rules)?;
-            let comparing = Comparing {
-                rt,
-                job,
-                comparison: *comparison,
-                rules: rules.as_ref(),
-            };
-            comparing.words(pair)
-        }
+        Work::Text { how, text, rules } => over_text(rt, *how, text, rules),
+        Work::Pair(comparison, pair) => over_pair(rt, job, *comparison, pair),
         Work::Files {
             task,
             names,
             rules,
             named,
         } => {
-            let rules = rules_of(rt, rules)?;
-            let (names, rules) = (names.as_slice(), rules.as_ref());
-            hold_standard(names, &[])?;
-            if let Task::Group(listing) = *task
-                && listing.files
-            {
-                return over_groups(rt, job.level, listing, names, rules);
-            }
-            let each = file_task(*task, job.level, rules);
-            let files = Opener { rt: *rt };
-            let answer = to_standard!(rt, run_files(each, *named, names, &files));
-            hinted(rt, *task, names, answer)
+            let files = TaskFiles {
+                rt,
+                level: job.level,
+                task: *task,
+                names: names.as_slice(),
+                named: *named,
+            };
+            files.under_rules_of(rules)
         }
-        Work::Rules { names, used, named } => {
-            hold_standard(names.as_slice(), used.as_slice())?;
-            let used = used_in(rt, used)?;
-            let each = FileTask::Rules(used.as_ref());
-            let files = Opener { rt: *rt };
-            to_standard!(rt, run_files(each, *named, names.as_slice(), &files))
+        Work::Rules { names, used, named } => over_rules(rt, names.as_slice(), used, *named),
+    }
+}
+
+fn over_text(
+    rt: &HostRuntime,
+    how: Manner,
+    text: &LineWord,
+    rules: &LineWords,
+) -> Result<u8, Fault> {
+    rules_of(rt, rules)?;
+    let command = ExplainText { how };
+    let text = text_of(rt, text)?;
+    to_standard!(rt, write_answer(&ForText { command, text }))
+}
+
+fn over_pair(
+    rt: &HostRuntime,
+    job: &Job,
+    comparison: Comparison,
+    pair: &LinePair,
+) -> Result<u8, Fault> {
+    let rules = rules_of(rt, &pair.rules)?;
+    let rules = rules.as_ref();
+    let comparing = Comparing {
+        rt,
+        job,
+        comparison,
+        rules,
+    };
+    comparing.words(pair)
+}
+
+// A task over files. Rules are lent: a function that owns them is slow to prove.
+#[derive(Clone, Copy)]
+struct TaskFiles<'r, 'n> {
+    rt: &'r HostRuntime,
+    level: Level,
+    task: Task,
+    names: &'n [LineWord],
+    named: bool,
+}
+
+impl TaskFiles<'_, '_> {
+    fn under_rules_of(self, names: &LineWords) -> Result<u8, Fault> {
+        let rules = rules_of(self.rt, names)?;
+        self.under(rules.as_ref())
+    }
+
+    fn under(self, rules: Option<&Rules>) -> Result<u8, Fault> {
+        hold_standard(self.names, &[])?;
+        match self.task {
+            Task::Group(listing) if listing.files => {
+                over_groups(self.rt, self.level, listing, self.names, rules)
+            }
+            task => hinted(self.rt, task, self.names, self.each(rules)),
         }
     }
+
+    fn each(self, rules: Option<&Rules>) -> Result<u8, Fault> {
+        let rt = self.rt;
+        let each = file_task(self.task, self.level, rules);
+        let files = Opener { rt: *rt };
+        to_standard!(rt, run_files(each, self.named, self.names, &files))
+    }
+}
+
+fn over_rules(
+    rt: &HostRuntime,
+    names: &[LineWord],
+    used: &LineWords,
+    named: bool,
+) -> Result<u8, Fault> {
+    hold_standard(names, used.as_slice())?;
+    let used = used_in(rt, used)?;
+    judge_rules(rt, names, used.as_ref(), named)
+}
+
+fn judge_rules(
+    rt: &HostRuntime,
+    names: &[LineWord],
+    used: Option<&Used>,
+    named: bool,
+) -> Result<u8, Fault> {
+    let each = FileTask::Rules(used);
+    let files = Opener { rt: *rt };
+    to_standard!(rt, run_files(each, named, names, &files))
 }
 
 // Standard input is read once.
