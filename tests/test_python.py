@@ -316,7 +316,7 @@ HINTS = [
     ("epsg:28992+5709\n", "code"),
     ("4326", "code"),
     ("OGC:CRS84", "-o WKT2:2019 OGC:CRS84)"),
-    ("https://a/b;rm", "-o WKT2:2019 'https://a/b;rm')"),
+    ("https://a/b;rm", "This is a web address"),
     ("urn:ogc:def:crs:EPSG::4326", "code"),
     ("http://www.opengis.net/def/crs/EPSG/0/4326", "code"),
     ('{"type":"GeographicCRS"}', "JSON"),
