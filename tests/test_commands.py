@@ -63,7 +63,7 @@ def test_same(files: Files) -> None:
     assert files.run("same", "height.wkt", "again.wkt") == (0, "same\n", "")
     assert files.run("same", "--all", "height.wkt", "again.wkt") == (0, "same\n", "")
     assert files.run("same", "height.wkt", "other name.wkt") == (1, "different name\n", "")
-    parts = 'name: "H" | "é"\nsystem/axis1/direction: up | down\n'
+    parts = 'name: "H" | "é" (U+0048 | U+00E9)\nsystem/axis1/direction: up | down\n'
     assert files.run("same", "height.wkt", "other name.wkt", "--all") == (1, parts, "")
     assert files.run("same", "height.wkt", "noted.wkt", "--all") == (1, 'remark: none | "r"\n', "")
     assert files.run("same", "height.wkt", "noted.wkt", "--level", "definition") == (0, "same\n", "")
