@@ -632,11 +632,11 @@ def test_names_are_shown_as_text() -> None:
     assert "<img" not in files["html"] and r"$&#39;./na\xEFme.wkt&#39;" in files["html"]
     assert names.readable("a b.wkt") == "a b.wkt" and names.readable("a'\udcff") == r"$'a\'\xFF'"
     assert names.visible("a\u202eb\0") == "a\\u202Eb\\0"
-    # What isn't seen at all is written, in names and in texts; what looks like a space where values are compared alone.
+    # What isn't seen, or looks like a space, is written by its code.
     unseen = {"a\u200bb": r"a\u200Bb", "a\ufeff": r"a\uFEFF", "\u00ad": r"\u00AD", "\U000e0041": r"\U000E0041"}
     for text, wanted in unseen.items():
         assert names.visible(text) == wanted and names.readable(text) == f"$'{wanted}'"
-    assert names.visible("a\u00a0b") == names.readable("a\u00a0b") == "a\u00a0b" != names.distinct("a\u00a0b")
+    assert names.visible("a\u00a0b") == names.distinct("a\u00a0b") == r"a\u00A0b"
     place = written("unseen", {"zone\u200b31.wkt": HEIGHT.replace('"H"', '"H\u200b"'), "zone31.wkt": HEIGHT})
     paths, words = reports("unseen")
     status, output, _ = audit(*words, place)
