@@ -1,23 +1,8 @@
 -- The lines of a rules file, and how many of them are statements.
-use Rattle.std.proofs.Common.{◌≡◌, ◌≢◌, arith, ◌+◌, ◌++◌, ◌∷◌, [], ℕ, List, inl, inr, refl, ap, subst, if◌then◌else◌}
-use Rattle.crs_streams.specs.inner.Prelude.{AreLines, HasNoFeed}
+use Rattle.std.proofs.Common.{◌≡◌, arith, ◌+◌, ◌∷◌, [], ℕ, List, refl, ap, subst, if◌then◌else◌}
+use Rattle.crs_streams.specs.inner.Prelude.{AreLines}
 use Rattle.crs_rules.specs.RulesFile.{is_idle}
 use Rattle.crs_desk.specs.RulesCheck.{HasStatements, statements_in}
-
-nil-cons : (line rest : List ℕ) → [] ≡ line ++ 10 ∷ rest → ⊥
-nil-cons [] rest e = cc
-nil-cons (b ∷ bs) rest e = cc
-
--- there are no lines in no bytes
-no-lines : (lines : List (List ℕ)) → AreLines [] lines → lines ≡ []
-no-lines [] h = refl
-no-lines (t ∷ ts) (inl (line, rest, e, plain, text, more)) = absurd (nil-cons line rest e)
-no-lines (t ∷ ts) (inr (some, plain, is, end)) = absurd (some refl)
-
--- bytes with no line feed are a line
-pub last-line : (bytes : List ℕ) (lines : List (List ℕ)) → bytes ≢ [] → HasNoFeed bytes → AreLines [] lines
-    → AreLines bytes (bytes ∷ lines)
-last-line bytes lines some plain h = inr (some, plain, refl, no-lines lines h)
 
 -- so many statements were counted before what is left
 abbrev pub Counts : List ℕ → List ℕ → ℕ → Type 0

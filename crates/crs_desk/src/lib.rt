@@ -5,7 +5,7 @@ pub mod laws;
 pub mod line;
 mod runs;
 
-pub use crs_explain::StepWord;
+pub use crs_explain::{StepWord, Used};
 pub use crs_group::{Listing, PLAIN, Summary};
 pub use crs_rules::{Rules, RulesFault, RulesReader, RulesRefusal, Under, read_rules};
 pub use crs_streams::{Filling, RunFault, Sink, Source, Stream, append_escaped};
@@ -33,4 +33,3 @@ pub use runs::text::{
     refusal_line, refused_line, run_canon, run_check, run_text,
 };
 pub use runs::under::{ExplainedForms, SameForms};
-pub use runs::used::Used;

@@ -1,6 +1,6 @@
-//! A refusal of a text, and the parts in which two CRSs differ, explained so that a person can act on them: where a
-//! text is refused, what is found there and what is expected, what the text most likely is; the values of each part
-//! that differs. Each is one text for a person, and pieces or an object of JSON for a program.
+//! A refusal of a text or of a rules file, and the parts in which two CRSs differ, explained so that a person can act on
+//! them: where a text is refused, what is found there and what is expected, what the text most likely is; the values of
+//! each part that differs. Each is one text for a person, and of texts pieces or an object of JSON for a program.
 #![tactic(auto)]
 
 mod code_points;
@@ -14,6 +14,7 @@ mod names;
 mod pieces;
 mod place;
 mod refusal;
+mod rules_file;
 mod system;
 mod units;
 
@@ -28,6 +29,8 @@ pub use hint::writing::{hints, still_open};
 pub use names::Name as StepWord;
 pub use pieces::Pieces;
 pub use refusal::{ExplanationPieces, refusal_object, refusal_pieces, refusal_text};
+pub use rules_file::mistake::rules_refusal_text;
+pub use rules_file::used::Used;
 
 /// A value, or `AllocError`.
 pub(crate) type Made<T> = std::result::Result<T, std::alloc::AllocError>;

@@ -29,8 +29,8 @@ pub(crate) fn found_text(alloc: Global, there: &[u8]) -> Made<Vec<u8>>
     }
 }
 
-// The first byte, 0 where there is none.
-fn first_byte(bytes: &[u8]) -> u8
+/// The first byte, 0 where there is none.
+pub(crate) fn first_byte(bytes: &[u8]) -> u8
     ensures { result ≡ first_byte bytes.now }
 {
     bytes.first().copied().unwrap_or(0)

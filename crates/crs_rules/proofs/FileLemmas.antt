@@ -1,8 +1,8 @@
 -- The lines of a file, as far as they were read.
-use Rattle.std.proofs.Common.{◌≡◌, ◌≢◌, ◌<◌, ◌≤◌, arith, ◌+◌, ◌++◌, ◌∷◌, [], ℕ, List, inl, inr, refl, ap, ◌∙◌}
+use Rattle.std.proofs.Common.{◌≡◌, ◌<◌, ◌≤◌, arith, ◌+◌, ◌++◌, ◌∷◌, [], ℕ, List, inl, inr, refl, ap, ◌∙◌}
 use Rattle.crs_text.specs.inner.Prelude.{Item, Siblings, End, More, arguments}
 use Rattle.crs_shape.specs.declared.unit_kind.UnitKind.{UnitKind}
-use Rattle.crs_streams.specs.inner.Prelude.{AreLines, HasNoFeed}
+use Rattle.crs_streams.specs.inner.Prelude.{AreLines}
 use Rattle.crs_rules.specs.declared.file.fault.RulesFault.{RulesFault}
 use Rattle.crs_rules.specs.declared.file.fault.RulesFault.TheVariants as faults
 use Rattle.crs_rules.specs.declared.file.fault.RulesRefusal.{RulesRefusal}
@@ -40,21 +40,6 @@ pub file-fault : {first r : Reading} {bytes left : List ℕ} (line rest : List �
     → IsRefusedBy (RefusesFile first bytes) fault
 file-fault line rest lines are leads next (faults.Memory e) h = tt
 file-fault line rest lines are leads next (faults.Refused f) h = leads.refuses f (line ∷ lines, next lines are, inl h)
-
-nil-cons : (line rest : List ℕ) → [] ≡ line ++ 10 ∷ rest → ⊥
-nil-cons [] rest e = cc
-nil-cons (b ∷ bs) rest e = cc
-
--- there are no lines in no bytes
-no-lines : (lines : List (List ℕ)) → AreLines [] lines → lines ≡ []
-no-lines [] h = refl
-no-lines (t ∷ ts) (inl (line, rest, e, plain, text, more)) = absurd (nil-cons line rest e)
-no-lines (t ∷ ts) (inr (some, plain, is, end)) = absurd (some refl)
-
--- bytes with no line feed are a line
-pub last-line : (bytes : List ℕ) (lines : List (List ℕ)) → bytes ≢ [] → HasNoFeed bytes → AreLines [] lines
-    → AreLines bytes (bytes ∷ lines)
-last-line bytes lines some plain h = inr (some, plain, refl, no-lines lines h)
 
 -- ---- each line is the next
 

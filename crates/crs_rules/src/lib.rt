@@ -11,9 +11,9 @@ mod rewriting;
 mod rules;
 mod uncounted;
 
-pub use file::fault::{RulesFault, RulesRefusal};
+pub use file::fault::{NO_STATEMENT, NOT_HERE, OTHER_CLASS, REPEATED, RulesFault, RulesRefusal};
 pub use file::member::Member;
-pub use file::reader::{RulesReader, read_rules};
+pub use file::reader::{RulesReader, is_idle, read_rules};
 pub use form::{canon_under, read_in_form_order, rewrite_parts};
 pub use rules::{Rules, Under};
 pub use uncounted::Uncounted;

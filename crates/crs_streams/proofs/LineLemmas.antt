@@ -1,5 +1,5 @@
 -- The lines of some bytes: there is one way to cut them, and it is that of `bstr`.
-use Rattle.std.proofs.Common.{◌≡◌, ◌⊎◌, ◌+◌, ◌-◌, ◌<◌, ◌≤◌, ◌++◌, ◌∷◌, [], ℕ, zero, suc, List, Bool, false, length, take, map, inl, inr, ap, subst, sym, refl, ◌∙◌, arith, length-append, eq-eqb, ◌==◌, ◌&&◌, nat_lt, slice_index}
+use Rattle.std.proofs.Common.{◌≡◌, ◌≢◌, ◌⊎◌, ◌+◌, ◌-◌, ◌<◌, ◌≤◌, ◌++◌, ◌∷◌, [], ℕ, zero, suc, List, Bool, false, length, take, map, inl, inr, ap, subst, sym, refl, ◌∙◌, arith, length-append, eq-eqb, ◌==◌, ◌&&◌, nat_lt, slice_index}
 use Rattle.std.proofs.Math.Seq.{take-append-add, drop-append-add}
 use Rattle.std.proofs.lemmas.Bool.{cases_Bool, cond-false, cond-true, eqb-true, lt-ltb, false_from_ne_true, false≢true}
 use Rattle.std.proofs.lemmas.List.{append_cancel_right, drop_all, get_or_at, take_all, take_at}
@@ -187,3 +187,8 @@ cut-within (suc n) (b ∷ bs) fits = elim (first-feed (b ∷ bs)) [
 
 pub lines-cut : (bytes : List ℕ) → AreLines bytes (cut_lines bytes)
 lines-cut bytes = cut-within (length bytes) bytes (omega arith)
+
+-- bytes with no line feed are a line
+pub last-line : (bytes : List ℕ) (lines : List (List ℕ)) → bytes ≢ [] → HasNoFeed bytes → AreLines [] lines
+    → AreLines bytes (bytes ∷ lines)
+last-line bytes lines some plain h = inr (some, plain, refl, lines-one [] lines [] h refl)

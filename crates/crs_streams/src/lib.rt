@@ -16,7 +16,7 @@ mod stream;
 pub use escape::{append_code_point, append_escaped};
 pub use fault::RunFault;
 pub use filling::Filling;
-pub use line::{MAX_LINE, append_bytes, split_line, text_of};
+pub use line::{MAX_LINE, append_bytes, first_line, split_line, text_of};
 pub use number::append_number;
 pub use refusal::append_refusal;
 pub use sink::Sink;

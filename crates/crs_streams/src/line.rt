@@ -1,6 +1,6 @@
 //! Lines of bytes: where one ends, and its text.
-ghost use Rattle.std.specs.Prelude.{◌≡◌, ◌++◌, IfErr, MatchOption, OnErr, OnOk};
-ghost use Rattle.crs_streams.specs.Lines.{HasNoFeed, IsSplit, IsTextOf};
+ghost use Rattle.std.specs.Prelude.{◌≡◌, ◌≢◌, ◌<◌, ◌++◌, ◌∷◌, [], ℕ, List, IfErr, MatchOption, OnErr, OnOk, length};
+ghost use Rattle.crs_streams.specs.Lines.{AreLines, HasNoFeed, IsSplit, IsTextOf};
 
 use crate::RunFault;
 use bstr::ByteSlice;
@@ -25,6 +25,18 @@ pub fn text_of(line: &[u8]) -> &[u8]
     match line.split_last() {
         Some((b'\r', text)) => text,
         _ => line,
+    }
+}
+
+/// The text of the first of all lines, and the bytes after it: none where it has no line feed.
+pub fn first_line(bytes: &[u8]) -> (&[u8], &[u8])
+    requires { bytes.now ≢ [] }
+    ensures lines { (lines : List (List ℕ)) → AreLines result.1.now lines → AreLines bytes.now (result.0.now ∷ lines) }
+    ensures less { length result.1.now < length bytes.now }
+{
+    match split_line(bytes) {
+        Some((line, rest)) => (text_of(line), rest),
+        None => (bytes, &[]),
     }
 }
 

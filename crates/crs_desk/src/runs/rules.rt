@@ -1,15 +1,15 @@
 //! What a rules file says, in counts, or where it is refused and why.
-ghost use Rattle.std.specs.Prelude.{◌≡◌, ◌≢◌, ◌+◌, ◌++◌, ◌∷◌, ◌<◌, [], List, ℕ, IfOk, IfSome, MatchResult, OnOk, codes, if◌then◌else◌, length};
-ghost use Rattle.crs_streams.specs.Lines.{AreLines};
+ghost use Rattle.std.specs.Prelude.{◌≡◌, ◌+◌, ◌++◌, ◌∷◌, [], List, ℕ, IfOk, IfSome, MatchResult, OnOk, codes, if◌then◌else◌};
 ghost use Rattle.crs_rules.specs.RulesFile.{RefusesFile, SpellsRules, is_idle, start};
 ghost use Rattle.crs_rules.specs.Statements.{IsRefusedBy};
 ghost use Rattle.crs_rules.specs.Rules.{RulesParts};
 ghost use Rattle.crs_desk.specs.RulesCheck.{AreUnmatched, HasStatements, counted, fault_told, names_in, ok_told};
 ghost use Rattle.crs_desk.specs.inner.RulesCounts.{HasNames, IsFaultOfFile};
 
-use crate::runs::refused_rules::explained;
 use crate::{Rules, RulesFault, RulesRefusal, TextCommand, Used, read_rules};
-use crs_streams::{append_number, split_line, text_of};
+use crs_explain::rules_refusal_text;
+use crs_rules::is_idle;
+use crs_streams::{append_number, first_line};
 use std::alloc::{AllocError, Global};
 
 /// `rules`: how many statements a rules file has, and how many names, or its first fault, with the line and a sentence.
@@ -110,7 +110,7 @@ fn refused_told(alloc: Global, bytes: &[u8], refusal: RulesRefusal) -> Result<Ve
     ensures { IfOk result (λ told. (more : List ℕ) × (told.items ≡ fault_told refusal ++ 10 ∷ more)) }
 {
     let mut told = fault_line(alloc, refusal)?;
-    let more = explained(alloc, bytes, refusal)?;
+    let more = rules_refusal_text(alloc, bytes, refusal)?;
     told.extend_from_slice(&more)?;
     Ok(told)
 }
@@ -151,31 +151,4 @@ fn with_line(count: usize, line: &[u8]) -> Result<usize, AllocError>
         return Ok(count);
     }
     count.checked_add(1).ok_or(AllocError)
-}
-
-/// The first line of some bytes, and those after it.
-pub(crate) fn first_line(bytes: &[u8]) -> (&[u8], &[u8])
-    requires { bytes.now ≢ [] }
-    ensures lines { (lines : List (List ℕ)) → AreLines result.1.now lines → AreLines bytes.now (result.0.now ∷ lines) }
-    ensures less { length result.1.now < length bytes.now }
-{
-    match split_line(bytes) {
-        Some((line, rest)) => (text_of(line), rest),
-        None => (bytes, &[]),
-    }
-}
-
-/// Whether a line says nothing.
-pub(crate) fn is_idle(line: &[u8]) -> bool
-    ensures { result ≡ is_idle line.now }
-{
-    for byte in line {
-        if *byte == b'#' {
-            return true;
-        }
-        if !matches!(*byte, b' ' | b'\t' | b'\n' | b'\r') {
-            return false;
-        }
-    }
-    true
 }

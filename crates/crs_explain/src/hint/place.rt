@@ -5,14 +5,14 @@ use crate::hint::glance::{back, digit_count, keyword_at, looked_at, names, rest}
 use crate::hint::{About, Entry, Filling, Hint, by_first_bytes, filled, said, sentence};
 use crs_shape::Class;
 
-// A byte begins no token.
-const BAD_CHARACTER: u8 = 1;
-// A run isn't of the number form.
-const BAD_NUMBER: u8 = 2;
-// A quoted text isn't UTF-8.
-const NOT_UTF8: u8 = 4;
-// A quoted text has no end.
-const OPEN_TEXT: u8 = 5;
+/// A byte begins no token.
+pub(crate) const BAD_CHARACTER: u8 = 1;
+/// A run isn't of the number form.
+pub(crate) const BAD_NUMBER: u8 = 2;
+/// A quoted text isn't UTF-8.
+pub(crate) const NOT_UTF8: u8 = 4;
+/// A quoted text has no end.
+pub(crate) const OPEN_TEXT: u8 = 5;
 /// No text goes on with this token.
 pub const UNEXPECTED: u8 = 6;
 /// The text ends too early.

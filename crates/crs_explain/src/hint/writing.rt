@@ -106,8 +106,8 @@ fn append_filling(filling: Filling<'_>, out: &mut Vec<u8>) -> Made<()> {
     }
 }
 
-// A word in capitals, or the front of a long one.
-fn append_capitals(word: &[u8], out: &mut Vec<u8>) -> Made<()>
+/// A word in capitals, or the front of a long one.
+pub(crate) fn append_capitals(word: &[u8], out: &mut Vec<u8>) -> Made<()>
     ensures { OnOk result (out.new.items ≡ out.old.items ++ named_by word.now) }
 {
     out.extend_from_slice(&name_text(*out.allocator(), word)?)

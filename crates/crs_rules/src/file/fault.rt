@@ -6,14 +6,17 @@ use crs_text::Refusal;
 use std::alloc::AllocError;
 use thiserror::Error;
 
-// The numbers of refused statements; `meaning` says when.
-pub(crate) const NO_STATEMENT: u8 = 41;
+/// The number of a line that is no statement.
+pub const NO_STATEMENT: u8 = 41;
 
-pub(crate) const NOT_HERE: u8 = 42;
+/// That of an item of a statement that is no node or word that may stand there.
+pub const NOT_HERE: u8 = 42;
 
-pub(crate) const OTHER_CLASS: u8 = 43;
+/// That of a node of another kind than the first of its set.
+pub const OTHER_CLASS: u8 = 43;
 
-pub(crate) const REPEATED: u8 = 44;
+/// That of a node that stood in such a statement before.
+pub const REPEATED: u8 = 44;
 
 /// The first refused line of a rules file: its number, from 1, the number of the refusal, and the place in it, in bytes.
 #[derive(Clone, Copy, Debug)]

@@ -1,8 +1,7 @@
 //! From the bytes of rules files to their rules, line by line.
-ghost use Rattle.std.specs.Prelude.{◌≡◌, ◌≢◌, ◌↔◌, ◌+◌, ◌^◌, ◌<◌, [], ◌∷◌, ℕ, List, length, IsFalse, IsTrue, MatchResult, OnErr, OnOk, Some};
+ghost use Rattle.std.specs.Prelude.{◌≡◌, ◌↔◌, ◌+◌, ◌^◌, ◌<◌, IsFalse, IsTrue, MatchResult, OnErr, OnOk, Some};
 ghost use Rattle.std.specs.Option.{option_copied};
 ghost use Rattle.crs_text.specs.Items.{HasId, IsNode, arguments};
-ghost use Rattle.crs_streams.specs.Lines.{AreLines};
 ghost use Rattle.crs_value.specs.Reading.{IsReading};
 ghost use Rattle.crs_value.specs.Sound.{IsText};
 ghost use Rattle.crs_value.specs.inner.Arguments.{Holds, ahead, item_at};
@@ -21,8 +20,8 @@ use crate::file::words::{is_meridian, is_word, kind_in, with_item};
 use crate::{Rules, Uncounted};
 use crs_decimal::Decimal;
 use crs_shape::Class;
+use crs_streams::first_line;
 use crs_streams::laws::lines_are_one;
-use crs_streams::{split_line, text_of};
 use crs_text::{Fault, ItemId, Items, read_items};
 use crs_value::UnitKind;
 use std::alloc::{AllocError, Global};
@@ -448,18 +447,6 @@ impl RulesReader {
     }
 }
 
-// The first line of some bytes, and those after it.
-fn first_line(bytes: &[u8]) -> (&[u8], &[u8])
-    requires { bytes.now ≢ [] }
-    ensures lines { (lines : List (List ℕ)) → AreLines result.1.now lines → AreLines bytes.now (result.0.now ∷ lines) }
-    ensures less { length result.1.now < length bytes.now }
-{
-    match split_line(bytes) {
-        Some((line, rest)) => (text_of(line), rest),
-        None => (bytes, &[]),
-    }
-}
-
 fn fault_in(line: usize, fault: Fault) -> RulesFault
     ensures { IsFaultIn line fault result }
 {
@@ -473,8 +460,8 @@ fn fault_in(line: usize, fault: Fault) -> RulesFault
     }
 }
 
-// Whether a line says nothing.
-fn is_idle(line: &[u8]) -> bool
+/// Whether a line of a rules file says nothing: it is blank, or a comment.
+pub fn is_idle(line: &[u8]) -> bool
     ensures { result ≡ is_idle line.now }
 {
     for byte in line {

@@ -1,5 +1,5 @@
 use Rattle.std.proofs.Common.{length}
-use Rattle.crs_desk.proofs.runs.used.Used.add.Given as goal
+use Rattle.crs_explain.proofs.rules_file.used.Used.add.Given as goal
 
 abbrev pub decreases-loop-left : goal.decreases-loop-left
 decreases-loop-left l = length l.left

@@ -1,17 +1,14 @@
 //! Which statements of a rules file match nothing in some texts. Only tests say which.
 ghost use Rattle.crs_text.specs.Items.{HasId};
 
-use crate::runs::refused_rules::{is_named, is_subject, node_text};
-use crate::runs::rules::{first_line, is_idle};
-use crate::{Level, Rules, RulesFault, RulesReader, read_rules};
+use crate::Made;
+use crate::rules_file::nodes::{is_named, is_subject, node_text};
 use crs_canon::canon;
-use crs_rules::canon_under;
-use crs_streams::{append_escaped, append_number};
+use crs_rules::{Rules, RulesFault, RulesReader, canon_under, is_idle, read_rules};
+use crs_streams::{append_escaped, append_number, first_line};
 use crs_text::{Fault, ItemId, ItemKind, Items, Keyword, read_items};
-use std::alloc::{AllocError, Global};
-use std::result;
-
-type Made<T> = result::Result<T, AllocError>;
+use crs_value::Level;
+use std::alloc::Global;
 
 // Nodes stand in each other no deeper.
 const DEPTH: u8 = 16;
@@ -63,36 +60,58 @@ impl Used {
     /// A line for each statement of a rules file, or part of one, that matches nothing in the texts; none where the file is
     /// refused. Time is linear in the file and in the texts.
     pub fn unmatched(&self, alloc: Global, bytes: &[u8]) -> Made<Vec<u8>> {
-        match (read_rules(alloc, bytes), read_rules(alloc, bytes)) {
-            (Ok(mut plain), Ok(mut bare)) => {
-                plain.truncate(0, 0, plain.kinds());
-                bare.truncate(bare.names(), bare.units(), 0);
-                self.unmatched_under(alloc, bytes, &plain, &bare)
-            }
-            (Err(RulesFault::Refused(_)), _) | (_, Err(RulesFault::Refused(_))) => {
-                Ok(Vec::new(alloc))
-            }
-            (Err(RulesFault::Memory(error)), _) | (_, Err(RulesFault::Memory(error))) => Err(error),
-        }
-    }
-
-    // The same, of the texts' forms under rules without sets, whose nodes the sets are of, and under those without kinds.
-    fn unmatched_under(
-        &self,
-        alloc: Global,
-        bytes: &[u8],
-        plain: &Rules,
-        bare: &Rules,
-    ) -> Made<Vec<u8>> {
         let mut standing = Standing {
             reader: RulesReader::new(alloc),
             has_bare_meridian: false,
         };
-        for text in &self.texts {
-            standing.add_form(alloc, text, plain, false)?;
-            standing.add_form(alloc, text, bare, true)?;
+        self.unmatched_beside(alloc, bytes, &mut standing)
+    }
+
+    fn unmatched_beside(
+        &self,
+        alloc: Global,
+        bytes: &[u8],
+        standing: &mut Standing,
+    ) -> Made<Vec<u8>> {
+        let is_read = self.add_forms(alloc, bytes, false, standing)?
+            && self.add_forms(alloc, bytes, true, standing)?;
+        if is_read {
+            self.tell(alloc, bytes, standing)
+        } else {
+            Ok(Vec::new(alloc))
         }
-        self.tell(alloc, bytes, &mut standing)
+    }
+
+    // Adds what stands in the texts' forms under the file's rules without sets, whose nodes the sets are of, or what has no
+    // unit in those without kinds. Whether the file is accepted.
+    fn add_forms(
+        &self,
+        alloc: Global,
+        bytes: &[u8],
+        bare: bool,
+        standing: &mut Standing,
+    ) -> Made<bool> {
+        match read_rules(alloc, bytes) {
+            Ok(mut rules) => {
+                leave_out(&mut rules, bare);
+                self.add_under(alloc, &rules, bare, standing)
+            }
+            Err(RulesFault::Refused(_)) => Ok(false),
+            Err(RulesFault::Memory(error)) => Err(error),
+        }
+    }
+
+    fn add_under(
+        &self,
+        alloc: Global,
+        rules: &Rules,
+        bare: bool,
+        standing: &mut Standing,
+    ) -> Made<bool> {
+        for text in &self.texts {
+            standing.add_form(alloc, text, rules, bare)?;
+        }
+        Ok(true)
     }
 
     fn tell(&self, alloc: Global, bytes: &[u8], standing: &mut Standing) -> Made<Vec<u8>> {
@@ -169,6 +188,15 @@ impl Used {
             }
         }
         Ok(true)
+    }
+}
+
+// Leaves kinds out of rules, or else sets.
+fn leave_out(rules: &mut Rules, bare: bool) {
+    if bare {
+        rules.truncate(rules.names(), rules.units(), 0);
+    } else {
+        rules.truncate(0, 0, rules.kinds());
     }
 }
 

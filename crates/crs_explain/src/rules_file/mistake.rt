@@ -1,39 +1,26 @@
 //! The first refused line of a rules file, shown, with a sentence that says what to write. Only tests say which.
-ghost use Rattle.std.specs.Prelude.{IfSome};
 ghost use Rattle.crs_text.specs.Items.{HasId};
 
-use crate::{RulesFault, RulesReader, RulesRefusal};
-use crs_explain::refusal_pieces;
-use crs_streams::{append_escaped, append_number, split_line, text_of};
-use crs_text::{ItemId, ItemKind, Items, Keyword, Refusal, read_items};
-use std::alloc::{AllocError, Global};
-use std::result;
-use strsim::generic_damerau_levenshtein;
+use crate::Made;
+use crate::excerpt::excerpt;
+use crate::hint::glance::front;
+use crate::hint::place::{
+    BAD_CHARACTER, BAD_NUMBER, NOT_UTF8, OPEN_TEXT, UNEXPECTED, UNEXPECTED_END,
+};
+use crate::hint::writing::append_capitals;
+use crate::names::{Name, push_name};
+use crate::place::{first_byte, rest_of};
+use crate::rules_file::nodes::{argument_at, is_crs, is_subject, is_unit, node_text};
+use crate::system::meant_of;
+use crs_rules::{
+    NO_STATEMENT, NOT_HERE, OTHER_CLASS, REPEATED, RulesFault, RulesReader, RulesRefusal,
+};
+use crs_streams::{append_escaped, append_number, first_line};
+use crs_text::{ItemId, ItemKind, Items, Keyword, read_items};
+use std::alloc::Global;
 
-type Made<T> = result::Result<T, AllocError>;
-
-// The numbers of refusals of a line that is no node, and of a statement.
-const BAD_CHARACTER: u8 = 1;
-
-const BAD_NUMBER: u8 = 2;
-
+// A number is out of range.
 const NUMBER_RANGE: u8 = 3;
-
-const NOT_UTF8: u8 = 4;
-
-const OPEN_TEXT: u8 = 5;
-
-const UNEXPECTED: u8 = 6;
-
-const UNEXPECTED_END: u8 = 7;
-
-const NO_STATEMENT: u8 = 41;
-
-const NOT_HERE: u8 = 42;
-
-const OTHER_CLASS: u8 = 43;
-
-const REPEATED: u8 = 44;
 
 const STATEMENTS: [&str; 3] = ["SAME", "UNCOUNTED", "KIND"];
 
@@ -82,11 +69,9 @@ const NODES: [&str; 14] = [
 
 const KINDS: [&str; 3] = ["ANGLEUNIT", "LENGTHUNIT", "SCALEUNIT"];
 
-// The most bytes of a word of which a near one is looked for: time and memory grow with them.
-const MOST: usize = 40;
-
-/// The refused line with a caret below the place, and a sentence, each with its line feed.
-pub(crate) fn explained(alloc: Global, bytes: &[u8], refusal: RulesRefusal) -> Made<Vec<u8>> {
+/// The refused line of a rules file with a caret below the place, and a sentence, each with its line feed. `AllocError`: no
+/// memory for them.
+pub fn rules_refusal_text(alloc: Global, bytes: &[u8], refusal: RulesRefusal) -> Made<Vec<u8>> {
     let mut out = Vec::new(alloc);
     let line = line_at(bytes, refusal.line);
     append_excerpt(line, refusal.place, &mut out)?;
@@ -98,29 +83,21 @@ pub(crate) fn explained(alloc: Global, bytes: &[u8], refusal: RulesRefusal) -> M
 // The line of a number, counted from 1.
 fn line_at(bytes: &[u8], number: usize) -> &[u8] {
     let mut left = bytes;
-    for turn in 1..number {
-        match split_line(left) {
-            Some((_, rest)) => left = rest,
-            None => return b"",
+    let mut line: &[u8] = b"";
+    for turn in 0..number {
+        if left.is_empty() {
+            return b"";
         }
+        (line, left) = first_line(left);
     }
-    match split_line(left) {
-        Some((line, _)) => text_of(line),
-        None => left,
-    }
+    line
 }
 
-// The excerpt of a refusal of a text: it is that of any number.
 fn append_excerpt(line: &[u8], place: usize, out: &mut Vec<u8>) -> Made<()> {
     if place > line.len() {
         return Ok(());
     }
-    let Some(shown) = Refusal::new(BAD_CHARACTER, place) else {
-        return Ok(());
-    };
-    let told = refusal_pieces(*out.allocator(), line, shown)?;
-    let end = told.pieces.ends().first().copied().unwrap_or(0);
-    out.extend_from_slice(told.pieces.bytes().get(..end).unwrap_or(b""))
+    out.extend_from_slice(&excerpt(*out.allocator(), line, place)?)
 }
 
 fn append_sentence(
@@ -197,7 +174,7 @@ fn is_quote(there: &[u8]) -> bool {
 }
 
 fn of_unexpected(alloc: Global, line: &[u8], place: usize) -> &'static str {
-    let before = front_of(line, place).trim_ascii();
+    let before = front(line, place).trim_ascii();
     let there = first_byte(rest_of(line, place));
     let last = before.last().copied().unwrap_or(0);
     if before.is_empty() && matches!(there, b',' | b']' | b')') {
@@ -419,8 +396,7 @@ fn append_repeated(
         b"SAME[".as_slice()
     };
     let statement = [front, node_text(line, items, id), b"]".as_slice()].concat(alloc)?;
-    let mut reader = RulesReader::new(alloc);
-    let earlier = first_with(alloc, bytes, &statement, &mut reader)?;
+    let earlier = first_with(alloc, bytes, &statement)?;
     append_earlier(earlier, refusal.line, out)?;
     out.extend_from_slice(if is_unit(items.keyword(id)) {
         b": write each node once in all statements; a factor counts by its value."
@@ -444,7 +420,12 @@ fn append_earlier(earlier: Option<RulesRefusal>, line: usize, out: &mut Vec<u8>)
 }
 
 // The first line of a file with the node of a statement: it is refused where the statement was read before.
-fn first_with(
+fn first_with(alloc: Global, bytes: &[u8], statement: &[u8]) -> Made<Option<RulesRefusal>> {
+    let mut reader = RulesReader::new(alloc);
+    first_read_by(alloc, bytes, statement, &mut reader)
+}
+
+fn first_read_by(
     alloc: Global,
     bytes: &[u8],
     statement: &[u8],
@@ -458,27 +439,6 @@ fn first_with(
         Err(RulesFault::Memory(error)) => Err(error),
         Ok(()) => Ok(None),
     }
-}
-
-// ---- items
-
-// The argument of a statement that begins at a place.
-fn argument_at(items: &Items<'_>, place: usize) -> Option<ItemId>
-    ensures { IfSome result (HasId items.now) }
-{
-    let root = items.root();
-    let mut at = items.arg(root, 0);
-    for turn in 0..items.arg_count(root) {
-        let id = at?;
-        if !items.contains(id) {
-            return None;
-        }
-        if items.place(id) == place {
-            return Some(id);
-        }
-        at = items.next(id);
-    }
-    None
 }
 
 // The name of a node as it is written, with its quotes.
@@ -497,72 +457,6 @@ fn name_of<'l>(line: &'l [u8], items: &Items<'_>, id: ItemId) -> Option<&'l [u8]
     )
 }
 
-/// A node as it is written.
-pub(crate) fn node_text<'l>(line: &'l [u8], items: &Items<'_>, id: ItemId) -> &'l [u8]
-    requires { HasId items.now id }
-{
-    let end = items.close(id).unwrap_or(0).saturating_add(1);
-    line.get(items.place(id)..end).unwrap_or(b"")
-}
-
-fn is_unit(keyword: Option<Keyword>) -> bool {
-    matches!(
-        keyword,
-        Some(Keyword::LengthUnit | Keyword::AngleUnit | Keyword::ScaleUnit | Keyword::PlainUnit)
-    )
-}
-
-/// Whether nodes of a keyword may count as one.
-pub(crate) fn is_subject(keyword: Option<Keyword>) -> bool {
-    is_unit(keyword) || is_named(keyword)
-}
-
-/// Whether they do so only by their names.
-pub(crate) fn is_named(keyword: Option<Keyword>) -> bool {
-    matches!(
-        keyword,
-        Some(
-            Keyword::Datum
-                | Keyword::Trf
-                | Keyword::GeodeticDatum
-                | Keyword::VDatum
-                | Keyword::Vrf
-                | Keyword::VerticalDatum
-                | Keyword::Member
-                | Keyword::Ellipsoid
-                | Keyword::Spheroid
-                | Keyword::PrimeM
-                | Keyword::PrimeMeridian
-                | Keyword::Method
-                | Keyword::Projection
-                | Keyword::Parameter
-                | Keyword::GeoidModel
-                | Keyword::Model
-                | Keyword::VelocityGrid
-                | Keyword::Axis
-        )
-    )
-}
-
-fn is_crs(keyword: Option<Keyword>) -> bool {
-    matches!(
-        keyword,
-        Some(
-            Keyword::GeogCrs
-                | Keyword::GeographicCrs
-                | Keyword::GeodCrs
-                | Keyword::GeodeticCrs
-                | Keyword::ProjCrs
-                | Keyword::ProjectedCrs
-                | Keyword::VertCrs
-                | Keyword::VerticalCrs
-                | Keyword::CompoundCrs
-                | Keyword::BaseGeogCrs
-                | Keyword::BaseGeodCrs
-        )
-    )
-}
-
 // ---- words
 
 fn is_among(word: &[u8], words: &[&str]) -> bool {
@@ -573,33 +467,19 @@ fn is_among(word: &[u8], words: &[&str]) -> bool {
 
 // `Did you mean SAME? `, or nothing where no word is near.
 fn append_meant(word: &[u8], words: &[&str], out: &mut Vec<u8>) -> Made<()> {
-    let alloc = *out.allocator();
-    for edits in 1..3usize {
-        if let Some(near) = first_near(alloc, word, words, edits)? {
-            return append_all(&[b"Did you mean ", near.as_bytes(), b"? "], out);
-        }
+    let meant = meant_of(*out.allocator(), word, &names_of(*out.allocator(), words)?)?;
+    if meant.is_empty() {
+        return Ok(());
     }
-    Ok(())
+    append_all(&[b"Did you mean ", &meant, b"? "], out)
 }
 
-// The first of these words that so many edits at most make of a word, letter case aside.
-fn first_near<'w>(
-    alloc: Global,
-    word: &[u8],
-    words: &[&'w str],
-    edits: usize,
-) -> Made<Option<&'w str>> {
-    if word.len() <= edits || word.len() > MOST {
-        return Ok(None);
+fn names_of(alloc: Global, words: &[&str]) -> Made<Vec<Name>> {
+    let mut names = Vec::new(alloc);
+    for word in words {
+        push_name(word.as_bytes(), &mut names)?;
     }
-    let word = word.to_ascii_lowercase(alloc)?;
-    for near in words {
-        let name = near.as_bytes().to_ascii_lowercase(alloc)?;
-        if generic_damerau_levenshtein(alloc, &word, &name)? <= edits {
-            return Ok(Some(near));
-        }
-    }
-    Ok(None)
+    Ok(names)
 }
 
 fn append_nodes(front: &[u8], out: &mut Vec<u8>) -> Made<()> {
@@ -608,12 +488,10 @@ fn append_nodes(front: &[u8], out: &mut Vec<u8>) -> Made<()> {
 
 // Words with commas between them, behind these bytes, and a point.
 fn append_list(front: &[u8], words: &[&str], out: &mut Vec<u8>) -> Made<()> {
-    out.extend_from_slice(front)?;
-    for place in 0..words.len() {
-        if place > 0 {
-            out.extend_from_slice(b", ")?;
-        }
-        out.extend_from_slice(words[place].as_bytes())?;
+    let mut separator = front;
+    for word in words {
+        append_all(&[separator, word.as_bytes()], out)?;
+        separator = b", ";
     }
     out.extend_from_slice(b".")
 }
@@ -623,22 +501,4 @@ fn append_all(parts: &[&[u8]], out: &mut Vec<u8>) -> Made<()> {
         out.extend_from_slice(part)?;
     }
     Ok(())
-}
-
-// The front of a keyword in capitals.
-fn append_capitals(word: &[u8], out: &mut Vec<u8>) -> Made<()> {
-    let capitals = front_of(word, MOST).to_ascii_uppercase(*out.allocator())?;
-    out.extend_from_slice(&capitals)
-}
-
-fn first_byte(bytes: &[u8]) -> u8 {
-    bytes.first().copied().unwrap_or(0)
-}
-
-fn front_of(bytes: &[u8], count: usize) -> &[u8] {
-    bytes.get(..count).unwrap_or(bytes)
-}
-
-fn rest_of(bytes: &[u8], place: usize) -> &[u8] {
-    bytes.get(place..).unwrap_or(b"")
 }
