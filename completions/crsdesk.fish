@@ -19,7 +19,7 @@ complete -c crsdesk -n $none -s V -l version -d 'Print the version'
 # A word that begins with - is a file after -- alone.
 complete -c crsdesk -n "string match -q -- '-*' (commandline -ct); and not contains -- -- (commandline -opc)" -f
 complete -c crsdesk -s h -l help -d 'Print help'
-complete -c crsdesk -n 'not __fish_seen_subcommand_from help' -s v -l verbose -d 'Tell the reason of a fault too'
+complete -c crsdesk -n 'not __fish_seen_subcommand_from help' -s v -l verbose -d 'Also write the reason of a fault'
 complete -c crsdesk -n '__fish_seen_subcommand_from canon digest group same explain' -l level -x -a 'full definition' -d 'What counts'
 complete -c crsdesk -n '__fish_seen_subcommand_from canon digest group same explain' -l rules -r -d 'Count as the same what the rules in a file say'
 complete -c crsdesk -n '__fish_seen_subcommand_from canon digest check' -l lines -d 'Take each line as a text'
@@ -29,6 +29,6 @@ complete -c crsdesk -n '__fish_seen_subcommand_from group' -l names -d 'Take nam
 complete -c crsdesk -n '__fish_seen_subcommand_from group' -l files -d 'Take each file as a text'
 complete -c crsdesk -n '__fish_seen_subcommand_from same explain' -l files -d 'Take the operands as names of files'
 complete -c crsdesk -n '__fish_seen_subcommand_from explain' -l first -x -a "(__fish_append , $words)" -d 'Tell the parts first whose paths have these words'
-complete -c crsdesk -n '__fish_seen_subcommand_from check group same explain' -l json -d 'Write objects of JSON, one a line'
+complete -c crsdesk -n '__fish_seen_subcommand_from check group same explain' -l json -d 'Write objects of JSON, one per line'
 complete -c crsdesk -n '__fish_seen_subcommand_from rules' -l used -r -d 'Tell what matches nothing in the texts of a file'
 complete -c crsdesk -n '__fish_seen_subcommand_from help' -f -a "$commands"

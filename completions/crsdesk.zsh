@@ -22,10 +22,10 @@ _crsdesk() {
     files=('--files[take the operands as names of files]')
     whole=('--files[take each file as a text]')
     name=('(-H --with-name)'{-H,--with-name}'[begin each line with the name of the file]')
-    json=('--json[write objects of JSON, one a line]')
+    json=('--json[write objects of JSON, one per line]')
     first=('*--first=[tell the parts first whose paths have these words]:words:_sequence compadd - accuracy anchor anchorepoch axis base conversion datum dimension direction dynamic ellipsoid epoch flattening geoid horizontal id kind longitude members meridian method model name parameters remark semimajor system type unit usage vertical')
     used=('*--used=[tell what matches nothing in the texts of a file]:file:_files')
-    verbose=('(-v --verbose)'{-v,--verbose}'[tell the reason of a fault too]')
+    verbose=('(-v --verbose)'{-v,--verbose}'[also write the reason of a fault]')
     help=('(- *)'{-h,--help}'[print help]')
 
     # -v may stand before the command.

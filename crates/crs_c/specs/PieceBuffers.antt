@@ -9,7 +9,7 @@ pub record PieceBuffers : Type 0 where
   pub bytes : Buffer ℕ
   pub ends : Buffer ℕ
 
--- both, by what is in them and what is told of each
+-- both, by what is in them and what the call answers of each
 abbrev pub buffers_of : List ℕ → ℕ → List ℕ → ℕ → PieceBuffers
 buffers_of out length ends count =
     record { bytes = record { items = out; told = length }; ends = record { items = ends; told = count } }

@@ -18,7 +18,7 @@ kind_word kind.Projected = codes "projected"
 kind_word kind.Vertical = codes "vertical"
 kind_word kind.Compound = codes "compound"
 
--- a kind of CRS is told as `accepted` and its word, or as `{"accepted":"geographic"}`
+-- a kind of CRS is written as `accepted` and its word, or as `{"accepted":"geographic"}`
 abbrev pub kind_told : Manner → Kind → List ℕ
 kind_told manner.Lines kind = codes "accepted " ++ kind_word kind
 kind_told manner.Objects kind = codes "{\"accepted\":\"" ++ kind_word kind ++ codes "\"}"
@@ -28,7 +28,7 @@ abbrev pub which_told : List ℕ → List ℕ
 which_told [] = []
 which_told (b ∷ which) = codes "\"text\":\"" ++ take (length which) (b ∷ which) ++ codes "\","
 
--- a refusal is told by number, name and place, after these bytes that say which of two texts it is, or in an object
+-- a refusal is written by number, name and place, after these bytes that say which of two texts it is, or in an object
 abbrev pub refusal_told : Manner → List ℕ → RefusedAt → List ℕ
 refusal_told manner.Lines which refusal = which ++ refused_text refusal.number refusal.place
 refusal_told manner.Objects which refusal =

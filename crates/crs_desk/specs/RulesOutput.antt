@@ -61,7 +61,7 @@ abbrev pub texts_in : Option (List PartTexts) → List PartTexts
 texts_in None = []
 texts_in (Some texts) = texts
 
--- how they are told: by `same`, in lines or as objects
+-- how they are written: by `same`, in lines or as objects
 abbrev pub told_parts : Manner → Option (List PartTexts) → List ℕ
 told_parts how None = same_told how ++ 10 ∷ []
 told_parts manner.Lines (Some texts) = flat_map difference_line texts
@@ -72,7 +72,7 @@ abbrev pub status_of : Option (List PartTexts) → ℕ
 status_of None = 0
 status_of (Some texts) = 1
 
--- what is told of a part with the mark; of an object it is a first member
+-- what is written of a part with the mark; of an object it is a first member
 abbrev pub with_mark : Manner → PartTexts → List ℕ
 with_mark manner.Lines part = codes "the same by the rules: " ++ difference_line part
 with_mark manner.Objects part = codes "{\"same_by_rules\":true," ++ difference_members part
@@ -85,7 +85,7 @@ marked_one how after part = if has_part after (part_of part.path) then [] else w
 abbrev pub marked : Manner → List PartTexts → List PartTexts → List ℕ
 marked how after before = flat_map (marked_one how after) before
 
--- what is told of parts that differ before and of those that differ after: these, and then the others with the mark
+-- what is written of parts that differ before and of those that differ after: these, and then the others with the mark
 abbrev pub told_under : Manner → (before after : Option (List PartTexts)) → List ℕ
 told_under how before after = told_parts how after ++ marked how (texts_in after) (texts_in before)
 
@@ -93,7 +93,7 @@ told_under how before after = told_parts how after ++ marked how (texts_in after
 abbrev pub turned : Option (List PartTexts) → Option (List PartTexts)
 turned = option_map (map texts_exchanged)
 
--- what is told of two CRSs under rules: the parts in which they differ as they are rewritten, and then
+-- what is written of two CRSs under rules: the parts in which they differ as they are rewritten, and then
 -- those in which they differ before and not after
 abbrev pub TellsUnder : Manner → List (List ℕ) → RulesParts → Level → Crs → Crs → List ℕ → ℕ → Type 0
 TellsUnder how words rules level a b written status =

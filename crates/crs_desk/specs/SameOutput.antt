@@ -33,12 +33,12 @@ IsPairOutput Refused Compared first second written status =
 
 -- ---- what `same` writes for two texts, and the status
 
--- that two CRSs differ is told as `different` and the path to the first part that does, or as `{"same":false,"path":"id"}`
+-- that two CRSs differ is written as `different` and the path to the first part that does, or as `{"same":false,"path":"id"}`
 abbrev pub difference_told : Manner → List ℕ → List ℕ
 difference_told manner.Lines path = codes "different " ++ path
 difference_told manner.Objects path = codes "{\"same\":false,\"path\":" ++ json_text path ++ codes "}"
 
--- that two CRSs are the same is told with status 0, or the first part that differs with status 1
+-- that two CRSs are the same is written with status 0, or the first part that differs with status 1
 abbrev pub WritesWhetherSame : Manner → Level → Crs → Crs → List ℕ → ℕ → Type 0
 WritesWhetherSame how level a b written status =
     (SameCrs level a b × IsLine (same_told how) 0 written status)

@@ -57,11 +57,11 @@ const RULES_FILE_HELP: &str =
     "A rules file, judged by itself; `-` is standard input [default: standard input]";
 
 // What help says of flags.
-const JSON_HELP: &str = "Writes objects of JSON, one a line";
+const JSON_HELP: &str = "Writes objects of JSON, one per line";
 
 const LINES_HELP: &str = "Takes each line as a text";
 
-const REPEATED_HELP: &str = "Writes the groups of two texts or more alone";
+const REPEATED_HELP: &str = "Writes only groups of two texts or more";
 
 const NAMES_HELP: &str =
     "Takes the front of each line, up to a tab, as its name, and writes names for numbers";
@@ -70,21 +70,21 @@ const FILES_HELP: &str = "Takes A and B as names of files; `-` is standard input
 
 const WHOLE_HELP: &str = "Takes each file as a text, and groups the files by their names";
 
-const WITH_NAME_HELP: &str = "Begins each line with the file's name, also where there is one file";
+const WITH_NAME_HELP: &str = "Begins each line with the file's name, also of one file";
 
-const VERBOSE_HELP: &str = "Tells the reason of a fault too, in lines of its own";
+const VERBOSE_HELP: &str = "Also writes the reason of a fault, in lines of its own";
 
 // What help says of the options `--level`, `--first` and `--rules`.
 const LEVEL_HELP: &str =
     "What counts: full, or definition, without identifiers, usages and remarks [default: full]";
 
 const ORDER_HELP: &str =
-    "Tells the parts first whose paths have these words, with commas between them: axis,datum";
+    "Writes the parts first whose paths have these words, with commas between them: axis,datum";
 
 const RULES_HELP: &str = "Counts as the same what the rules in a file say; repeat for more files";
 
 const USED_HELP: &str =
-    "Tells too which statements match nothing in the texts of a file: one, or a text a line; repeat for more files";
+    "Also writes which statements match nothing in the texts of a file, one text or one per line; repeat for more files";
 
 // What the help of a command says last: its statuses.
 const CANON_STATUS: &str = "Status: 0 and the canonical text, 1 and the refusal, 2 for a fault.";
@@ -93,7 +93,7 @@ const DIGEST_STATUS: &str = "Status: 0 and the digest, 1 and the refusal, 2 for 
 
 const CHECK_STATUS: &str = "Status: 0 and the kind, 1 and the refusal, 2 for a fault.";
 
-const GROUP_STATUS: &str = "Status: 0, 1 where a text is refused, 2 for a fault.";
+const GROUP_STATUS: &str = "Status: 0, 1 if a text is refused, 2 for a fault.";
 
 const EXPLAIN_STATUS: &str = "Status: 0, 1 for a refusal or a difference, 2 for a fault.";
 

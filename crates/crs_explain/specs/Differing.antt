@@ -37,7 +37,7 @@ abbrev pub AreTextsOfOne : Level → List ℕ → (first second : Content) → L
 AreTextsOfOne level path first second texts =
     (one : PartTexts) × (texts ≡ one ∷ []) × AreTextsAt level path first second one
 
--- ---- how a set of parameters that differs is told: of each name that stands once on each side what differs in its parameter, and then the other parameters that one side lacks
+-- ---- how a set of parameters that differs is written: of each name that stands once on each side what differs in its parameter, and then the other parameters that one side lacks
 
 -- the parts of two parameters of one name: number, unit, identifiers; `UNIT` is a kind of its own
 abbrev pub parts_of_parameter : Level → ParameterParts → ParameterParts → Parts

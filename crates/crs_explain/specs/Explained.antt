@@ -40,7 +40,7 @@ IsOpenText words =
     (words ≡ [])
     ⊎ ((keyword : List ℕ) × (delimiter : ℕ) × (place : ℕ) × (words ≡ open_text keyword delimiter place))
 
--- at a token with which no text goes on, and at the end of a text, it is told which delimiter is open
+-- at a token with which no text goes on, and at the end of a text, the delimiter that is open is named
 abbrev pub TellsOpen : RefusedAt → List ℕ → Type 0
 TellsOpen refusal words = (refusal.number ≡ 6) ⊎ (refusal.number ≡ 7) → IsOpenText words
 

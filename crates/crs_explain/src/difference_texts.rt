@@ -48,7 +48,7 @@ impl Model for DifferenceTexts {
 
 pub(crate) type Texts = Vec<DifferenceTexts>;
 
-// A path to what is told, and the level at which it is written.
+// A path to a part, and the level at which its value is written.
 #[derive(Clone, Copy)]
 struct Site<'p> {
     alloc: Global,

@@ -41,7 +41,7 @@ impl<'b, T> Model for SetMembers<'b, T> {
 }
 
 impl<'b, T> SetMembers<'b, T> {
-    /// Those of a list.
+    /// The members of a list.
     pub fn of(listed: &'b [T]) -> SetMembers<'b, T>
         ensures { result ≡ listed.now }
     {

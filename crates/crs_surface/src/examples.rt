@@ -15,7 +15,7 @@ pub fn put_example(out: &mut Answer, row: &Row<'_>, name: &str) {
     }
 }
 
-// `same`, or where the CRSs of two parts differ, or what is told of the one that is refused.
+// `same`, or where the CRSs of two parts differ, or why one of them is refused.
 fn put_difference(out: &mut Answer, row: &Row<'_>) {
     match difference::difference(out.alloc(), row.part(0), row.part(1)) {
         Ok(text) => out.put(text.as_str()),

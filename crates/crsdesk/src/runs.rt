@@ -314,7 +314,7 @@ struct Comparing<'r, 'j, 'u> {
 }
 
 impl Comparing<'_, '_, '_> {
-    // The answer for two words: the faults of both files are told.
+    // The answer for two words; reports the faults of both files.
     fn words(self, pair: &LinePair) -> Result<u8, Fault> {
         let (rt, first, second) = (self.rt, &pair.first, &pair.second);
         match pair.kind {
@@ -363,7 +363,7 @@ impl Comparing<'_, '_, '_> {
     }
 }
 
-// The text of a file. Its fault is told.
+// The text of a file; reports its fault.
 fn file_text(rt: &HostRuntime, name: &str) -> Result<Vec<u8>, Fault> {
     let files = Opener { rt: *rt };
     let Some(mut input) = files.open(name) else {
@@ -439,7 +439,7 @@ fn tell_refused(rt: &HostRuntime, name: &str, refused: usize) {
     }
 }
 
-// The rules of these files together, of which one that is named twice counts once; none where there are no files. The fault of the first that has one is told.
+// The rules of these files together, of which one that is named twice counts once; none where there are no files. Reports the fault of the first that has one.
 fn rules_of(rt: &HostRuntime, names: &LineWords) -> Result<Option<Rules>, Fault> {
     if names.is_empty() {
         return Ok(None);

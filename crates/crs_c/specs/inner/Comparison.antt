@@ -14,7 +14,7 @@ IsMadeBehind Like second made = (b : Crs) × Spells second b × Like b made
 abbrev pub IsMadeOfBoth : {M : Type 0} → (Crs → Crs → M → Type 0) → List ℕ → List ℕ → M → Type 0
 IsMadeOfBoth Like first second made = (a : Crs) × Spells first a × IsMadeBehind (Like a) second made
 
--- the text is refused, and the refusal is told with this code
+-- the text is refused, and the call answers with this code
 abbrev pub IsRefusalTold : ℕ → List ℕ → Refused → Refused → ℕ → Type 0
 IsRefusalTold refusing text old new code =
     (refusal : RefusedAt) × Refuses text refusal × (code ≡ refusing) × (new ≡ place_and_number refusal)

@@ -1,4 +1,4 @@
--- A bridge: what is told of a refusal.
+-- A bridge: what a refusal is answered with.
 use Rattle.std.specs.Prelude.{◌≡◌, ℕ, Option, Some, None}
 use Rattle.crs_text.specs.Refusal.{RefusedAt}
 use Rattle.crs_c.specs.declared.calls.refused.Refused.{Refused}

@@ -61,7 +61,7 @@ fn add_files<A: Adding, I: Inputs>(
     Ok(status)
 }
 
-// Adds the text of a file by its name. The status of one that fails, which is told, is 2.
+// Adds the text of a file by its name, or reports why the file fails, with status 2.
 fn add_file<A: Adding, I: Inputs>(
     alloc: Global,
     adding: &A,

@@ -196,7 +196,7 @@ fn explained_behind<'t>(
     told_under(alloc, first, &mut crs, told, under)
 }
 
-// What is told of two CRSs under rules.
+// What `explain` writes for two CRSs under rules.
 fn told_under<'t>(
     alloc: Global,
     a: &mut Crs<'t>,
@@ -214,7 +214,7 @@ fn told_under<'t>(
     told_parts(alloc, told.how, &before, &after)
 }
 
-// What is told of the parts that differ before and after.
+// What `explain` writes for the parts that differ before and after.
 fn told_parts(
     alloc: Global,
     how: Manner,

@@ -71,7 +71,7 @@ pub(crate) fn is_named(keyword: Option<Keyword>) -> bool {
     )
 }
 
-/// Whether it is that of a CRS or a base CRS.
+/// Whether a keyword is of a CRS or a base CRS.
 pub(crate) fn is_crs(keyword: Option<Keyword>) -> bool {
     matches!(
         keyword,

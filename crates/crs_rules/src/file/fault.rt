@@ -9,13 +9,13 @@ use thiserror::Error;
 /// The number of a line that is no statement.
 pub const NO_STATEMENT: u8 = 41;
 
-/// That of an item of a statement that is no node or word that may stand there.
+/// The number of an item that is no node or word of its statement.
 pub const NOT_HERE: u8 = 42;
 
-/// That of a node of another kind than the first of its set.
+/// The number of a node of another kind than the first of its set.
 pub const OTHER_CLASS: u8 = 43;
 
-/// That of a node that stood in such a statement before.
+/// The number of a node that stood in such a statement before.
 pub const REPEATED: u8 = 44;
 
 /// The first refused line of a rules file: its number, from 1, the number of the refusal, and the place in it, in bytes.
