@@ -5,7 +5,7 @@ use Rattle.crs_c.specs.Buffers.{Buffer, IsGiven}
 
 -- the version of the library
 abbrev pub version : List ℕ
-version = codes "0.3.0-dev"
+version = codes "0.3.0"
 
 -- the name of a refusal's number is given; or no refusal has the number, with code 6
 unfoldable pub IsNameAnswer : ℕ → Buffer ℕ → Buffer ℕ → ℕ → Type 0

@@ -36,5 +36,5 @@ pub extern "C" fn crsdesk_version(out: &mut [u8], length: &mut usize) -> u32
         (record { items = out.new; told = length.new })
         result }
 {
-    give(b"0.3.0-dev", out, length)
+    give(b"0.3.0", out, length)
 }

@@ -21,7 +21,7 @@ use clap::{Arg, ArgAction, ArgMatches, Command};
 use std::alloc::{AllocError, Global};
 
 // The version that `--version` prints.
-const VERSION: &str = "0.3.0-dev";
+const VERSION: &str = "0.3.0";
 
 // What help says of the commands that read files or standard input.
 const CANON_ABOUT: &str = "Writes the canonical text of each file's text";
