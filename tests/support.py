@@ -4,6 +4,7 @@ from __future__ import annotations
 import importlib.util
 import os
 import pathlib
+import pty
 import shutil
 import subprocess
 import sys
@@ -74,6 +75,14 @@ def left_by_gate(file: pathlib.Path) -> pathlib.Path:
     if not file.exists() and GATE not in os.environ:
         pytest.skip(f"there is no {file.relative_to(ROOT)}: ./prove has rt ci make it")
     return found(file, "rt ci")
+
+
+def terminal() -> Tuple[int, int]:
+    """Both ends of a new terminal; a test is skipped where none can be made."""
+    try:
+        return pty.openpty()
+    except OSError as why:
+        pytest.skip(f"no terminal can be made: {why}")
 
 
 def need(*tools: str) -> None:

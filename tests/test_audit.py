@@ -11,7 +11,6 @@ import importlib.util
 import json
 import os
 import pathlib
-import pty
 import re
 import shutil
 import signal
@@ -29,7 +28,7 @@ import big_catalogue
 import pytest
 from audit_archive import projected
 from gdal_data import make_raster, make_vector, reference_of
-from support import HEIGHT, NOBODY, NOTED, ROOT, need, package, run
+from support import HEIGHT, NOBODY, NOTED, ROOT, need, package, run, terminal
 
 pytest.importorskip("jinja2")
 pytest.importorskip("rich")
@@ -768,7 +767,7 @@ def test_a_signal_leaves_nothing() -> None:
 
 
 def test_a_bar_is_shown_on_a_terminal() -> None:
-    ours, its_own = pty.openpty()
+    ours, its_own = terminal()
     command = [sys.executable, "-m", "crsdesk", "audit", str(audited().archive)]
     environment = {**os.environ, "TERM": "xterm", "COLUMNS": "100"}
     with subprocess.Popen(command, env=environment, stdout=subprocess.PIPE, stderr=its_own) as run:

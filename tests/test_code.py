@@ -60,6 +60,32 @@ def test_types_of_calls(tmp_path: pathlib.Path) -> None:
         assert any(wanted in it for it in said) if wanted else not said, (line, done.stdout)
 
 
+def evaluated(tree: ast.AST) -> Iterator[ast.AST]:
+    """The nodes of a tree without those of annotations."""
+    for name, value in ast.iter_fields(tree):
+        if name not in ("annotation", "returns"):
+            for node in value if isinstance(value, list) else [value]:
+                if isinstance(node, ast.AST):
+                    yield node
+                    yield from evaluated(node)
+
+
+@pytest.mark.parametrize("name", sorted(it.name for it in (ROOT / "tests").glob("*.py")))
+def test_names_of_pytest(name: str) -> None:
+    """Tests use only what without_pytest has too."""
+    its = ast.parse(WITHOUT_PYTEST.read_text(encoding="utf-8")).body
+    has = {it.name for it in its if isinstance(it, (ast.FunctionDef, ast.ClassDef))}
+    has |= {
+        target.id for it in its if isinstance(it, ast.Assign) for target in it.targets if isinstance(target, ast.Name)
+    }
+    nodes = [
+        it
+        for it in evaluated(ast.parse((ROOT / "tests" / name).read_text(encoding="utf-8")))
+        if isinstance(it, ast.Attribute)
+    ]
+    assert {it.attr for it in nodes if isinstance(it.value, ast.Name) and it.value.id == "pytest"} <= has
+
+
 @pytest.mark.needs("black")
 def test_form() -> None:
     words = ["black", "--config", PACKAGE / "pyproject.toml", "--check", "-q"]

@@ -8,7 +8,6 @@ from __future__ import annotations
 import fcntl
 import os
 import pathlib
-import pty
 import re
 import select
 import shutil
@@ -20,7 +19,7 @@ from typing import Callable, Dict, Iterator, List
 
 import documents
 import pytest
-from support import EXAMPLES, HEIGHT, ROOT, need, run
+from support import EXAMPLES, HEIGHT, ROOT, need, run, terminal
 
 pytestmark = pytest.mark.xdist_group("completion")
 SECONDS = 120
@@ -146,7 +145,7 @@ class Shell:
         (home / ".local/share/fish/generated_completions").mkdir()
         os.mkfifo(home / "told")
         self.told = os.open(home / "told", os.O_RDWR)
-        self.terminal, own = pty.openpty()
+        self.terminal, own = terminal()
         fcntl.ioctl(own, termios.TIOCSWINSZ, struct.pack("4H", 60, 250, 0, 0))
         environment = {"HOME": str(home), "TOLD": str(home / "told"), "TERM": "xterm", "LANG": "C.UTF-8"}
         self.process = subprocess.Popen(

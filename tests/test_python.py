@@ -148,6 +148,14 @@ def refusal_of(text: object, call: Callable[..., object] = check) -> Refused:
     raise AssertionError(f"not refused: {text!r}")
 
 
+def error_of(call: Callable[[], object]) -> ValueError:
+    try:
+        call()
+    except ValueError as error:
+        return error
+    raise AssertionError("no error")
+
+
 def wants(error: Type[Exception], part: str, call: Callable[..., object], *words: object) -> None:
     """A call raises an error, not a refusal, whose text has a part."""
     try:
@@ -209,9 +217,8 @@ def test_public_names_are_told() -> None:
     assert len(public) == 7 and {it.__module__ for it in public} == {"crsdesk"}
     calls: List[Callable[[], object]] = [lambda: check("x"), lambda: Rules("x")]
     for call in calls:
-        with pytest.raises(ValueError) as caught:
-            call()
-        assert re.match(r"crsdesk\.(Rules)?Refused: ", traceback.format_exception_only(caught.type, caught.value)[0])
+        refused = error_of(call)
+        assert re.match(r"crsdesk\.(Rules)?Refused: ", traceback.format_exception_only(type(refused), refused)[0])
     assert pickle.loads(pickle.dumps(Crs)) is Crs
 
 
@@ -746,10 +753,8 @@ def test_digests() -> None:
     rules = Rules('SAME[VDATUM["D"],VDATUM["E"]]')
     other = HEIGHT.replace('"D"', '"E"')
     assert digest(other, "full", rules) == Crs(other, rules=rules).digest() == digest(HEIGHT)
-    with pytest.raises(Refused):
-        digest("x")
-    with pytest.raises(ValueError, match="no such level"):
-        digest(HEIGHT, "half")  # type: ignore[arg-type]
+    assert refusal_of("x", digest).number == 7
+    wants(ValueError, "no such level", digest, HEIGHT, "half")
 
 
 @pytest.mark.parametrize("case", [it for it in rows.all_cases() if it.words[:1] == [b"digest"] and it.asks], ids=str)

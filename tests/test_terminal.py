@@ -3,12 +3,11 @@ from __future__ import annotations
 
 import os
 import pathlib
-import pty
 import subprocess
 from typing import List
 
 import pytest
-from support import HEIGHT
+from support import HEIGHT, terminal
 
 TOLD = b"crsdesk: explain tells why a text is refused\r\n"
 
@@ -18,7 +17,7 @@ def test_check_points_to_explain(program: pathlib.Path, tmp_path: pathlib.Path, 
     """Once a run, where standard error is a terminal and a text is refused."""
     (tmp_path / "a").write_text("x", encoding="utf-8")
     (tmp_path / "b").write_text(HEIGHT, encoding="utf-8")
-    shown, end = pty.openpty()
+    shown, end = terminal()
     done = subprocess.run([program, "check", *words], cwd=tmp_path, input=b"x", stdout=subprocess.PIPE, stderr=end)
     os.close(end)
     try:
