@@ -160,7 +160,10 @@ def promises() -> Iterator[Statement]:
     """What PostgreSQL's functions promise beside what all extensions do."""
     nul = HEIGHT.replace('"H"', '"a\0b"').encode()
     blob = f"'\\x{nul.hex()}'::bytea"
-    yield "functions", f"SELECT count(*) FROM ({DECLARED[:-1]}) AS t WHERE provolatile = 'i' AND proisstrict AND proparallel = 's';", "35"
+    script = (build_postgresql.SOURCES / f"crsdesk--{VERSION}.sql").read_text(encoding="utf-8")
+    is_pure = "provolatile = 'i' AND proisstrict AND proparallel = 's'"
+    count = f"SELECT count(*) FROM ({DECLARED[:-1]}) AS t WHERE {is_pure};"
+    yield "functions", count, str(script.count("CREATE FUNCTION"))
     yield "a NUL byte", f"SELECT crs_kind({blob}), crs_same({blob}, {blob}), crs_difference({blob}, '{HEIGHT}');", "vertical|t|name"
     yield "a NUL byte", f"SELECT crs_canon({blob});", "Error: the canonical text has a NUL byte, which a text of PostgreSQL can't have"
     parts = f"crs_differences({blob}, '{HEIGHT}')"
